@@ -1,0 +1,4 @@
+pub mod Sides
+pub mod Row
+pub mod Offers
+pub mod Insertion

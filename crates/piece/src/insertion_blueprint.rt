@@ -1,0 +1,168 @@
+// The four shapes of an insertion and the nodes that each makes. Rust: core/insertion/insertion_blueprint.rs.
+ghost use mathlib.Core.Path.{_≡_};
+ghost use Rattle.piece.specs.Insertion.{blueprintOf, laidOut, laidMade, made, noNode, nodeOf};
+use crate::node::Kind;
+use crate::orientation::Orientation;
+use crate::size::Size;
+use crate::size::rest;
+
+pub enum InsertionShape {
+    AlongCurrentCut,
+    AcrossCurrentCut,
+    AlongThenAcross,
+    AcrossThenAlong,
+}
+
+// A node to be made. Its parent is the node of that index in the same blueprint, or OUTSIDE: the free piece's own parent.
+pub struct InsertionNode {
+    pub size: Size,
+    pub parent: u8,
+    pub kind: Kind,
+    pub cut: Orientation,
+}
+
+pub const OUTSIDE: u8 = 255;
+
+// The nodes of one insertion in creation order; entries past the count are zero.
+pub struct InsertionBlueprint {
+    pub nodes: [InsertionNode; 5],
+    pub count: usize,
+}
+
+fn no_node() -> InsertionNode
+    ensures { λ r. ⌜ r ≡ noNode ⌝ }
+{
+    InsertionNode {
+        size: Size {
+            width: 0,
+            height: 0,
+        },
+        parent: 0,
+        kind: Kind::Free,
+        cut: Orientation::Horizontal,
+    }
+}
+
+// A node with the sides of the tables; `own` is its cut, `cut` the free piece's.
+fn node(cut: Orientation, own: Orientation, parent: u8, kind: Kind, size: Size) -> InsertionNode
+    ensures { λ r. ⌜ r ≡ nodeOf parent own (laidMade cut (made kind (size .width) (size .height))) ⌝ }
+{
+    InsertionNode {
+        size: size.laid(cut),
+        parent,
+        kind,
+        cut: own,
+    }
+}
+
+// The four rows of document 01's table. The sides are those of the table: the piece is W x H, the part w x h.
+
+fn along_current_cut(cut: Orientation, piece: Size, part: Size) -> InsertionBlueprint
+    ensures { λ r. ⌜ r ≡ laidOut InsertionShape.AlongCurrentCut cut piece part ⌝ }
+{
+    let z = no_node();
+    let strip = Size {
+        width: part.width,
+        height: piece.height,
+    };
+    let beside = Size {
+        width: rest(piece.width, part.width),
+        height: piece.height,
+    };
+    let n0 = node(cut, cut, OUTSIDE, Kind::Part, strip);
+    let n1 = node(cut, cut, OUTSIDE, Kind::Free, beside);
+    InsertionBlueprint {
+        nodes: [n0, n1, z, z, z],
+        count: 2,
+    }
+}
+
+fn across_current_cut(cut: Orientation, piece: Size, part: Size) -> InsertionBlueprint
+    ensures { λ r. ⌜ r ≡ laidOut InsertionShape.AcrossCurrentCut cut piece part ⌝ }
+{
+    let z = no_node();
+    let inner = cut.rotate();
+    let strip = Size {
+        width: piece.width,
+        height: part.height,
+    };
+    let below = Size {
+        width: piece.width,
+        height: rest(piece.height, part.height),
+    };
+    let n0 = node(cut, cut, OUTSIDE, Kind::Structure, piece);
+    let n1 = node(cut, inner, 0, Kind::Part, strip);
+    let n2 = node(cut, inner, 0, Kind::Free, below);
+    InsertionBlueprint {
+        nodes: [n0, n1, n2, z, z],
+        count: 3,
+    }
+}
+
+fn along_then_across(cut: Orientation, piece: Size, part: Size) -> InsertionBlueprint
+    ensures { λ r. ⌜ r ≡ laidOut InsertionShape.AlongThenAcross cut piece part ⌝ }
+{
+    let z = no_node();
+    let inner = cut.rotate();
+    let strip = Size {
+        width: part.width,
+        height: piece.height,
+    };
+    let below = Size {
+        width: part.width,
+        height: rest(piece.height, part.height),
+    };
+    let beside = Size {
+        width: rest(piece.width, part.width),
+        height: piece.height,
+    };
+    let n0 = node(cut, cut, OUTSIDE, Kind::Structure, strip);
+    let n1 = node(cut, inner, 0, Kind::Part, part);
+    let n2 = node(cut, inner, 0, Kind::Free, below);
+    let n3 = node(cut, cut, OUTSIDE, Kind::Free, beside);
+    InsertionBlueprint {
+        nodes: [n0, n1, n2, n3, z],
+        count: 4,
+    }
+}
+
+fn across_then_along(cut: Orientation, piece: Size, part: Size) -> InsertionBlueprint
+    ensures { λ r. ⌜ r ≡ laidOut InsertionShape.AcrossThenAlong cut piece part ⌝ }
+{
+    let inner = cut.rotate();
+    let strip = Size {
+        width: piece.width,
+        height: part.height,
+    };
+    let beside = Size {
+        width: rest(piece.width, part.width),
+        height: part.height,
+    };
+    let below = Size {
+        width: piece.width,
+        height: rest(piece.height, part.height),
+    };
+    let n0 = node(cut, cut, OUTSIDE, Kind::Structure, piece);
+    let n1 = node(cut, inner, 0, Kind::Structure, strip);
+    let n2 = node(cut, cut, 1, Kind::Part, part);
+    let n3 = node(cut, cut, 1, Kind::Free, beside);
+    let n4 = node(cut, inner, 0, Kind::Free, below);
+    InsertionBlueprint {
+        nodes: [n0, n1, n2, n3, n4],
+        count: 5,
+    }
+}
+
+// The nodes that the shape makes of a free piece with this cut, for a part of this size in its rotation.
+pub fn nodes(shape: InsertionShape, cut: Orientation, piece: Size, part: Size) -> InsertionBlueprint
+    ensures { λ r. ⌜ r ≡ blueprintOf shape cut piece part ⌝ }
+{
+    let whole = piece.laid(cut);
+    let wanted = part.laid(cut);
+    match shape {
+        InsertionShape::AlongCurrentCut => along_current_cut(cut, whole, wanted),
+        InsertionShape::AcrossCurrentCut => across_current_cut(cut, whole, wanted),
+        InsertionShape::AlongThenAcross => along_then_across(cut, whole, wanted),
+        InsertionShape::AcrossThenAlong => across_then_along(cut, whole, wanted),
+    }
+}

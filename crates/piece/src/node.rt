@@ -1,0 +1,50 @@
+// A piece of the sheet, apart from where it stands, and what can be cut from a free one. Rust: core/entities/node.rs.
+ghost use mathlib.Core.Path.{_≡_};
+ghost use mathlib.Core.Bool.{Bool};
+ghost use Rattle.piece.specs.Offers.{fits, along, across};
+use crate::orientation::Orientation;
+use crate::size::Size;
+
+// A free piece, a part, or a structure, which has children.
+pub enum Kind {
+    Free,
+    Part,
+    Structure,
+}
+
+// What a piece is. The serial is that of its mark; the number is a part's, and 0 otherwise.
+pub struct Datum {
+    pub serial: u32,
+    pub size: Size,
+    pub number: u16,
+    pub level: u8,
+    pub kind: Kind,
+    pub cut: Orientation,
+}
+
+// Whether a part of this size fits within a piece of that.
+pub fn insertion_possible(piece: Size, part: Size) -> bool
+    ensures { λ r. ⌜ r ≡ fits piece part ⌝ }
+{
+    if part.width <= piece.width {
+        part.height <= piece.height
+    } else {
+        false
+    }
+}
+
+pub fn fits_along(cut: Orientation, piece: Size, part: Size) -> bool
+    ensures { λ r. ⌜ r ≡ along cut piece part ⌝ }
+{
+    let whole = piece.laid(cut);
+    let wanted = part.laid(cut);
+    whole.height == wanted.height
+}
+
+pub fn fits_across(cut: Orientation, piece: Size, part: Size) -> bool
+    ensures { λ r. ⌜ r ≡ across cut piece part ⌝ }
+{
+    let whole = piece.laid(cut);
+    let wanted = part.laid(cut);
+    whole.width == wanted.width
+}

@@ -1,0 +1,14 @@
+pub mod Touch
+pub mod Kids
+pub mod Rep
+pub mod Append
+pub mod Open
+pub mod Unlink
+pub mod Build
+pub mod Room
+pub mod Unique
+pub mod Links
+pub mod Booking
+pub mod Removal
+pub mod Listed
+pub mod Steps

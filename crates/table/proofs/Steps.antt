@@ -1,0 +1,220 @@
+-- The table of a sound tree: the tree is the one that is read from it, it passes the local check, and a booking and a removal, made on it step
+-- by step, leave a table that holds the tree that document 01's rule gives. This is what the layout's calls rest on.
+use mathlib.Core.Path.{_≡_, refl, sym, ap, _∙_, subst}
+use mathlib.Core.List.{List, _++_}
+use mathlib.Core.Logic.{inl, inr, ⊎-elim}
+use Prim.Native.Nat.{ℕ, _+_, _<_}
+use native.Mathlib.Omega.{arith}
+use Rattle.piece.specs.declared.size.Size.{Size}
+use Rattle.piece.specs.declared.node.Datum.{Datum}
+use Rattle.piece.specs.declared.node.Kind.the-variants.{Free}
+use Rattle.piece.specs.Row.{nil, grow}
+use Rattle.piece.specs.Insertion.{blockOf, outside, listed}
+use Rattle.tree.specs.Tree.{Tree, In, At, Distinct, after}
+use Rattle.tree.specs.Sound.{Children, Topped, Sound}
+use Rattle.tree.specs.Booking.{Booking, block, book}
+use Rattle.tree.specs.Removal.{freed, board, remove, cleared}
+use Rattle.tree.specs.Accepted.{Fresh}
+use Rattle.tree.specs.Apart.{Removable}
+use Rattle.tree.proofs.Rows.{same?, at-in}
+use Rattle.tree.proofs.Kept.{Where, This, Alone, only, not-top, free-kind, free-alone}
+use Rattle.tree.proofs.Blocks.{block-in, block-distinct}
+use Rattle.table.specs.declared.Node.{Node}
+use Rattle.table.specs.Table.{at, Held, Holds, append, unlink}
+use Rattle.table.specs.Build.{treeOf, Linkage}
+use Rattle.table.specs.Steps.{less, Rooted, Kids, Deep, Marked, plant, appendAll, leaving, freeLastDatum, going, unlinkAll}
+use Rattle.table.proofs.Kids.{kids-in, Spot, spot-in}
+use Rattle.table.proofs.Rep.{shows, piece-at}
+use Rattle.table.proofs.Unlink.{less-kids, less-in, in-less, less-at, unlink-holds}
+use Rattle.table.proofs.Unique.{tree-is}
+use Rattle.table.proofs.Links.{in-at, datum-is, kids-deep, holds-held, holds-linkage}
+use Rattle.table.proofs.Booking.{book-holds}
+use Rattle.table.proofs.Listed.{listed-block}
+use Rattle.table.proofs.Removal.{freeEnd, FreeLeaves, cleared-at, subtree-is, end-is, clear-holds, remove-holds}
+
+-- What a sound tree is to the table.
+module _ (stages : ℕ) where
+  pub topped-rooted : (sheet : Size) (w : Tree) → Topped stages sheet w → Rooted w
+  topped-rooted sheet nil h = h
+  topped-rooted sheet (grow p d k r) h = (h .0 .place, h .0 .alone)
+
+  children-deep : (q : Datum) (k : Tree) → Children stages q k → Deep (q .level + 1) k
+  children-deep q nil h = tt
+  children-deep q (grow p d k r) h = (h .0 .level, rw (h .0 .level) at (children-deep d k (h .2)), children-deep q r (h .3))
+
+  pub topped-deep : (sheet : Size) (w : Tree) → Topped stages sheet w → Deep 0 w
+  topped-deep sheet nil h = tt
+  topped-deep sheet (grow p d k r) h =
+      (h .0 .level, rw (h .0 .level) at (children-deep d k (h .1)), rw (h .0 .alone) tt)
+
+  children-leaves : (q : Datum) (k : Tree) → Children stages q k → FreeLeaves k
+  children-leaves q nil h = tt
+  children-leaves q (grow p d k r) h = ((λ e. free-kind (d .kind) d k r e (h .1) .childless), children-leaves q r (h .3))
+
+  kids-leaves : (q : Datum) (x : ℕ) (k w : Tree) → Children stages q w → Kids x k w → FreeLeaves k
+  kids-leaves q x k nil h g = absurd g
+  kids-leaves q x k (grow p d l r) h (inl e) = rw (e .1) (children-leaves d l (h .2))
+  kids-leaves q x k (grow p d l r) h (inr (inl g)) = kids-leaves d x k l (h .2) g
+  kids-leaves q x k (grow p d l r) h (inr (inr g)) = kids-leaves q x k r (h .3) g
+
+  topped-leaves : (sheet : Size) (x : ℕ) (k w : Tree) → Topped stages sheet w → Kids x k w → FreeLeaves k
+  topped-leaves sheet x k nil h g = absurd g
+  topped-leaves sheet x k (grow p d l r) h (inl e) = rw (e .1) (children-leaves d l (h .1))
+  topped-leaves sheet x k (grow p d l r) h (inr (inl g)) = kids-leaves d x k l (h .1) g
+  topped-leaves sheet x k (grow p d l r) h (inr (inr g)) = absurd (subst (λ (z : Tree). Kids x k z) (h .0 .alone) g)
+
+leaves-from : (a b : Tree) → FreeLeaves (after a b) → FreeLeaves b
+leaves-from nil b f = f
+leaves-from (grow p d k r) b f = leaves-from r b (f .1)
+
+-- what holds of the pieces at a place holds of the one that stands there
+module _ (x : ℕ) (P : Datum → Tree → Tree → Type 0) where
+  where-row : (a : Tree) (d : Datum) (l b : Tree) → Where x P (after a (grow x d l b)) → P d l b
+  where-row nil d l b h = h .0 refl
+  where-row (grow p e k r) d l b h = where-row r d l b (h .2)
+
+  where-kids : (q : ℕ) (m w : Tree) → Where x P w → Kids q m w → Where x P m
+  where-kids q m nil h g = absurd g
+  where-kids q m (grow p e k r) h (inl z) = rw (z .1) (h .1)
+  where-kids q m (grow p e k r) h (inr (inl g)) = where-kids q m k (h .1) g
+  where-kids q m (grow p e k r) h (inr (inr g)) = where-kids q m r (h .2) g
+
+  where-spot : (w : Tree) (s : Spot x w) → Where x P w → P (s .datum) (s .below) (s .behind)
+  where-spot w s h =
+      where-row (s .before) (s .datum) (s .below) (s .behind)
+      (where-kids (s .parent) (after (s .before) (grow x (s .datum) (s .below) (s .behind))) w h (s .kids))
+
+deep-row : (a : Tree) (x : ℕ) (d : Datum) (l b : Tree) (level : ℕ) → Deep level (after a (grow x d l b)) → d .level ≡ level
+deep-row nil x d l b level h = h .0
+deep-row (grow p e k r) x d l b level h = deep-row r x d l b level (h .2)
+
+module _ (limit stages : ℕ) (sheet : Size) (t : List Node) (w : Tree) (sound : Sound limit stages sheet w) (h : Holds limit t w) where
+  rooted : Rooted w
+  rooted = topped-rooted stages sheet w (sound .topped)
+
+  deep : Deep 0 w
+  deep = topped-deep stages sheet w (sound .topped)
+
+  pub sound-tree : treeOf limit t ≡ w
+  sound-tree = tree-is limit t w rooted h
+
+  pub sound-linkage : Marked w → Linkage limit t
+  sound-linkage marked = holds-linkage limit t w rooted h deep marked
+
+  -- the parent that the table shows
+  parent-is : (x : ℕ) (s : Spot x w) → at t x .parent ≡ s .parent
+  parent-is x s =
+      let m = after (s .before) (grow x (s .datum) (s .below) (s .behind)) in
+      let o = shows limit t limit limit (s .parent) m w (h .rep) (s .kids) in
+      ap (λ (n : Node). n .parent) (piece-at limit t (s .parent) limit x (s .before) (s .datum) (s .below) (s .behind) (o .rep))
+
+  -- a booking in the free piece d at x
+  module _ (x : ℕ) (d : Datum) (i : At x d w) (free : d .kind ≡ Free) where
+    at-x : Spot x w
+    at-x = spot-in x w rooted (at-in x d w i) (not-top stages sheet x d w (sound .topped) (only x d w (h .distinct) i) free)
+
+    abbrev q : ℕ
+    q = at-x .parent
+
+    abbrev a : Tree
+    a = at-x .before
+
+    last-leaf : Kids q (after a (grow x d nil nil)) w
+    last-leaf =
+        let z = where-spot x (Alone d) w at-x (free-alone stages sheet x d w (sound .topped) (h .distinct) i free) in
+        rw (z .0, z .1, z .2) at (at-x .kids)
+
+    -- when the free piece has gone
+    pub free-gone : Holds limit (unlink limit t x) (less x w)
+    free-gone = unlink-holds limit t q x a d nil w h last-leaf
+
+    -- a place that is unheld then was unheld or is x
+    pub free-unheld : Marked w → (n : ℕ) → at (unlink limit t x) n .datum .serial ≡ 0 → In n w → n ≡ x
+    free-unheld marked n z y =
+        ⊎-elim (λ e. e)
+        (λ o. absurd (clash (holds-held limit (unlink limit t x) (less x w) free-gone (λ j e v. marked j e (less-at j e x w v)) n
+        (in-less limit t q x a d nil w h last-leaf n y o))))
+        (same? n x)
+      where
+        clash : Held (unlink limit t x) n → ⊥
+        clash b = omega arith
+
+    module _ (b : Booking) (new : Fresh limit x b w) where
+      low : (j : ℕ) → In j (block b d) → j < limit
+      low j y = let g = block-in b d j y in rw (g .2) (new .placed (g .0) (g .1))
+
+      unheld : (j : ℕ) → In j (block b d) → In j (less x w) → ⊥
+      unheld j y v =
+          let g = block-in b d j y in
+          let o = less-in q x a d nil nil w (h .distinct) last-leaf j v in
+          o .1 (g .2 ∙ new .unheld (g .0) (g .1) (rw (g .2) at (o .0)))
+
+      apart : Distinct (block b d)
+      apart = block-distinct b d (new .apart)
+
+      pub book-sound : Holds limit (plant limit (unlink limit t x) (at t x .parent) (block b d)) (book x b w)
+      book-sound = rw (parent-is x at-x) (book-holds limit t q x a d w b h last-leaf apart low unheld)
+
+      -- the same by the list of the blueprint
+      pub book-listed : Holds limit
+          (appendAll limit (unlink limit t x) (at t x .parent) b 0
+          (listed outside (d .cut) (blockOf (b .shape) (d .cut) (d .size) (b .size))))
+          (book x b w)
+      book-listed =
+          let e = in-at q (less x w) (kids-in q (after a nil) (less x w) (less-kids q x a d nil nil w (h .distinct) last-leaf)) in
+          let same : at t q .datum ≡ e .0 = datum-is limit t limit limit q (e .0) w (h .rep) (less-at q (e .0) x w (e .1)) in
+          let one : d .level ≡ at t q .datum .level + 1 =
+          deep-row a x d nil nil (at t q .datum .level + 1)
+          (kids-deep limit t limit limit 0 q (after a (grow x d nil nil)) w (h .rep) deep last-leaf)
+          in
+          let is = listed-block limit q b d (unlink limit t x) (less x w) (e .0) (e .1) (sym (rw same at one)) free-gone apart low unheld in
+          rw (parent-is x at-x, is) (book-holds limit t q x a d w b h last-leaf apart low unheld)
+
+  -- a removal of the piece z at x
+  module _ (x : ℕ) (z : Removable x w) where
+    s : Spot x w
+    s = spot-in x w rooted (at-in x (z .piece) w (z .there)) (z .below)
+
+    kids : Kids (s .parent) (after (s .before) (grow x (z .piece) (s .below) (s .behind))) w
+    kids = rw (where-spot x (This (z .piece)) w s (only x (z .piece) w (h .distinct) (z .there))) at (s .kids)
+
+    leaves : FreeLeaves (s .behind)
+    leaves =
+        leaves-from (s .before) (grow x (z .piece) (s .below) (s .behind))
+        (topped-leaves stages sheet (s .parent) (after (s .before) (grow x (z .piece) (s .below) (s .behind))) w (sound .topped) kids) .1
+
+    going-is : going t x w ≡ leaving (grow x (z .piece) (s .below) nil) ++ freeEnd (s .behind)
+    going-is =
+        rw (
+          subtree-is (s .parent) x (s .before) (z .piece) (s .below) (s .behind) w (h .distinct) kids,
+          parent-is x s,
+          end-is limit t (s .parent) x (s .before) (z .piece) (s .below) (s .behind) w h kids (z .solid) .0,
+        )
+        refl
+
+    -- when all that goes has gone
+    pub clear-sound : Holds limit (unlinkAll limit t (going t x w)) (cleared x w)
+    clear-sound =
+        rw going-is (clear-holds limit t (s .parent) x (s .before) (z .piece) (s .below) (s .behind) w h kids leaves)
+
+    -- a place that is unheld then is none of what is left
+    pub clear-unheld : Marked w → (n : ℕ) → at (unlinkAll limit t (going t x w)) n .datum .serial ≡ 0 → In n (cleared x w) → ⊥
+    clear-unheld marked n e y =
+        let b : Held (unlinkAll limit t (going t x w)) n =
+        holds-held limit (unlinkAll limit t (going t x w)) (cleared x w) clear-sound (λ j g v. marked j g (cleared-at j g x w v)) n y
+        in
+        omega arith
+
+    -- and when the new piece is there
+    pub remove-sound : (n m : ℕ) → n < limit → (In n (cleared x w) → ⊥)
+        → Holds limit
+        (append limit (unlinkAll limit t (going t x w)) (at t x .parent) n
+        (freed m (z .piece) (board (z .piece) (freeLastDatum t (at t x .parent)))))
+        (remove x n m w)
+    remove-sound n m hn new =
+        rw (
+          going-is,
+          parent-is x s,
+          sym (end-is limit t (s .parent) x (s .before) (z .piece) (s .below) (s .behind) w h kids (z .solid) .1),
+        )
+        (remove-holds limit t (s .parent) x (s .before) (z .piece) (s .below) (s .behind) w h kids n m leaves hn new)

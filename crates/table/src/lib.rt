@@ -1,0 +1,18 @@
+// The linked table of 255 places that holds a cut tree. Rust: LayoutNodes of core/entities/layout.rs, with the links of core/entities/node.rs.
+// It rests on `piece` for what a node is and on `tree` for what the table means.
+use piece::node::Datum;
+
+// The most nodes that a layout holds. It is also the number that says that there is no such place.
+pub const LIMIT: usize = 255;
+
+pub const NONE: u16 = 255;
+
+// A node and its links: places, or NONE. A place is unheld where the serial is 0, and then all is 0.
+pub struct Node {
+    pub datum: Datum,
+    pub parent: u16,
+    pub first: u16,
+    pub last: u16,
+    pub prev: u16,
+    pub next: u16,
+}

@@ -1,0 +1,59 @@
+-- Areas: the pieces of a row fill the side across it, and in all the parts and free pieces of a row hold the row's whole area. The cut is named
+-- once, in `row-area`. Assumes nothing.
+use mathlib.Core.Bool.{cond}
+use mathlib.Core.Path.{_≡_, refl, _∙_}
+use Prim.Native.Nat.{ℕ, _+_, _*_}
+use native.Mathlib.Nat.{mul-comm}
+use native.Mathlib.Omega.{arith}
+use Rattle.piece.specs.declared.orientation.Orientation.{Orientation}
+use Rattle.piece.specs.declared.orientation.Orientation.the-variants.{Horizontal, Vertical}
+use Rattle.piece.specs.declared.size.Size.{Size}
+use Rattle.piece.specs.declared.node.Datum.{Datum}
+use Rattle.piece.specs.declared.node.Kind.{Kind}
+use Rattle.piece.specs.declared.node.Kind.the-variants.{Free, Part, Structure}
+use Rattle.piece.specs.Sides.{other, laid, area}
+use Rattle.piece.specs.Row.{nil, grow}
+use Rattle.tree.specs.Tree.{Tree, isFree, isPart}
+use Rattle.tree.specs.Sound.{extent, StructurePiece, Kinded, Children}
+use Rattle.tree.specs.Figures.{partArea, freeArea}
+
+-- the two sides make the area, whichever cut names them
+pub area-laid : (c : Orientation) (s : Size) → laid c s .width * laid c s .height ≡ area s
+area-laid Horizontal s = refl
+area-laid Vertical s = mul-comm (s .height) (s .width)
+
+-- the area of a row: of its own pieces, and not of those below them
+abbrev pub rowArea : Tree → ℕ
+rowArea nil = 0
+rowArea (grow p d k r) = area (d .size) + rowArea r
+
+-- a row of children is as wide as its pieces together and as high as their parent
+pub row-area : (stages : ℕ) (q : Datum) (r : Tree) → Children stages q r
+    → rowArea r ≡ extent (other (q .cut)) r * laid (other (q .cut)) (q .size) .height
+row-area stages q nil h = omega arith
+row-area stages q (grow p d k r) h =
+    let c = other (q .cut) in
+    let side : laid c (d .size) .height ≡ laid c (q .size) .height = rw (h .0 .cut) at (h .0 .side) in
+    let here : laid c (d .size) .width * laid c (q .size) .height ≡ area (d .size) = rw side at (area-laid c (d .size)) in
+    let rest = row-area stages q r (h .3) in
+    omega arith
+
+-- the children of a structure fill it
+pub filled-area : (stages : ℕ) (d : Datum) (k : Tree) → StructurePiece d k → Children stages d k → rowArea k ≡ area (d .size)
+filled-area stages d k s h = rw (row-area stages d k h, s .filled) (area-laid (other (d .cut)) (d .size))
+
+-- a piece of this kind and what is below it: a part or a free piece holds its own area, and what is below a structure holds the structure's
+piece-area : (κ : Kind) (d : Datum) (k r : Tree) → Kinded κ d k r → (StructurePiece d k → partArea k + freeArea k ≡ area (d .size))
+    → (cond (isPart κ) (area (d .size)) 0 + partArea k) + (cond (isFree κ) (area (d .size)) 0 + freeArea k) ≡ area (d .size)
+piece-area Free d k r f below = rw (f .childless) (omega arith)
+piece-area Part d k r f below = rw (f .childless) (omega arith)
+piece-area Structure d k r f below = omega (arith, below f)
+
+-- the parts and free pieces of a row hold the area of the row
+pub row-held : (stages : ℕ) (q : Datum) (r : Tree) → Children stages q r → partArea r + freeArea r ≡ rowArea r
+row-held stages q nil h = refl
+row-held stages q (grow p d k r) h =
+    let below = row-held stages d k (h .2) in
+    let rest = row-held stages q r (h .3) in
+    let here = piece-area (d .kind) d k r (h .1) (λ s. below ∙ filled-area stages d k s (h .2)) in
+    omega arith

@@ -1,0 +1,13 @@
+-- The laws of the cut tree, one to a file.
+pub mod Worked
+pub mod SameTree
+pub mod OpenSound
+pub mod BookingSound
+pub mod RemovalSound
+pub mod Untouched
+pub mod BookThenRemove
+pub mod BookingsCommute
+pub mod RemovalsCommute
+pub mod AreaConserved
+pub mod SheetUsageOne
+pub mod TreeUsageOne

@@ -1,0 +1,24 @@
+-- The usage of the sheet, the f64 quotient of used area and sheet area, "is exactly 1 if and only if no free area is left". Document 01, "Figures".
+use mathlib.Core.Path.{_≡_}
+use mathlib.Core.Logic.{_↔_}
+use Prim.Native.Nat.{ℕ}
+use native.Mathlib.Omega.{arith}
+use Rattle.piece.specs.declared.size.Size.{Size}
+use Rattle.piece.specs.Sides.{area}
+use Rattle.tree.specs.Tree.{Tree}
+use Rattle.tree.specs.Sound.{Sound}
+use Rattle.tree.specs.Figures.{partArea, freeArea, one, sheetUsage}
+use Rattle.tree.proofs.Whole.{full-is-one, one-is-full}
+use Rattle.tree.proofs.Usage.{sheet-small, sheet-positive}
+use Rattle.tree.proofs.Laws.AreaConserved.{area-conserved}
+
+pub sheet-usage-one : {limit stages : ℕ} {sheet : Size} (t : Tree) → Sound limit stages sheet t
+    → (sheetUsage (partArea t) (area sheet) ≡ one) ↔ (freeArea t ≡ 0)
+unfolding sheetUsage
+sheet-usage-one {sheet = z} t s =
+    let whole = area-conserved t s in
+    let small = sheet-small (s .domain) in
+    let some = sheet-positive (s .domain) in (
+      (λ e. let full = one-is-full (partArea t) (area z) (omega arith) some (omega arith) e in omega arith),
+      λ e. let full : partArea t ≡ area z = omega arith in rw full (full-is-one (area z) some (omega arith)),
+    )

@@ -1,0 +1,18 @@
+-- The tree usage of the top "is exactly 1 where no free piece has area". Document 01, "Figures".
+use mathlib.Core.Path.{_≡_}
+use Prim.Native.Nat.{ℕ, _^_, _≤_}
+use native.Mathlib.Omega.{arith}
+use Rattle.piece.specs.declared.size.Size.{Size}
+use Rattle.piece.specs.Sides.{area}
+use Rattle.piece.specs.Row.{nil, grow}
+use Rattle.tree.specs.Tree.{Tree}
+use Rattle.tree.specs.Sound.{Sound}
+use Rattle.tree.specs.Figures.{freeArea, one, treeUsage}
+use Rattle.tree.proofs.Usage.{sheet-small, structure-full}
+
+pub tree-usage-one : {limit stages : ℕ} {sheet : Size} (t : Tree) → Sound limit stages sheet t → freeArea t ≡ 0 → treeUsage t ≡ one
+tree-usage-one nil s e = absurd (s .topped)
+tree-usage-one {stages = n} (grow p d k r) s e =
+    let top = s .topped .0 in
+    let small : area (d .size) ≤ 2 ^ 53 = rw (top .size) (omega (arith, sheet-small (s .domain))) in
+    rw (top .kind) (structure-full n d k (top .piece) (s .topped .1) (omega arith) small)

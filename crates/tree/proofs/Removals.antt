@@ -1,0 +1,170 @@
+-- Removals: two of them, whichever is first. Assumes nothing.
+use mathlib.Core.Path.{_≡_, refl, sym, _∙_, subst}
+use mathlib.Core.Bool.{Bool, true, false, cond, false≢true, and-false}
+use mathlib.Core.Option.{Option, none, some}
+use mathlib.Core.Logic.{_⊎_, inl, inr}
+use Prim.Native.Nat.{ℕ}
+use native.Mathlib.Nat.{add-comm, add-left-comm}
+use lib.Dec.{eqb}
+use borrow.Author.Tests.{eq-eqb, ne-eqb}
+use Rattle.piece.specs.declared.orientation.Orientation.{Orientation}
+use Rattle.piece.specs.declared.size.Size.{Size}
+use Rattle.piece.specs.declared.node.Datum.{Datum}
+use Rattle.piece.specs.declared.node.Kind.{Kind}
+use Rattle.piece.specs.declared.node.Kind.the-variants.{Free, Part, Structure}
+use Rattle.piece.specs.Sides.{other, laid}
+use Rattle.piece.specs.Row.{nil, grow}
+use Rattle.tree.specs.Tree.{Tree, At, Distinct, isFree, isNil, after}
+use Rattle.tree.specs.Sound.{FreePiece, Child, Kinded, Children, Sound}
+use Rattle.tree.specs.Snapshot.{shape, bare}
+use Rattle.tree.specs.Removal.{freed, joined, board, lastFree, withoutLast, settled, remove}
+use Rattle.tree.specs.Apart.{Removable}
+use Rattle.piece.proofs.Sizes.{laid-twice}
+use Rattle.tree.proofs.Rows.{same?}
+use Rattle.tree.proofs.Shapes.{shape-after}
+use Rattle.tree.proofs.Bookings.{at-unique}
+
+-- What stands at the end of a row.
+
+longer : (a : Tree) (n : ℕ) (d : Datum) → isNil (after a (grow n d nil nil)) ≡ false
+longer nil n d = refl
+longer (grow p e k r) n d = refl
+
+-- a free piece there is found, and the row without it is what was before it
+last-free : (a : Tree) (n s : ℕ) (d : Datum) (z : Size) → lastFree (after a (grow n (freed s d z) nil nil)) ≡ some (freed s d z)
+last-free nil n s d z = refl
+last-free (grow p e k r) n s d z = rw (longer r n (freed s d z), and-false (isFree (e .kind))) (last-free r n s d z)
+
+without-last : (a : Tree) (n s : ℕ) (d : Datum) (z : Size) → withoutLast (after a (grow n (freed s d z) nil nil)) ≡ a
+without-last nil n s d z = refl
+without-last (grow p e k r) n s d z = rw (longer r n (freed s d z), and-false (isFree (e .kind)), without-last r n s d z)
+
+-- pieces that are not free stay before the board that settles
+settled-past : (n s : ℕ) (d : Datum) (z : ℕ) (e : Datum) (k r : Tree) → isFree (e .kind) ≡ false
+    → settled n s d (grow z e k r) ≡ grow z e k (settled n s d r)
+unfolding settled
+settled-past n s d z e k r h = rw h
+
+-- the free piece joins it
+settled-join : (n s : ℕ) (d : Datum) (z : ℕ) (e : Datum) → isFree (e .kind) ≡ true
+    → settled n s d (grow z e nil nil) ≡ grow n (freed s d (joined d e)) nil nil
+unfolding settled
+settled-join n s d z e h = rw h
+
+-- a row after one of its pieces went, but for the marks
+shape-settled : (n s : ℕ) (d : Datum) (r : Tree)
+    → shape (settled n s d r) ≡ after (shape (withoutLast r)) (grow 0 (bare (freed 0 d (board d (lastFree r)))) nil nil)
+unfolding settled
+shape-settled n s d r = shape-after (withoutLast r) (grow n (freed s d (board d (lastFree r))) nil nil)
+
+-- the new piece's marks do not count
+shape-remove : (x n s n′ s′ : ℕ) (t : Tree) → shape (remove x n s t) ≡ shape (remove x n′ s′ t)
+shape-remove x n s n′ s′ nil = refl
+shape-remove x n s n′ s′ (grow p d k r) = go (eqb p x) (shape-remove x n s n′ s′ k) (shape-remove x n s n′ s′ r)
+  where
+    go : (b : Bool) → shape (remove x n s k) ≡ shape (remove x n′ s′ k) → shape (remove x n s r) ≡ shape (remove x n′ s′ r)
+        → shape (cond b (settled n s d r) (grow p d (remove x n s k) (remove x n s r)))
+        ≡ shape (cond b (settled n′ s′ d r) (grow p d (remove x n′ s′ k) (remove x n′ s′ r)))
+    go true ik ir = shape-settled n s d r ∙ sym (shape-settled n′ s′ d r)
+    go false ik ir = rw (ik, ir)
+
+-- Two boards of one row.
+
+-- they join the row's free piece one after the other: it has the same size whichever was first
+board-swap : (c : Orientation) (d e : Datum) (s u : ℕ) (o : Option Datum) → d .cut ≡ c → e .cut ≡ c
+    → laid c (d .size) .height ≡ laid c (e .size) .height
+    → joined e (freed s d (board d o)) ≡ joined d (freed u e (board e o))
+unfolding joined
+board-swap c d e s u none p q h = rw (p, q, h, add-comm (laid c (e .size) .width) (laid c (d .size) .width))
+board-swap c d e s u (some f) p q h =
+    rw (p, q) (simp laid-twice (rw (h, add-left-comm (laid c (e .size) .width) (laid c (d .size) .width) (laid c (f .size) .width))))
+
+-- two pieces of a row go, one after the other: their boards and the row's free piece are one piece at the end
+settled-twice : (n s m s′ : ℕ) (d e : Datum) (r : Tree)
+    → shape (settled m s′ e (settled n s d r))
+    ≡ after (shape (withoutLast r)) (grow 0 (bare (freed 0 e (joined e (freed s d (board d (lastFree r)))))) nil nil)
+unfolding settled
+settled-twice n s m s′ d e r =
+    let z = board d (lastFree r) in
+    shape-settled m s′ e (settled n s d r) ∙ rw (without-last (withoutLast r) n s d z, last-free (withoutLast r) n s d z)
+
+-- the children of q are at one level, have one cut and lie side by side, so that it is one piece whichever went first
+twice : (stages n s m s′ n′ u m′ u′ : ℕ) (q d e : Datum) (r : Tree) → Child stages q d → Child stages q e
+    → shape (settled m s′ e (settled n s d r)) ≡ shape (settled n′ u d (settled m′ u′ e r))
+twice stages n s m s′ n′ u m′ u′ q d e r a b =
+    let c = other (q .cut) in
+    let h : laid c (d .size) .height ≡ laid c (e .size) .height = cc in
+    cc (settled-twice n s m s′ d e r, settled-twice m′ u′ n′ u e d r, board-swap c d e s u′ (lastFree r) (a .cut) (b .cut) h)
+
+-- Two removals.
+
+-- the piece at x, wherever it stands, is not free
+abbrev Solid : ℕ → Tree → Type 0
+Solid x t = (e : Datum) → At x e t → isFree (e .kind) ≡ false
+
+solid : (x : ℕ) (t : Tree) → Distinct t → Removable x t → Solid x t
+solid x t w a e g = subst (λ (d : Datum). isFree (d .kind) ≡ false) (sym (at-unique x (a .piece) e t w (a .there) g)) (a .solid)
+
+-- what is free is last and childless
+free-piece : (κ : Kind) (d : Datum) (k r : Tree) → Kinded κ d k r → isFree κ ≡ true → FreePiece d k r
+free-piece Free d k r w e = w
+free-piece Part d k r w e = absurd (false≢true e)
+free-piece Structure d k r w e = absurd (false≢true e)
+
+-- the piece d went, and y goes from among its later siblings, or y went first
+module _ (stages y n s m s′ n′ u m′ u′ : ℕ) (q d : Datum) where
+  abbrev Behind : Tree → Type 0
+  Behind r = shape (remove y m s′ (settled n s d r)) ≡ shape (settled n′ u d (remove y m′ u′ r))
+
+  behind : (y ≡ n → ⊥) → Child stages q d → (r : Tree) → Children stages q r → Solid y r → Behind r
+  unfolding settled
+  behind yn a nil w o = rw (ne-eqb n y (λ e. yn (sym e)))
+  behind yn a (grow z e k r) w o = go (isFree (e .kind)) refl (same? z y) (behind yn a r (w .3) (λ f g. o f (inr (inr g))))
+    where
+      go : (b : Bool) → isFree (e .kind) ≡ b → (z ≡ y) ⊎ (z ≡ y → ⊥) → Behind r → Behind (grow z e k r)
+      go true f (inl g) ih = absurd (false≢true (sym (o e (inl (sym g, refl))) ∙ f))
+      go true f (inr l) ih =
+          let p = free-piece (e .kind) e k r (w .1) f in
+          rw (p .childless, p .last, settled-join n s d z e f, ne-eqb z y l, settled-join n′ u d z e f, ne-eqb n y (λ g. yn (sym g)))
+      go false f (inl g) ih = rw (settled-past n s d z e k r f, eq-eqb z y g) (twice stages n s m s′ n′ u m′ u′ q d e r a (w .0))
+      go false f (inr l) ih =
+          rw (
+            settled-past n s d z e k r f,
+            ne-eqb z y l,
+            settled-past n′ u d z e (remove y m′ u′ k) (remove y m′ u′ r) f,
+            ih,
+            shape-remove y m s′ m′ u′ k,
+          )
+
+module _ (stages x y n s m s′ n′ u m′ u′ : ℕ) where
+  -- whichever goes first
+  abbrev Commute : Tree → Type 0
+  Commute t = shape (remove y m s′ (remove x n s t)) ≡ shape (remove x n′ u (remove y m′ u′ t))
+
+  row-removals : (x ≡ y → ⊥) → (y ≡ n → ⊥) → (x ≡ m′ → ⊥) → (q : Datum) (r : Tree) → Children stages q r → Solid x r → Solid y r → Commute r
+  row-removals xy yn xm q nil w ox oy = refl
+  row-removals xy yn xm q (grow z d k r) w ox oy =
+      go (same? z x) (same? z y) (row-removals xy yn xm d k (w .2) (λ e g. ox e (inr (inl g))) (λ e g. oy e (inr (inl g))))
+      (row-removals xy yn xm q r (w .3) (λ e g. ox e (inr (inr g))) (λ e g. oy e (inr (inr g))))
+    where
+      go : (z ≡ x) ⊎ (z ≡ x → ⊥) → (z ≡ y) ⊎ (z ≡ y → ⊥) → Commute k → Commute r → Commute (grow z d k r)
+      go (inl e) (inl f) ik ir = absurd (xy (sym e ∙ f))
+      go (inl e) (inr f) ik ir =
+          rw (eq-eqb z x e, ne-eqb z y f, eq-eqb z x e)
+          (behind stages y n s m s′ n′ u m′ u′ q d yn (w .0) r (w .3) (λ i g. oy i (inr (inr g))))
+      go (inr e) (inl f) ik ir =
+          rw (ne-eqb z x e, eq-eqb z y f)
+          (sym (behind stages x m′ u′ n′ u m s′ n s q d xm (w .0) r (w .3) (λ i g. ox i (inr (inr g)))))
+      go (inr e) (inr f) ik ir = rw (ne-eqb z x e, ne-eqb z y f, ne-eqb z x e, ik, ir)
+
+  -- the top stays: both go from below it
+  pub removes-commute : {limit : ℕ} {sheet : Size} (t : Tree) → Sound limit stages sheet t → Removable x t → Removable y t
+      → (x ≡ y → ⊥) → (y ≡ n → ⊥) → (x ≡ m′ → ⊥) → Commute t
+  removes-commute nil w ax ay xy yn xm = refl
+  removes-commute (grow p d k r) w ax ay xy yn xm =
+      let top = w .topped .0 in
+      let nx = ne-eqb p x (λ e. ax .below (sym e ∙ top .place)) in
+      let ox = solid x (grow p d k r) (w .distinct) ax in
+      let oy = solid y (grow p d k r) (w .distinct) ay in
+      let ik = row-removals xy yn xm d k (w .topped .1) (λ e g. ox e (inr (inl g))) (λ e g. oy e (inr (inl g))) in
+      rw (nx, ne-eqb p y (λ e. ay .below (sym e ∙ top .place)), nx, ik, top .alone)

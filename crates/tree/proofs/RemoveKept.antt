@@ -1,0 +1,139 @@
+-- Removal: the row that is left of x's, with the new piece at its end, is a row of the same parent and fills it as before.
+use mathlib.Core.Path.{_≡_, refl, ap, _∙_}
+use mathlib.Core.Bool.{Bool, true, false, cond, _&&_}
+use mathlib.Core.Logic.{_⊎_, inl, inr, ⊎-elim}
+use mathlib.Core.Option.{Option, none, some}
+use Prim.Native.Nat.{ℕ, _+_, _≤_}
+use native.Mathlib.Nat.{add-zero}
+use native.Mathlib.Omega.{arith}
+use Rattle.piece.specs.declared.orientation.Orientation.{Orientation}
+use Rattle.piece.specs.declared.size.Size.{Size}
+use Rattle.piece.specs.declared.node.Datum.{Datum}
+use Rattle.piece.specs.declared.node.Kind.{Kind}
+use Rattle.piece.specs.declared.node.Kind.the-variants.{Free, Part, Structure}
+use Rattle.piece.specs.Sides.{sized, laid}
+use Rattle.piece.specs.Row.{nil, grow}
+use Rattle.piece.proofs.Sizes.{laid-twice}
+use Rattle.tree.specs.Tree.{Tree, In, Distinct, count, after, isFree, isNil}
+use Rattle.tree.specs.Sound.{extent, Kinded, Child, Children, Topped}
+use Rattle.tree.specs.Removal.{freed, joined, board, lastFree, withoutLast, settled, remove, cleared}
+use Rattle.tree.specs.Apart.{Removable}
+use Rattle.tree.proofs.Rows.{in-eq, count-after, in-after, distinct-after}
+use Rattle.tree.proofs.Pieces.{free-piece, child}
+use Rattle.tree.proofs.Kept.{This, only, free-kind, change, Exchange, topped}
+use Rattle.tree.proofs.Places.{distinct-change}
+
+pub remove-is : (x n s : ℕ) (t : Tree) → remove x n s t ≡ change x (settled n s) t
+remove-is x n s nil = refl
+remove-is x n s (grow y d k r) = rw (remove-is x n s k, remove-is x n s r)
+
+-- what is left of the later siblings before the new piece is there
+abbrev pub left : Datum → Tree → Tree
+left d r = withoutLast r
+
+pub cleared-is : (x : ℕ) (t : Tree) → cleared x t ≡ change x left t
+cleared-is x nil = refl
+cleared-is x (grow y d k r) = rw (cleared-is x k, cleared-is x r)
+
+-- the board that a free piece of the row adds
+abbrev spare : Orientation → Option Datum → ℕ
+spare c none = 0
+spare c (some e) = laid c (e .size) .width
+
+board-laid : (d : Datum) (o : Option Datum)
+    → laid (d .cut) (board d o) ≡ sized (laid (d .cut) (d .size) .width + spare (d .cut) o) (laid (d .cut) (d .size) .height)
+unfolding joined
+board-laid d none = rw add-zero
+board-laid d (some e) = rw laid-twice
+
+-- the new piece is a child of the parent of d
+freed-children : (stages n s : ℕ) (q d : Datum) (o : Option Datum) → Child stages q d → Children stages q (grow n (freed s d (board d o)) nil nil)
+freed-children stages n s q d o h =
+    (child (h .level) (h .stage) (h .cut) (ap (λ (z : Size). z .height) (board-laid d o) ∙ h .side), free-piece refl refl refl, tt, tt)
+
+-- only a free piece asks something of its later siblings
+solid-kind : (a : Kind) (d : Datum) (k r u : Tree) → isFree a ≡ false → Kinded a d k r → Kinded a d k u
+solid-kind Free d k r u e h = let z : _≡_ {A = ℕ} 0 1 = cc in absurd (omega arith)
+solid-kind Part d k r u e h = h
+solid-kind Structure d k r u e h = h
+
+-- a row u in the place of the free piece at the end of the row r
+instead : (stages : ℕ) (c : Orientation) (q : Datum) (r u : Tree) → Children stages q r → Children stages q u
+    → Children stages q (after (withoutLast r) u) × (extent c (after (withoutLast r) u) + spare c (lastFree r) ≡ extent c r + extent c u)
+instead stages c q nil u h g = (g, omega arith)
+instead stages c q (grow p d k r) u h g = go (isFree (d .kind)) refl (instead stages c q r u (h .3) g)
+  where
+    go : (b : Bool) → isFree (d .kind) ≡ b
+        → Children stages q (after (withoutLast r) u) × (extent c (after (withoutLast r) u) + spare c (lastFree r) ≡ extent c r + extent c u)
+        → Children stages q (after (withoutLast (grow p d k r)) u)
+        × (extent c (after (withoutLast (grow p d k r)) u) + spare c (lastFree (grow p d k r)) ≡ extent c (grow p d k r) + extent c u)
+    go true e ih = rw (e, free-kind (d .kind) d k r e (h .1) .last) (g, omega arith)
+    go false e ih = rw e ((h .0, solid-kind (d .kind) d k r _ e (h .1), h .2, ih .0), omega arith)
+
+pub settled-exchange : (stages n s : ℕ) (q d : Datum) (y : ℕ) (k r : Tree) → Children stages q (grow y d k r)
+    → Exchange stages q (grow y d k r) (settled n s d r)
+unfolding settled
+settled-exchange stages n s q d y k r h =
+    let u = grow n (freed s d (board d (lastFree r))) nil nil in
+    let i = instead stages (d .cut) q r u (h .3) (freed-children stages n s q d (lastFree r) (h .0)) in
+    let w = ap (λ (z : Size). z .width) (board-laid d (lastFree r)) in
+    record {
+      children = i .0;
+      same = rw (← h .0 .cut) (omega arith);
+      some = λ z. rw count-after (omega arith);
+    }
+
+-- what is left of a row
+pub in-left : (i : ℕ) (r : Tree) → In i (withoutLast r) → In i r
+in-left i nil h = h
+in-left i (grow p d k r) h = go (isFree (d .kind) && isNil r) h (in-left i r)
+  where
+    go : (b : Bool) → In i (cond b nil (grow p d k (withoutLast r))) → (In i (withoutLast r) → In i r) → In i (grow p d k r)
+    go true h a = absurd h
+    go false (inl e) a = inl e
+    go false (inr (inl h)) a = inr (inl h)
+    go false (inr (inr h)) a = inr (inr (a h))
+
+distinct-left : (r : Tree) → Distinct r → Distinct (withoutLast r)
+distinct-left nil u = tt
+distinct-left (grow p d k r) u = go (isFree (d .kind) && isNil r) (distinct-left r (u .4))
+  where
+    go : (b : Bool) → Distinct (withoutLast r) → Distinct (cond b nil (grow p d k (withoutLast r)))
+    go true a = tt
+    go false a = (u .0, (λ h. u .1 (in-left p r h)), (λ i h g. u .2 i h (in-left i r g)), u .3, a)
+
+count-left : (r : Tree) → count (withoutLast r) ≤ count r
+count-left nil = omega arith
+count-left (grow p d k r) = go (isFree (d .kind) && isNil r) (count-left r)
+  where
+    go : (b : Bool) → count (withoutLast r) ≤ count r → count (cond b nil (grow p d k (withoutLast r))) ≤ count (grow p d k r)
+    go true a = omega arith
+    go false a = omega arith
+
+-- the places of the row that is left
+pub settled-in : (n s i : ℕ) (d : Datum) (r : Tree) → In i (settled n s d r) → In i (left d r) ⊎ (i ≡ n)
+unfolding settled
+settled-in n s i d r h = ⊎-elim inl (λ z. inr (⊎-elim (λ e. e) (λ o. ⊎-elim absurd absurd o) z)) (in-after i (withoutLast r) _ h)
+
+settled-distinct : (n s : ℕ) (d : Datum) (r : Tree) → Distinct r → ((i : ℕ) → i ≡ n → In i (left d r) → ⊥) → Distinct (settled n s d r)
+unfolding settled
+settled-distinct n s d r u m =
+    distinct-after (withoutLast r) _ (distinct-left r u) ((λ z. z), (λ z. z), (λ i z o. z), tt, tt)
+    (λ i h g. ⊎-elim (λ e. m i e h) (λ o. ⊎-elim absurd absurd o) g)
+
+pub settled-count : (n s : ℕ) (d : Datum) (r : Tree) → count (settled n s d r) ≤ 1 + count r
+unfolding settled
+settled-count n s d r = rw count-after (omega (arith, count-left r))
+
+pub remove-topped : (stages : ℕ) (sheet : Size) (x n s : ℕ) (t : Tree) → Topped stages sheet t → Distinct t → Removable x t
+    → Topped stages sheet (remove x n s t)
+remove-topped stages sheet x n s t h u m =
+    rw remove-is
+    (topped stages x (settled n s) (This (m .piece)) (λ q d y k r z. settled-exchange stages n s q d y k r) sheet t h (m .below)
+    (only x (m .piece) t u (m .there)))
+
+pub remove-distinct : (x n s : ℕ) (t : Tree) → Distinct t → (In n (cleared x t) → ⊥) → Distinct (remove x n s t)
+remove-distinct x n s t u m =
+    rw remove-is
+    (distinct-change x left (settled n s) (λ i. i ≡ n) (settled-in n s) (λ i d r. in-left i r) (settled-distinct n s) t u
+    (λ i e h. m (rw cleared-is (in-eq (change x left t) e h))))

@@ -1,0 +1,109 @@
+-- The pieces that stay where they are when those at one place give way to another row (Kept): same place, same datum, so same serial.
+use mathlib.Core.Path.{_≡_, refl, sym, _∙_}
+use mathlib.Core.Bool.{Bool, true, false, cond}
+use mathlib.Core.Logic.{_⊎_, inl, inr}
+use Prim.Native.Nat.{ℕ}
+use native.Mathlib.Omega.{arith}
+use lib.Dec.{eqb}
+use borrow.Author.Tests.{eq-eqb, ne-eqb}
+use Rattle.piece.specs.declared.size.Size.{Size}
+use Rattle.piece.specs.declared.node.Datum.{Datum}
+use Rattle.piece.specs.Row.{nil, grow}
+use Rattle.tree.specs.Tree.{Tree, At, Inside, after, isFree}
+use Rattle.tree.specs.Sound.{Children, Topped}
+use Rattle.tree.specs.Booking.{Booking, block, book}
+use Rattle.tree.specs.Removal.{withoutLast, settled, remove, cleared}
+use Rattle.tree.proofs.Rows.{same?, at-in}
+use Rattle.tree.proofs.Kept.{Where, Alone, free-kind, change}
+use Rattle.tree.proofs.RemoveKept.{remove-is, cleared-is, left}
+use Rattle.tree.proofs.BookKept.{booked, book-is}
+
+at-first : (i : ℕ) (e : Datum) (a b : Tree) → At i e a → At i e (after a b)
+at-first i e nil b h = absurd h
+at-first i e (grow p d k r) b (inl z) = inl z
+at-first i e (grow p d k r) b (inr (inl h)) = inr (inl h)
+at-first i e (grow p d k r) b (inr (inr h)) = inr (inr (at-first i e r b h))
+
+at-second : (i : ℕ) (e : Datum) (a b : Tree) → At i e b → At i e (after a b)
+at-second i e nil b h = h
+at-second i e (grow p d k r) b h = inr (inr (at-second i e r b h))
+
+-- what one row keeps, another one that has more keeps too
+at-more : (x : ℕ) (g f : Datum → Tree → Tree) (i : ℕ) (e : Datum) → ((d : Datum) (r : Tree) → At i e (g d r) → At i e (f d r))
+    → (t : Tree) → At i e (change x g t) → At i e (change x f t)
+at-more x g f i e more nil h = h
+at-more x g f i e more (grow y d k r) h = go (eqb y x) h (at-more x g f i e more k) (at-more x g f i e more r)
+  where
+    go : (b : Bool) → At i e (cond b (g d r) (grow y d (change x g k) (change x g r))) → (At i e (change x g k) → At i e (change x f k))
+        → (At i e (change x g r) → At i e (change x f r)) → At i e (cond b (f d r) (grow y d (change x f k) (change x f r)))
+    go true h a b = more d r h
+    go false (inl z) a b = inl z
+    go false (inr (inl h)) a b = inr (inl (a h))
+    go false (inr (inr h)) a b = inr (inr (b h))
+
+-- where a piece without children gives way to a row that has its later siblings, all others stay
+at-others : (x : ℕ) (f : Datum → Tree → Tree) (P : Datum → Tree → Tree → Type 0) (i : ℕ) (e : Datum)
+    → ((d : Datum) (k r : Tree) → P d k r → k ≡ nil) → ((d : Datum) (r : Tree) → At i e r → At i e (f d r)) → (i ≡ x → ⊥)
+    → (t : Tree) → Where x P t → At i e t → At i e (change x f t)
+at-others x f P i e bare more n nil w h = h
+at-others x f P i e bare more n (grow y d k r) w h =
+    go (same? y x) h (at-others x f P i e bare more n k (w .1)) (at-others x f P i e bare more n r (w .2))
+  where
+    go : (y ≡ x) ⊎ (y ≡ x → ⊥) → At i e (grow y d k r) → (At i e k → At i e (change x f k)) → (At i e r → At i e (change x f r))
+        → At i e (change x f (grow y d k r))
+    go (inl z) (inl o) a b = absurd (n (o .0 ∙ z))
+    go (inl z) (inr (inl h)) a b = absurd (rw (bare d k r (w .0 z)) at h)
+    go (inl z) (inr (inr h)) a b = rw (eq-eqb y x z) (more d r h)
+    go (inr m) (inl o) a b = rw (ne-eqb y x m) (inl o)
+    go (inr m) (inr (inl h)) a b = rw (ne-eqb y x m) (inr (inl (a h)))
+    go (inr m) (inr (inr h)) a b = rw (ne-eqb y x m) (inr (inr (b h)))
+
+pub at-book : (x : ℕ) (d : Datum) (b : Booking) (i : ℕ) (e : Datum) (t : Tree) → Where x (Alone d) t
+    → (i ≡ x → ⊥) → At i e t → At i e (book x b t)
+at-book x d b i e t w n h =
+    rw book-is
+    (at-others x (booked b) (Alone d) i e (λ c k r z. z .1) (λ c r. at-second i e (block b c) r) n t w h)
+
+pub at-remove : (x n s i : ℕ) (e : Datum) (t : Tree) → At i e (cleared x t) → At i e (remove x n s t)
+unfolding settled
+at-remove x n s i e t h =
+    rw remove-is (at-more x left (settled n s) i e (λ d r. at-first i e (withoutLast r) _) t (rw cleared-is at h))
+
+-- what is no free piece, is not at x and is not below x, is left
+at-left : (stages : ℕ) (q : Datum) (i : ℕ) (e : Datum) (r : Tree) → Children stages q r → isFree (e .kind) ≡ false → At i e r
+    → At i e (withoutLast r)
+at-left stages q i e nil h f g = g
+at-left stages q i e (grow p d k r) h f g = go (isFree (d .kind)) refl g (at-left stages q i e r (h .3) f)
+  where
+    go : (b : Bool) → isFree (d .kind) ≡ b → At i e (grow p d k r) → (At i e r → At i e (withoutLast r)) → At i e (withoutLast (grow p d k r))
+    go true z (inl o) a = let same : e ≡ d = o .1 in let no : _≡_ {A = ℕ} 0 1 = cc in absurd (omega arith)
+    go true z (inr (inl o)) a = absurd (rw (free-kind (d .kind) d k r z (h .1) .childless) at o)
+    go true z (inr (inr o)) a = absurd (rw (free-kind (d .kind) d k r z (h .1) .last) at o)
+    go false z (inl o) a = rw z (inl o)
+    go false z (inr (inl o)) a = rw z (inr (inl o))
+    go false z (inr (inr o)) a = rw z (inr (inr (a o)))
+
+at-row : (stages x : ℕ) (q : Datum) (i : ℕ) (e : Datum) → isFree (e .kind) ≡ false → (i ≡ x → ⊥) → (t : Tree) → Children stages q t
+    → (Inside x i t → ⊥) → At i e t → At i e (cleared x t)
+at-row stages x q i e f n nil h m g = g
+at-row stages x q i e f n (grow y d k r) h m g =
+    go (same? y x) g (at-row stages x d i e f n k (h .2) (λ z. m (inr (inl z)))) (at-row stages x q i e f n r (h .3) (λ z. m (inr (inr z))))
+  where
+    go : (y ≡ x) ⊎ (y ≡ x → ⊥) → At i e (grow y d k r) → (At i e k → At i e (cleared x k)) → (At i e r → At i e (cleared x r))
+        → At i e (cleared x (grow y d k r))
+    go (inl z) (inl o) a b = absurd (n (o .0 ∙ z))
+    go (inl z) (inr (inl o)) a b = absurd (m (inl (sym z, at-in i e k o)))
+    go (inl z) (inr (inr o)) a b = rw (eq-eqb y x z) (at-left stages q i e r (h .3) f o)
+    go (inr z) (inl o) a b = rw (ne-eqb y x z) (inl o)
+    go (inr z) (inr (inl o)) a b = rw (ne-eqb y x z) (inr (inl (a o)))
+    go (inr z) (inr (inr o)) a b = rw (ne-eqb y x z) (inr (inr (b o)))
+
+pub at-cleared : (stages : ℕ) (sheet : Size) (x i : ℕ) (e : Datum) (t : Tree) → Topped stages sheet t → (x ≡ 0 → ⊥) → isFree (e .kind) ≡ false
+    → (i ≡ x → ⊥) → (Inside x i t → ⊥) → At i e t → At i e (cleared x t)
+at-cleared stages sheet x i e nil h b f n m g = g
+at-cleared stages sheet x i e (grow p d k r) h b f n m g = rw (ne-eqb p x (λ z. b (sym z ∙ h .0 .place))) (go g)
+  where
+    go : At i e (grow p d k r) → At i e (grow p d (cleared x k) (cleared x r))
+    go (inl o) = inl o
+    go (inr (inl o)) = inr (inl (at-row stages x d i e f n k (h .1) (λ z. m (inr (inl z))) o))
+    go (inr (inr o)) = absurd (rw (h .0 .alone) at o)

@@ -1,0 +1,55 @@
+-- Document 01, "Figures".
+use mathlib.Core.Bool.{Bool, true, false, cond}
+use Prim.Native.Nat.{ℕ, _+_}
+use lib.IntN.{pos}
+use lib.Ieee.{Float, binary64, ofBits, ofInt, add, mul, div}
+use Rattle.piece.specs.declared.node.Datum.{Datum}
+use Rattle.piece.specs.declared.node.Kind.{Kind}
+use Rattle.piece.specs.declared.node.Kind.the-variants.{Free, Part, Structure}
+use Rattle.piece.specs.Sides.{area}
+use Rattle.piece.specs.Row.{nil, grow}
+use Rattle.tree.specs.Tree.{Tree, isFree, isPart}
+
+-- the areas of the pieces of a kind, added up
+abbrev pub areaOf : (Kind → Bool) → Tree → ℕ
+areaOf f nil = 0
+areaOf f (grow p d k r) = cond (f (d .kind)) (area (d .size)) 0 + (areaOf f k + areaOf f r)
+
+-- "used area is the sum over parts"
+abbrev pub partArea : Tree → ℕ
+partArea t = areaOf isPart t
+
+-- "Free area is the sum of width times height over the free pieces, never what the parts leave over."
+abbrev pub freeArea : Tree → ℕ
+freeArea t = areaOf isFree t
+
+-- the f64 0 and 1, and a whole number as an f64
+abbrev pub nought : Float
+nought = ofBits binary64 0
+
+abbrev pub one : Float
+one = ofBits binary64 4607182418800017408
+
+abbrev pub whole : ℕ → Float
+whole n = ofInt binary64 (pos n)
+
+-- "Sheet usage is used area divided by sheet area, one f64 division"
+unfoldable pub sheetUsage : ℕ → ℕ → Float
+sheetUsage used sheet = div binary64 (whole used) (whole sheet)
+
+-- "Tree usage (004) is 1 for a part, 0 for a free piece, else .. divided by the node's area": what the children's gave is handed in
+abbrev pub usageOf : Kind → ℕ → Float → Float
+usageOf Free a s = nought
+usageOf Part a s = one
+usageOf Structure a s = div binary64 s (whole a)
+
+-- "the children's area times usage added in order from 0": from s, the row's
+unfoldable pub added : Float → Tree → Float
+added s nil = s
+added s (grow p d k r) =
+    added (add binary64 s (mul binary64 (whole (area (d .size))) (usageOf (d .kind) (area (d .size)) (added nought k)))) r
+
+-- the tree usage of the first piece of the row; nothing has none
+abbrev pub treeUsage : Tree → Float
+treeUsage nil = nought
+treeUsage (grow p d k r) = usageOf (d .kind) (area (d .size)) (added nought k)

@@ -1,0 +1,10 @@
+pub mod Tree
+pub mod Open
+pub mod Sound
+pub mod Snapshot
+pub mod Booking
+pub mod Removal
+pub mod Figures
+pub mod Apart
+pub mod Accepted
+pub mod Worked

@@ -1,0 +1,66 @@
+-- Document 01, "Removal": "Let P be the parent. If P's last child is free, that piece and the removed one are replaced by one free piece,
+-- widths added if P's cut is Vertical, heights if Horizontal. If not, the removed node becomes a free piece of its own size. The new piece goes
+-- last. Part numbers of the subtree come out in tree order, first child first."
+use mathlib.Core.Bool.{Bool, true, false, cond, _&&_}
+use mathlib.Core.List.{List, [], _∷_, _++_}
+use mathlib.Core.Option.{Option, none, some}
+use Prim.Native.Nat.{ℕ, _+_}
+use lib.Dec.{eqb}
+use Rattle.piece.specs.declared.size.Size.{Size}
+use Rattle.piece.specs.declared.node.Datum.{Datum}
+use Rattle.piece.specs.declared.node.Kind.{Kind}
+use Rattle.piece.specs.declared.node.Kind.the-variants.{Free, Part, Structure}
+use Rattle.piece.specs.Sides.{sized, laid}
+use Rattle.piece.specs.Row.{Row, nil, grow}
+use Rattle.tree.specs.Tree.{Tree, isFree, isPart, isNil, after}
+
+-- the free piece with this serial that stands where d stood, of this size
+abbrev pub freed : ℕ → Datum → Size → Datum
+freed s d size = record { serial = s; size = size; number = 0; level = d .level; kind = Free; cut = d .cut }
+
+-- two pieces of a row as one: the sides that their parent's cut divides are added
+unfoldable pub joined : Datum → Datum → Size
+joined d e =
+    laid (d .cut) (sized (laid (d .cut) (d .size) .width + laid (d .cut) (e .size) .width) (laid (d .cut) (d .size) .height))
+
+-- the board of d, with the free piece of its row if there is one
+abbrev pub board : Datum → Option Datum → Size
+board d none = d .size
+board d (some e) = joined d e
+
+-- the last piece of a row, if it is free; and the row without it
+abbrev pub lastFree : Tree → Option Datum
+lastFree nil = none
+lastFree (grow p d k r) = cond (isFree (d .kind) && isNil r) (some d) (lastFree r)
+
+abbrev pub withoutLast : Tree → Tree
+withoutLast nil = nil
+withoutLast (grow p d k r) = cond (isFree (d .kind) && isNil r) nil (grow p d k (withoutLast r))
+
+-- the later siblings r of the piece d that goes; the new piece has the place n and the serial s
+unfoldable pub settled : ℕ → ℕ → Datum → Tree → Tree
+settled n s d r = after (withoutLast r) (grow n (freed s d (board d (lastFree r))) nil nil)
+
+-- the piece x goes
+abbrev pub remove : ℕ → ℕ → ℕ → Tree → Tree
+remove x n s nil = nil
+remove x n s (grow y d k r) = cond (eqb y x) (settled n s d r) (grow y d (remove x n s k) (remove x n s r))
+
+-- what is left of the tree before the new piece is there: x with all below it, and the free piece at the end of its row, are gone
+abbrev pub cleared : ℕ → Tree → Tree
+cleared x nil = nil
+cleared x (grow y d k r) = cond (eqb y x) (withoutLast r) (grow y d (cleared x k) (cleared x r))
+
+-- the piece x with all below it
+abbrev pub subtree : ℕ → Tree → Tree
+subtree x nil = nil
+subtree x (grow y d k r) = cond (eqb y x) (grow y d k nil) (after (subtree x k) (subtree x r))
+
+-- the part numbers of a row in tree order
+abbrev pub numbers : Tree → List ℕ
+numbers nil = []
+numbers (grow p d k r) = cond (isPart (d .kind)) (d .number ∷ (numbers k ++ numbers r)) (numbers k ++ numbers r)
+
+-- the part numbers that come out with x
+abbrev pub removed : ℕ → Tree → List ℕ
+removed x t = numbers (subtree x t)

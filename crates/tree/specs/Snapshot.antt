@@ -1,0 +1,49 @@
+-- Document 01, "Tree snapshot": "each node before its children's subtrees, these in order, 13 bytes each: level, kind (0 free, 1 part,
+-- 2 structure), cut (0 Horizontal, 1 Vertical), part number 2, width 4, height 4, highest byte first"; and "Same tree": the snapshots "agree in
+-- every byte".
+use mathlib.Core.Path.{_≡_}
+use mathlib.Core.List.{List, [], _∷_, _++_}
+use Prim.Native.Nat.{ℕ, _/_, _%_}
+use Rattle.piece.specs.declared.orientation.Orientation.{Orientation}
+use Rattle.piece.specs.declared.orientation.Orientation.the-variants.{Horizontal, Vertical}
+use Rattle.piece.specs.declared.node.Datum.{Datum}
+use Rattle.piece.specs.declared.node.Kind.{Kind}
+use Rattle.piece.specs.declared.node.Kind.the-variants.{Free, Part, Structure}
+use Rattle.piece.specs.Row.{nil, grow}
+use Rattle.tree.specs.Tree.{Tree}
+
+abbrev pub kindNo : Kind → ℕ
+kindNo Free = 0
+kindNo Part = 1
+kindNo Structure = 2
+
+abbrev pub cutNo : Orientation → ℕ
+cutNo Horizontal = 0
+cutNo Vertical = 1
+
+-- two and four bytes, highest first, before the others
+abbrev pub two : ℕ → List ℕ → List ℕ
+two v r = v / 256 % 256 ∷ v % 256 ∷ r
+
+abbrev pub four : ℕ → List ℕ → List ℕ
+four v r = v / 16777216 % 256 ∷ v / 65536 % 256 ∷ two v r
+
+unfoldable pub nodeBytes : Datum → List ℕ → List ℕ
+nodeBytes d r =
+    d .level ∷ kindNo (d .kind) ∷ cutNo (d .cut) ∷ two (d .number) (four (d .size .width) (four (d .size .height) r))
+
+unfoldable pub snapshot : Tree → List ℕ
+snapshot nil = []
+snapshot (grow p d k r) = nodeBytes d (snapshot k ++ snapshot r)
+
+pub record Same (t u : Tree) : Type 0 where
+  pub bytes : snapshot t ≡ snapshot u
+
+-- the tree without places and serials
+abbrev pub bare : Datum → Datum
+bare d =
+    record { serial = 0; size = d .size; number = d .number; level = d .level; kind = d .kind; cut = d .cut }
+
+abbrev pub shape : Tree → Tree
+shape nil = nil
+shape (grow p d k r) = grow 0 (bare d) (shape k) (shape r)

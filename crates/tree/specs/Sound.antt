@@ -1,0 +1,99 @@
+-- Document 01, "Sound layout", as far as a tree can say it. Each clause is a named field.
+use mathlib.Core.Path.{_≡_}
+use Prim.Native.Nat.{ℕ, _+_, _≤_, _<_}
+use Rattle.piece.specs.declared.size.Size.{Size}
+use Rattle.piece.specs.declared.orientation.Orientation.{Orientation}
+use Rattle.piece.specs.declared.node.Datum.{Datum}
+use Rattle.piece.specs.declared.node.Kind.{Kind}
+use Rattle.piece.specs.declared.node.Kind.the-variants.{Free, Part, Structure}
+use Rattle.piece.specs.Sides.{other, laid}
+use Rattle.piece.specs.Row.{nil, grow}
+use Rattle.tree.specs.Tree.{Tree, In, Distinct, count}
+
+-- "sheet and part sides 1..67,108,863", "stages 1..254", "part numbers 0..65,535"
+abbrev pub maxSide : ℕ
+maxSide = 67108863
+
+abbrev pub maxStages : ℕ
+maxStages = 254
+
+abbrev pub maxNumber : ℕ
+maxNumber = 65535
+
+-- "sheet sides, stages and numbers are in the domain"
+pub record Domain (stages : ℕ) (sheet : Size) : Type 0 where
+  pub wide : 1 ≤ sheet .width
+  pub tall : 1 ≤ sheet .height
+  pub width : sheet .width ≤ maxSide
+  pub height : sheet .height ≤ maxSide
+  pub least : 1 ≤ stages
+  pub most : stages ≤ maxStages
+
+-- the pieces of a row have the cut c; their parent's cut, the other one, divides this side, whose parts add up
+abbrev pub extent : Orientation → Tree → ℕ
+extent c nil = 0
+extent c (grow p d k r) = laid c (d .size) .width + extent c r
+
+-- "parts and structures have sides of at least 1"
+pub record Sided (s : Size) : Type 0 where
+  pub wide : 1 ≤ s .width
+  pub tall : 1 ≤ s .height
+
+-- "a parent has at most one free child, and it is last"; "the part number of a non-part [is] zero"
+pub record FreePiece (d : Datum) (k r : Tree) : Type 0 where
+  pub childless : k ≡ nil
+  pub last : r ≡ nil
+  pub unnumbered : d .number ≡ 0
+
+pub record PartPiece (d : Datum) (k : Tree) : Type 0 where
+  pub childless : k ≡ nil
+  pub sided : Sided (d .size)
+  pub numbered : d .number ≤ maxNumber
+
+-- "under a Vertical cut .. their widths add to its width, under a Horizontal cut the reverse"
+pub record StructurePiece (d : Datum) (k : Tree) : Type 0 where
+  pub parent : k ≡ nil → ⊥
+  pub sided : Sided (d .size)
+  pub filled : extent (other (d .cut)) k ≡ laid (other (d .cut)) (d .size) .width
+  pub unnumbered : d .number ≡ 0
+
+-- a piece of this kind, with its children and its later siblings
+abbrev pub Kinded : Kind → Datum → Tree → Tree → Type 0
+Kinded Free d k r = FreePiece d k r
+Kinded Part d k r = PartPiece d k
+Kinded Structure d k r = StructurePiece d k
+
+-- "a child's level is its parent's plus 1 and at most the stages; a child's cut is the other one; under a Vertical cut children have the
+-- parent's height .., under a Horizontal cut the reverse"
+pub record Child (stages : ℕ) (q d : Datum) : Type 0 where
+  pub level : d .level ≡ q .level + 1
+  pub stage : d .level ≤ stages
+  pub cut : d .cut ≡ other (q .cut)
+  pub side : laid (d .cut) (d .size) .height ≡ laid (d .cut) (q .size) .height
+
+-- a row of children of q, and so below
+abbrev pub Children : ℕ → Datum → Tree → Type 0
+Children stages q nil = Unit {0}
+Children stages q (grow p d k r) =
+    Child stages q d × Kinded (d .kind) d k r × Children stages d k × Children stages q r
+
+-- "the top is at place 0 and level 0, is no part, has the sheet's size and at least one child"
+pub record Top (sheet : Size) (p : ℕ) (d : Datum) (k r : Tree) : Type 0 where
+  pub place : p ≡ 0
+  pub alone : r ≡ nil
+  pub level : d .level ≡ 0
+  pub kind : d .kind ≡ Structure
+  pub size : d .size ≡ sheet
+  pub piece : StructurePiece d k
+
+abbrev pub Topped : ℕ → Size → Tree → Type 0
+Topped stages sheet nil = ⊥
+Topped stages sheet (grow p d k r) = Top sheet p d k r × Children stages d k
+
+-- the limit is document 01's 255 today: "2..255 nodes", places below it
+pub record Sound (limit stages : ℕ) (sheet : Size) (t : Tree) : Type 0 where
+  pub domain : Domain stages sheet
+  pub topped : Topped stages sheet t
+  pub room : count t ≤ limit
+  pub placed : (i : ℕ) → In i t → i < limit
+  pub distinct : Distinct t

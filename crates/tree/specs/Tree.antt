@@ -1,0 +1,63 @@
+-- Document 01, "The sheet and its pieces": a tree of pieces, as a row. A piece stands at a place and is what its datum says: level, size,
+-- next cut, kind, part number and serial; its children are ordered.
+use mathlib.Core.Path.{_≡_}
+use mathlib.Core.Bool.{Bool, true, false}
+use mathlib.Core.Logic.{_⊎_}
+use Prim.Native.Nat.{ℕ, _+_}
+use Rattle.piece.specs.declared.node.Datum.{Datum}
+use Rattle.piece.specs.declared.node.Kind.{Kind}
+use Rattle.piece.specs.declared.node.Kind.the-variants.{Free, Part, Structure}
+use Rattle.piece.specs.Row.{Row, nil, grow}
+
+abbrev pub Tree : Type 0
+Tree = Row Datum
+
+abbrev pub isFree : Kind → Bool
+isFree Free = true
+isFree Part = false
+isFree Structure = false
+
+abbrev pub isPart : Kind → Bool
+isPart Free = false
+isPart Part = true
+isPart Structure = false
+
+abbrev pub isStructure : Kind → Bool
+isStructure Free = false
+isStructure Part = false
+isStructure Structure = true
+
+abbrev pub isNil : {A : Type 0} → Row A → Bool
+isNil nil = true
+isNil (grow p d k r) = false
+
+-- the nodes of a row and below it
+abbrev pub count : {A : Type 0} → Row A → ℕ
+count nil = 0
+count (grow p d k r) = 1 + (count k + count r)
+
+-- a place is in the row or below it
+abbrev pub In : {A : Type 0} → ℕ → Row A → Type 0
+In i nil = ⊥
+In i (grow p d k r) = (i ≡ p) ⊎ (In i k ⊎ In i r)
+
+-- the piece at the place is this one
+abbrev pub At : ℕ → Datum → Tree → Type 0
+At i e nil = ⊥
+At i e (grow p d k r) = ((i ≡ p) × (e ≡ d)) ⊎ (At i e k ⊎ At i e r)
+
+-- the place i is in the subtree of the piece at x, below it
+abbrev pub Inside : ℕ → ℕ → Tree → Type 0
+Inside x i nil = ⊥
+Inside x i (grow p d k r) = ((x ≡ p) × In i k) ⊎ (Inside x i k ⊎ Inside x i r)
+
+-- no place is held twice
+abbrev pub Distinct : {A : Type 0} → Row A → Type 0
+Distinct nil = Unit {0}
+Distinct (grow p d k r) =
+    (In p k → ⊥) × (In p r → ⊥) × ((i : ℕ) → In i k → In i r → ⊥) × Distinct k × Distinct r
+
+-- one row after the other
+abbrev pub after : {A : Type 0} → Row A → Row A → Row A
+after nil b = b
+after (grow p d k r) b = grow p d k (after r b)

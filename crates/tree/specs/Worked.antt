@@ -1,0 +1,111 @@
+-- Document 01, "Sheet 100 x 60, first cut Vertical": what the definitions give in the cases a to k, and what the paper says. The parts are in
+-- rotation Default. (The removable lists of a and i are not the tree's: they stand with the lists.)
+use mathlib.Core.List.{List, [], _∷_}
+use Prim.Native.Nat.{ℕ, _+_}
+use lib.Ieee.{Float}
+use Rattle.piece.specs.declared.orientation.Orientation.{Orientation}
+use Rattle.piece.specs.declared.orientation.Orientation.the-variants.{Horizontal, Vertical}
+use Rattle.piece.specs.declared.rotation.Rotation.the-variants.{Default, Rotated}
+use Rattle.piece.specs.declared.parttype.Turn.the-variants.{Either, Fixed}
+use Rattle.piece.specs.declared.parttype.PartType.{PartType}
+use Rattle.piece.specs.declared.size.Size.{Size}
+use Rattle.piece.specs.declared.node.Datum.{Datum}
+use Rattle.piece.specs.declared.node.Kind.{Kind}
+use Rattle.piece.specs.declared.node.Kind.the-variants.{Free, Part, Structure}
+use Rattle.piece.specs.declared.insertion_blueprint.InsertionShape.{InsertionShape}
+use Rattle.piece.specs.declared.insertion_blueprint.InsertionShape.the-variants.{AlongCurrentCut, AcrossCurrentCut, AlongThenAcross, AcrossThenAlong}
+use Rattle.piece.specs.declared.insertion_option.Offer.{Offer}
+use Rattle.piece.specs.Sides.{sized, area}
+use Rattle.piece.specs.Row.{nil, grow}
+use Rattle.piece.specs.Offers.{offer, offersOf}
+use Rattle.tree.specs.Tree.{Tree}
+use Rattle.tree.specs.Open.{opened, firstFree}
+use Rattle.tree.specs.Snapshot.{shape}
+use Rattle.tree.specs.Booking.{Booking, book}
+use Rattle.tree.specs.Removal.{remove}
+use Rattle.tree.specs.Figures.{partArea, sheetUsage, one}
+
+-- what a case asks for: the offers, or the tree without its marks and the sheet's usage
+pub data Answer : Type 0 where
+  offered : List Offer → Answer
+  stands : Tree → Answer
+  used : Float → Answer
+
+abbrev pub sheet : Size
+sheet = sized 100 60
+
+abbrev pub start : Tree
+start = opened Vertical sheet
+
+-- the part, number 7, w x h
+abbrev pub part : ℕ → ℕ → PartType
+part w h = record { number = 7; size = sized w h; turn = Fixed Default }
+
+abbrev pub offers : ℕ → ℕ → ℕ → Answer
+offers w h stages = offered (offersOf (firstFree Vertical sheet) (part w h) stages)
+
+-- the part booked in the free piece, at place 1, which is the lowest that is then unheld
+abbrev pub booked : InsertionShape → ℕ → ℕ → Tree
+booked s w h = book 1 (record { shape = s; size = sized w h; number = 7; place = λ i. i + 1; serial = 3 }) start
+
+unfoldable pub computed : List Answer
+computed =
+    offers 40 60 3
+    ∷ offers 40 30 3
+    ∷ offers 40 30 2
+    ∷ offers 40 30 1
+    ∷ offers 100 20 2
+    ∷ offers 100 20 1
+    ∷ stands (shape (booked AlongCurrentCut 100 60))
+    ∷ used (sheetUsage (partArea (booked AlongCurrentCut 100 60)) (area sheet))
+    ∷ offers 101 60 3
+    ∷ stands (shape (booked AlongThenAcross 40 30))
+    ∷ stands (shape (remove 1 1 5 (booked AlongCurrentCut 40 60)))
+    ∷ stands (shape (remove 2 2 6 (booked AcrossCurrentCut 100 20)))
+    ∷ []
+
+-- the paper's side of the table
+
+abbrev pub only : InsertionShape → Answer
+only s = offered (offer Default s ∷ [])
+
+-- a piece of the tree without its marks
+abbrev pub bit : Kind → ℕ → Orientation → ℕ → ℕ → Tree → Tree → Tree
+bit Part level c w h k r =
+    grow 0 (record { serial = 0; size = sized w h; number = 7; level = level; kind = Part; cut = c }) k r
+bit Free level c w h k r =
+    grow 0 (record { serial = 0; size = sized w h; number = 0; level = level; kind = Free; cut = c }) k r
+bit Structure level c w h k r =
+    grow 0 (record { serial = 0; size = sized w h; number = 0; level = level; kind = Structure; cut = c }) k r
+
+abbrev pub topOver : Tree → Answer
+topOver k = stands (bit Structure 0 Vertical 100 60 k nil)
+
+unfoldable pub paper : List Answer
+paper =
+    -- a. 40 x 60: AlongCurrentCut
+    only AlongCurrentCut
+    -- b. 40 x 30: both two-step shapes
+    ∷ offered (offer Default AlongThenAcross ∷ offer Default AcrossThenAlong ∷ [])
+    -- c. the same, stages 2: AlongThenAcross only
+    ∷ only AlongThenAcross
+    -- d. the same, stages 1: none
+    ∷ offered []
+    -- e. 100 x 20, stages 2: AcrossCurrentCut
+    ∷ only AcrossCurrentCut
+    -- f. the same, stages 1: none
+    ∷ offered []
+    -- g. 100 x 60: free piece 0 x 60, usage 1
+    ∷ topOver (bit Part 1 Horizontal 100 60 nil (bit Free 1 Horizontal 0 60 nil nil))
+    ∷ used one
+    -- h. 101 x 60: none
+    ∷ offered []
+    -- i. b by AlongThenAcross
+    ∷ topOver
+    (bit Structure 1 Horizontal 40 60 (bit Part 2 Vertical 40 30 nil (bit Free 2 Vertical 40 30 nil nil))
+    (bit Free 1 Horizontal 60 60 nil nil))
+    -- j. a, then the part removed: the opening tree
+    ∷ stands (shape start)
+    -- k. e, then the part removed: structure with one free 100 x 60 child at level 2
+    ∷ topOver (bit Structure 1 Horizontal 100 60 (bit Free 2 Vertical 100 60 nil nil) nil)
+    ∷ []

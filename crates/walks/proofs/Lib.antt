@@ -1,0 +1,5 @@
+mod Chain
+mod Written
+mod OrderSteps
+mod UsageSteps
+pub mod Meaning

@@ -1,0 +1,253 @@
+-- What the walks give on the columns of a table that holds a tree: document 01's orders and its tree usage. The laws stand at the end. They
+-- rest on the steps of the two walks (Chain, OrderSteps, UsageSteps), on what `table` says of a table that holds a row (Rep, Holds), and on
+-- what `tree` says of rows. Assumes nothing.
+use mathlib.Core.Path.{_≡_, refl, sym, ap, _∙_, subst}
+use mathlib.Core.List.{List, [], _∷_, _++_, map, append-nil}
+use mathlib.Core.Bool.{Bool, true, false, not}
+use mathlib.Core.Logic.{_⊎_, inl, inr}
+use Prim.Native.Nat.{ℕ, _-_, _^_, _<_, _≤_}
+use native.Mathlib.Nat.{le-refl}
+use native.Mathlib.Omega.{arith}
+use lib.ListN.{length, getD, length-append, List·getD-map}
+use lib.Ieee.{Float, binary64, add, mul, div}
+use borrow.Author.Tests.{eq-eqb, ne-eqb}
+use Rattle.piece.specs.declared.node.Datum.{Datum}
+use Rattle.piece.specs.declared.node.Kind.{Kind}
+use Rattle.piece.specs.declared.node.Kind.the-variants.{Free, Part, Structure}
+use Rattle.piece.specs.Sides.{area}
+use Rattle.piece.specs.Row.{Row, nil, grow}
+use Rattle.tree.specs.Tree.{Tree, In, Distinct, count}
+use Rattle.tree.specs.Removal.{subtree}
+use Rattle.tree.specs.Snapshot.{kindNo}
+use Rattle.tree.specs.Figures.{nought, whole, added, treeUsage}
+use Rattle.tree.specs.Figures as figures
+use Rattle.tree.proofs.Rows.{same?, after-nil}
+use Rattle.table.specs.declared.Node.{Node}
+use Rattle.table.specs.Table.{zeroNode, at, head, Rep, Holds}
+use Rattle.walks.specs.Chain.{siblings}
+use Rattle.walks.specs.Order.{own, gathered, preorder, childrenFirst, inOrder}
+use Rattle.walks.specs.Usage.{Small, weight, summed, usageOf}
+use Rattle.walks.specs.Columns.{firstsOf, nextsOf, kindsOf, areasOf, orderIn, usageIn}
+use Rattle.walks.proofs.Chain.{siblings-over, siblings-more}
+use Rattle.walks.proofs.OrderSteps.{order-more}
+use Rattle.walks.proofs.UsageSteps.{sum, usage-free, usage-part, usage-more}
+
+-- the places of a row alone
+abbrev tops : {A : Type 0} → Row A → List ℕ
+tops nil = []
+tops (grow p d k r) = p ∷ tops r
+
+-- either order has each node once
+pub length-order : {A : Type 0} (b : Bool) (r : Row A) → length (inOrder b r) ≡ count r
+length-order true nil = refl
+length-order false nil = refl
+length-order true (grow p d k r) =
+    let hk = length-order true k in
+    let hr = length-order true r in
+    omega (arith, length-append (preorder k) (preorder r))
+length-order false (grow p d k r) =
+    let hk = length-order false k in
+    let hr = length-order false r in
+    omega (arith, length-append (childrenFirst k ++ (p ∷ [])) (childrenFirst r), length-append (childrenFirst k) (p ∷ []))
+
+-- a piece by itself: its place around those of its children
+alone : {A : Type 0} (b : Bool) (p : ℕ) (d : A) (k : Row A)
+    → own b p ++ (inOrder b k ++ own (not b) p) ≡ inOrder b (grow p d k nil)
+alone true p d k = refl
+alone false p d k = sym (append-nil (childrenFirst k ++ (p ∷ [])))
+
+-- and before its later siblings
+joined : {A : Type 0} (b : Bool) (p : ℕ) (d : A) (k r : Row A) → inOrder b (grow p d k nil) ++ inOrder b r ≡ inOrder b (grow p d k r)
+joined true p d k r = ap (λ (z : List ℕ). p ∷ (z ++ preorder r)) (append-nil (preorder k))
+joined false p d k r = ap (λ (z : List ℕ). z ++ childrenFirst r) (append-nil (childrenFirst k ++ (p ∷ [])))
+
+-- what the walks read of a piece in the columns of the table
+record Piece (limit : ℕ) (t : List Node) (p : ℕ) (d : Datum) (k r : Tree) : Type 0 where
+  placed : p < limit
+  first : getD (firstsOf t) p 0 ≡ head limit k
+  next : getD (nextsOf t) p 0 ≡ head limit r
+  kind : getD (kindsOf t) p 0 ≡ kindNo (d .kind)
+  covers : getD (areasOf t) p 0 ≡ area (d .size)
+
+-- of each piece of a row and below it
+abbrev Shown : ℕ → List Node → Tree → Type 0
+Shown limit t nil = Unit {0}
+Shown limit t (grow p d k r) = Piece limit t p d k r × Shown limit t k × Shown limit t r
+
+-- a column at a place is that field of the node there
+column : (f : Node → ℕ) (t : List Node) (p : ℕ) (n : Node) → at t p ≡ n → getD (map f t) p (f zeroNode) ≡ f n
+column f t p n e = List·getD-map f t p zeroNode ∙ ap f e
+
+-- a table that holds a row shows it
+shown : (limit : ℕ) (t : List Node) (q pv : ℕ) (r : Tree) → Rep limit t q pv r → Shown limit t r
+shown limit t q pv nil e = e
+shown limit t q pv (grow p d k r) e = (
+  record {
+    placed = e .0;
+    first = column (λ (n : Node). n .first) t p _ (e .1);
+    next = column (λ (n : Node). n .next) t p _ (e .1);
+    kind = column (λ (n : Node). kindNo (n .datum .kind)) t p _ (e .1);
+    covers = column (λ (n : Node). area (n .datum .size)) t p _ (e .1);
+  },
+  shown limit t p limit k (e .2),
+  shown limit t q p r (e .3),
+)
+
+module _ (limit : ℕ) (t : List Node) where
+  -- what both walks share: the chain of siblings is the row, if the fuel reaches
+  chain : (r : Tree) (m : ℕ) → Shown limit t r → count r ≤ m → siblings limit (nextsOf t) m (head limit r) ≡ tops r
+  chain nil m e h = siblings-over limit (nextsOf t) limit m (le-refl limit)
+  chain (grow p d k r) m e h =
+      siblings-more limit (nextsOf t) p m (omega arith) (e .0 .placed)
+      ∙ ap (λ (c : ℕ). p ∷ siblings limit (nextsOf t) (m - 1) c) (e .0 .next)
+      ∙ ap (λ (l : List ℕ). p ∷ l) (chain r (m - 1) (e .2) (omega arith))
+
+  -- the children of a piece
+  children : {p : ℕ} {d : Datum} {k r : Tree} (m : ℕ) → Piece limit t p d k r → Shown limit t k → count k ≤ m
+      → siblings limit (nextsOf t) m (getD (firstsOf t) p 0) ≡ tops k
+  children {k = k} m e f h = ap (siblings limit (nextsOf t) m) (e .first) ∙ chain k m f h
+
+  -- the order of a piece, from that of its children
+  order-of : (b : Bool) {p : ℕ} {d : Datum} {k r : Tree} (n : ℕ) → Piece limit t p d k r → Shown limit t k → count k < n
+      → gathered (orderIn limit b t (n - 1)) (tops k) ≡ inOrder b k
+      → orderIn limit b t n p ≡ inOrder b (grow p d k nil)
+  order-of b {p = p} {d = d} {k = k} n e f h g =
+      order-more limit b (firstsOf t) (nextsOf t) n p (λ z. omega arith)
+      ∙ ap (λ (l : List ℕ). own b p ++ (gathered (orderIn limit b t (n - 1)) l ++ own (not b) p)) (children (n - 1) e f (omega arith))
+      ∙ ap (λ (l : List ℕ). own b p ++ (l ++ own (not b) p)) g
+      ∙ alone b p d k
+
+  -- the orders of the pieces of a row
+  order-row : (b : Bool) (r : Tree) (n : ℕ) → Shown limit t r → count r ≤ n → gathered (orderIn limit b t n) (tops r) ≡ inOrder b r
+  order-row true nil n e h = refl
+  order-row false nil n e h = refl
+  order-row b (grow p d k r) n e h =
+      ap (λ (l : List ℕ). l ++ gathered (orderIn limit b t n) (tops r))
+      (order-of b n (e .0) (e .1) (omega arith) (order-row b k (n - 1) (e .1) (omega arith)))
+      ∙ ap (λ (l : List ℕ). inOrder b (grow p d k nil) ++ l) (order-row b r n (e .2) (omega arith))
+      ∙ joined b p d k r
+
+  -- the usage of a place by its kind, from its area and its children's sum
+  by-kind : (n p : ℕ) (c : Kind) (a : ℕ) (s : Float) → (n ≡ 0 → ⊥) → getD (kindsOf t) p 0 ≡ kindNo c → getD (areasOf t) p 0 ≡ a
+      → sum limit (firstsOf t) (nextsOf t) (kindsOf t) (areasOf t) n (n - 1) (getD (firstsOf t) p 0) nought ≡ s
+      → usageIn limit t n p ≡ figures.usageOf c a s
+  by-kind n p Free a s some e f g = usage-free limit (firstsOf t) (nextsOf t) (kindsOf t) (areasOf t) n p some e
+  by-kind n p Part a s some e f g = usage-part limit (firstsOf t) (nextsOf t) (kindsOf t) (areasOf t) n p some e
+  by-kind n p Structure a s some e f g =
+      usage-more limit (firstsOf t) (nextsOf t) (kindsOf t) (areasOf t) n p some (λ z. omega arith) (λ z. omega arith)
+      ∙ ap (λ (u : Float). div binary64 u (weight (areasOf t) p)) g
+      ∙ ap (λ (b : ℕ). div binary64 s (whole b)) f
+
+  -- the usage of a piece, from what its children add
+  usage-of : {p : ℕ} {d : Datum} {k r : Tree} (n : ℕ) → Piece limit t p d k r → Shown limit t k → count k < n
+      → summed (usageIn limit t (n - 1)) (areasOf t) (tops k) nought ≡ added nought k
+      → usageIn limit t n p ≡ treeUsage (grow p d k nil)
+  usage-of {p = p} {d = d} {k = k} n e f h g =
+      by-kind n p (d .kind) (area (d .size)) (added nought k) (λ z. omega arith) (e .kind) (e .covers)
+      (ap
+      (λ (l : List ℕ). summed (usageIn limit t (n - 1)) (areasOf t) l nought)
+      (children (n - 1) e f (omega arith))
+      ∙ g)
+
+  -- what a row adds to s
+  usage-row : (r : Tree) (n : ℕ) → Shown limit t r → count r ≤ n → (s : Float)
+      → summed (usageIn limit t n) (areasOf t) (tops r) s ≡ added s r
+  unfolding added
+  usage-row nil n e h s = refl
+  usage-row (grow p d k r) n e h s =
+      ap
+      (λ (z : Float). summed (usageIn limit t n) (areasOf t) (tops r) (add binary64 s z))
+      (ap
+      (λ (a : ℕ). mul binary64 (whole a) (usageIn limit t n p))
+      (e .0 .covers)
+      ∙ ap (mul binary64 (whole (area (d .size))))
+      (usage-of n (e .0) (e .1) (omega arith) (usage-row k (n - 1) (e .1) (omega arith) nought)))
+      ∙ usage-row r n (e .2) (omega arith) _
+
+  -- the two walks at a piece
+  order-at : (b : Bool) {p : ℕ} {d : Datum} {k r : Tree} (n : ℕ) → Piece limit t p d k r → Shown limit t k → count k < n
+      → orderIn limit b t n p ≡ inOrder b (grow p d k nil)
+  order-at b {k = k} n e f h = order-of b n e f h (order-row b k (n - 1) f (omega arith))
+
+  usage-at : {p : ℕ} {d : Datum} {k r : Tree} (n : ℕ) → Piece limit t p d k r → Shown limit t k → count k < n
+      → usageIn limit t n p ≡ treeUsage (grow p d k nil)
+  usage-at {k = k} n e f h = usage-of n e f h (usage-row k (n - 1) f (omega arith) nought)
+
+-- no piece at x
+nowhere : (x : ℕ) (w : Tree) → (In x w → ⊥) → subtree x w ≡ nil
+nowhere x nil out = refl
+nowhere x (grow p d k r) out =
+    rw
+    (ne-eqb p x (λ e. out (inl (sym e))), nowhere x k (λ i. out (inr (inl i))), nowhere x r (λ i. out (inr (inr i))))
+
+-- at a place of a tree in which no place is twice: what holds of each piece that the columns show holds of the subtree there
+module _ (limit : ℕ) (t : List Node) (x n : ℕ) (P : Tree → Type 0)
+    (each : (d : Datum) (k r : Tree) → Piece limit t x d k r → Shown limit t k → count k < n → P (grow x d k nil)) where
+  pick : (p : ℕ) (d : Datum) (k r : Tree) → Distinct (grow p d k r) → Shown limit t (grow p d k r) → count (grow p d k r) ≤ n
+      → (p ≡ x) ⊎ (p ≡ x → ⊥) → In x (grow p d k r) → (In x k → P (subtree x k)) → (In x r → P (subtree x r))
+      → P (subtree x (grow p d k r))
+  pick p d k r ds e h (inl z) i a b =
+      rw
+      (eq-eqb p x z, z)
+      (each d k r (subst (λ (y : ℕ). Piece limit t y d k r) z (e .0)) (e .1) (omega arith))
+  pick p d k r ds e h (inr z) (inl y) a b = absurd (z (sym y))
+  pick p d k r ds e h (inr z) (inr (inl y)) a b = rw (ne-eqb p x z, nowhere x r (ds .2 x y), after-nil) (a y)
+  pick p d k r ds e h (inr z) (inr (inr y)) a b = rw (ne-eqb p x z, nowhere x k (λ o. ds .2 x o y)) (b y)
+
+  at-place : (w : Tree) → Distinct w → In x w → Shown limit t w → count w ≤ n → P (subtree x w)
+  at-place nil ds i e h = absurd i
+  at-place (grow p d k r) ds i e h =
+      pick p d k r ds e h (same? p x) i
+      (λ y. at-place k (ds .3) y (e .1) (omega arith))
+      (λ y. at-place r (ds .4) y (e .2) (omega arith))
+
+-- The laws. `left` is the fuel: the count of nodes held is enough. `b` says whether the own place comes first (`preorder`, for a snapshot) or
+-- last (`childrenFirst`, for a removal).
+module _ (limit : ℕ) (t : List Node) where
+  -- of a piece in any row that the table holds
+  pub order-piece : (b : Bool) (q pv x : ℕ) (d : Datum) (k r : Tree) (left : ℕ) → Rep limit t q pv (grow x d k r) → count k < left
+      → orderIn limit b t left x ≡ inOrder b (grow x d k nil)
+  order-piece b q pv x d k r left e h =
+      let s = shown limit t q pv (grow x d k r) e in
+      order-at limit t b left (s .0) (s .1) h
+
+  pub usage-piece : (q pv x : ℕ) (d : Datum) (k r : Tree) (left : ℕ) → Rep limit t q pv (grow x d k r) → count k < left
+      → usageIn limit t left x ≡ treeUsage (grow x d k nil)
+  usage-piece q pv x d k r left e h =
+      let s = shown limit t q pv (grow x d k r) e in
+      usage-at limit t left (s .0) (s .1) h
+
+  -- of the top of the tree that the table holds
+  pub order-top : (b : Bool) (p : ℕ) (d : Datum) (k : Tree) (left : ℕ) → Holds limit t (grow p d k nil) → count (grow p d k nil) ≤ left
+      → orderIn limit b t left p ≡ inOrder b (grow p d k nil)
+  order-top b p d k left w h = order-piece b limit limit p d k nil left (w .rep) (omega arith)
+
+  pub usage-top : (p : ℕ) (d : Datum) (k : Tree) (left : ℕ) → Holds limit t (grow p d k nil) → count (grow p d k nil) ≤ left
+      → usageIn limit t left p ≡ treeUsage (grow p d k nil)
+  usage-top p d k left w h = usage-piece limit limit p d k nil left (w .rep) (omega arith)
+
+  -- of any place of the tree that the table holds
+  module _ (w : Tree) (x left : ℕ) (holds : Holds limit t w) (is : In x w) (fuel : count w ≤ left) where
+    pub order-subtree : (b : Bool) → orderIn limit b t left x ≡ inOrder b (subtree x w)
+    order-subtree b =
+        at-place limit t x left (λ (u : Tree). orderIn limit b t left x ≡ inOrder b u)
+        (λ d k r e f h. order-at limit t b left e f h)
+        w (holds .distinct) is (shown limit t limit limit w (holds .rep)) fuel
+
+    pub usage-subtree : usageIn limit t left x ≡ treeUsage (subtree x w)
+    usage-subtree =
+        at-place limit t x left (λ (u : Tree). usageIn limit t left x ≡ treeUsage u)
+        (λ d k r e f h. usage-at limit t left e f h)
+        w (holds .distinct) is (shown limit t limit limit w (holds .rep)) fuel
+
+    -- the room that an order takes
+    pub order-room : (b : Bool) → length (orderIn limit b t left x) ≤ count w
+    order-room b =
+        rw (order-subtree b, length-order b)
+        (at-place limit t x (count w) (λ (u : Tree). count u ≤ count w)
+        (λ d k r e f h. omega arith)
+        w (holds .distinct) is (shown limit t limit limit w (holds .rep)) (le-refl (count w)))
+
+  -- what `usage_of` asks of the areas
+  pub small : ((i : ℕ) → area (at t i .datum .size) < 2 ^ 52) → Small (areasOf t)
+  small h i = rw (column (λ (n : Node). area (n .datum .size)) t i (at t i) refl) (h i)

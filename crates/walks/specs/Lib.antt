@@ -1,0 +1,4 @@
+pub mod Chain
+pub mod Order
+pub mod Usage
+pub mod Columns

@@ -1,0 +1,160 @@
+//! Counts what recorded frames reach: each shape, cut and rotation, each kind of removal, each refusal.
+
+use std::collections::BTreeMap;
+
+use crate::core::entities::node::NodeKey;
+use crate::frame::{cut_number, Mark, Request, MALFORMED};
+use crate::session::Session;
+use crate::sheet::Sheet;
+
+const CUTS: [&str; 2] = ["Horizontal", "Vertical"];
+const ROTATIONS: [&str; 2] = ["Default", "Rotated"];
+const SHAPES: [&str; 4] = ["AlongCurrentCut", "AcrossCurrentCut", "AlongThenAcross", "AcrossThenAlong"];
+const OPS: [&str; 7] = ["open", "offers", "insert", "remove", "keep", "restore", "report"];
+
+/// The refusals of each op that frames can reach in a few thousand lines: all but 9.
+const REFUSALS: [&[u8]; 7] = [&[2], &[1, 3, 4, 5, 6], &[1, 3, 4, 5, 6, 7, 8], &[1, 4, 5, 10, 11], &[1], &[1, 4], &[1]];
+
+pub struct Coverage {
+    counts: BTreeMap<String, u64>,
+    calls: u64,
+    most_nodes: usize,
+    deepest: u8,
+}
+
+impl Default for Coverage {
+    /// Every count that must not stay 0.
+    fn default() -> Self {
+        let mut names = vec!["malformed".to_string()];
+        for (shape, cut, rotation) in all_insertions() {
+            names.push(insertion(shape, cut, rotation));
+        }
+        names.push("insertion, exact fit".to_string());
+        for (kind, way) in [("part", "merged"), ("part", "own size"), ("structure", "merged"), ("structure", "own size")] {
+            names.extend(CUTS.map(|cut| removal(kind, way, cut)));
+        }
+        names.extend((0..=4).map(offers));
+        for (op, refusals) in OPS.iter().zip(REFUSALS) {
+            names.push(accepted(op));
+            names.extend(refusals.iter().map(|number| refused(op, *number)));
+        }
+        names.extend(["yes", "no", "refused"].map(light));
+        let counts = names.into_iter().map(|name| (name, 0)).collect();
+        Coverage { counts, calls: 0, most_nodes: 0, deepest: 0 }
+    }
+}
+
+impl Coverage {
+    /// Answers a line and counts what it reached.
+    pub fn count(&mut self, session: &mut Session, line: &[u8]) {
+        let before = Request::read(line).map(|request| names_before(session, &request)).unwrap_or_default();
+        let reply = session.answer(line);
+        self.calls += 1;
+        let Some(request) = reply.request else {
+            assert_eq!(reply.answer, MALFORMED);
+            return self.reach("malformed".to_string());
+        };
+        let op = OPS[usize::from(request.op()) - 1];
+        match u8::from_str_radix(&reply.answer[2..4], 16).expect("an answer has a number") {
+            0 => {
+                self.reach(accepted(op));
+                before.into_iter().for_each(|name| self.reach(name));
+            }
+            number => self.reach(refused(op, number)),
+        }
+        if let Some(part) = request.part() {
+            self.reach(light(match session.light(part) {
+                Ok(true) => "yes",
+                Ok(false) => "no",
+                Err(_) => "refused",
+            }));
+        }
+        if let Some(sheet) = session.sheet() {
+            self.measure(sheet);
+        }
+    }
+
+    fn reach(&mut self, name: String) {
+        *self.counts.entry(name).or_default() += 1;
+    }
+
+    fn measure(&mut self, sheet: &Sheet) {
+        self.most_nodes = self.most_nodes.max(sheet.marks().held());
+        let deepest = sheet.marks().by_place().map(|key| sheet.node(key).level()).max();
+        self.deepest = self.deepest.max(deepest.unwrap_or(0));
+    }
+
+    /// Prints the counts; gives whether each that is asked for was reached.
+    pub fn report(&self) -> bool {
+        println!("{:>7}  calls", self.calls);
+        println!("{:>7}  most nodes", self.most_nodes);
+        println!("{:>7}  deepest level", self.deepest);
+        for (name, count) in &self.counts {
+            println!("{count:>7}  {name}");
+        }
+        self.counts.values().all(|count| *count > 0)
+    }
+}
+
+/// What a request reaches if it is accepted, read from the state before it.
+fn names_before(session: &Session, request: &Request) -> Vec<String> {
+    let Some(sheet) = session.sheet() else {
+        return Vec::new();
+    };
+    let named = |mark: &Mark| sheet.marks().find(*mark);
+    match request {
+        Request::Offers { mark, part } => {
+            let free = named(mark).filter(|key| part.in_domain() && sheet.node(*key).is_empty());
+            free.map(|key| offers(sheet.offers(key, &part.parttype()).len())).into_iter().collect()
+        }
+        Request::Insert { mark, part, offer } => named(mark).map_or_else(Vec::new, |key| {
+            let cut = cut_number(sheet.node(key).next_cut_orient());
+            let mut names = vec![insertion(offer.shape, cut, offer.rotation)];
+            let sides = [part.width, part.height].map(u64::from);
+            if sides.iter().product::<u64>() == sheet.node(key).area() {
+                names.push("insertion, exact fit".to_string());
+            }
+            names
+        }),
+        Request::Remove { mark } => named(mark).and_then(|key| removal_of(sheet, key)).into_iter().collect(),
+        _ => Vec::new(),
+    }
+}
+
+/// The kind of a removal, none for the top.
+fn removal_of(sheet: &Sheet, key: NodeKey) -> Option<String> {
+    let parent = sheet.node(sheet.node(key).parent()?);
+    let kind = if sheet.node(key).has_children() { "structure" } else { "part" };
+    let last_is_free = parent.last_child().is_some_and(|last| sheet.node(last).is_empty());
+    let way = if last_is_free { "merged" } else { "own size" };
+    Some(removal(kind, way, CUTS[usize::from(cut_number(parent.next_cut_orient()))]))
+}
+
+fn all_insertions() -> impl Iterator<Item = (u8, u8, u8)> {
+    (0..16).map(|index| (1 + index / 4, index / 2 % 2, index % 2))
+}
+
+fn insertion(shape: u8, cut: u8, rotation: u8) -> String {
+    let (cut, rotation) = (CUTS[usize::from(cut)], ROTATIONS[usize::from(rotation)]);
+    format!("insertion, {}, {cut}, {rotation}", SHAPES[usize::from(shape) - 1])
+}
+
+fn removal(kind: &str, way: &str, cut: &str) -> String {
+    format!("removal, {kind}, {way}, parent's cut {cut}")
+}
+
+fn offers(count: usize) -> String {
+    format!("offers, count {count}")
+}
+
+fn accepted(op: &str) -> String {
+    format!("op {op}, accepted")
+}
+
+fn refused(op: &str, number: u8) -> String {
+    format!("op {op}, refused with {number:02}")
+}
+
+fn light(answer: &str) -> String {
+    format!("light, {answer}")
+}

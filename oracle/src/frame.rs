@@ -1,0 +1,260 @@
+//! Counter frames, as document 01 sets them out: a line read into a request, a request and an answer written as a line.
+
+use crate::core::entities::parttype::PartType;
+use crate::core::insertion::insertion_blueprint::InsertionShape;
+use crate::core::orientation::Orientation;
+use crate::core::rotation::Rotation;
+
+/// The answer to every malformed line.
+pub const MALFORMED: &str = "ff0ef3";
+
+/// The greatest side of a sheet or a part.
+pub const GREATEST_SIDE: u32 = 67_108_863;
+
+const LONGEST_LINE: usize = 64;
+
+#[derive(Clone, Copy, Debug, PartialEq, Eq)]
+pub struct Mark {
+    pub layout: u16,
+    pub place: u8,
+    pub serial: u32,
+}
+
+impl Mark {
+    pub fn write(&self, bytes: &mut Vec<u8>) {
+        bytes.extend(self.layout.to_be_bytes());
+        bytes.push(self.place);
+        bytes.extend(self.serial.to_be_bytes());
+    }
+}
+
+/// A part as a frame carries it; its sides may lie outside the domain.
+#[derive(Clone, Copy, Debug, PartialEq, Eq)]
+pub struct Part {
+    pub number: u16,
+    pub width: u32,
+    pub height: u32,
+    pub turn: u8,
+}
+
+impl Part {
+    pub fn in_domain(&self) -> bool {
+        [self.width, self.height].iter().all(|side| (1..=GREATEST_SIDE).contains(side))
+    }
+
+    /// The same part as the Rust has it.
+    pub fn parttype(&self) -> PartType {
+        PartType::new(self.number.into(), self.width.into(), self.height.into(), fixed_rotation(self.turn))
+    }
+}
+
+/// The rotation that a turn leaves as the only one; 0 allows both.
+pub fn fixed_rotation(turn: u8) -> Option<Rotation> {
+    match turn {
+        0 => None,
+        1 => Some(Rotation::Default),
+        2 => Some(Rotation::Rotated),
+        _ => panic!("turn {turn} is not listed"),
+    }
+}
+
+/// What a free piece offers a part: rotation 0 or 1 and shape 1..4, as document 01 numbers them.
+#[derive(Clone, Copy, Debug, PartialEq, Eq)]
+pub struct Offer {
+    pub rotation: u8,
+    pub shape: u8,
+}
+
+impl Offer {
+    pub fn of(rotation: Rotation, shape: InsertionShape) -> Self {
+        let rotation = match rotation {
+            Rotation::Default => 0,
+            Rotation::Rotated => 1,
+        };
+        let shape = match shape {
+            InsertionShape::AlongCurrentCut => 1,
+            InsertionShape::AcrossCurrentCut => 2,
+            InsertionShape::AlongThenAcross => 3,
+            InsertionShape::AcrossThenAlong => 4,
+        };
+        Offer { rotation, shape }
+    }
+}
+
+pub fn cut_number(cut: Orientation) -> u8 {
+    match cut {
+        Orientation::Horizontal => 0,
+        Orientation::Vertical => 1,
+    }
+}
+
+#[derive(Clone, Copy, Debug, PartialEq, Eq)]
+pub enum Request {
+    Open { layout: u16, width: u32, height: u32, cut: Orientation, stages: u8 },
+    Offers { mark: Mark, part: Part },
+    Insert { mark: Mark, part: Part, offer: Offer },
+    Remove { mark: Mark },
+    Keep,
+    Restore,
+    Report,
+}
+
+impl Request {
+    pub fn op(&self) -> u8 {
+        match self {
+            Request::Open { .. } => 1,
+            Request::Offers { .. } => 2,
+            Request::Insert { .. } => 3,
+            Request::Remove { .. } => 4,
+            Request::Keep => 5,
+            Request::Restore => 6,
+            Request::Report => 7,
+        }
+    }
+
+    /// The part that an offers or insert frame carries.
+    pub fn part(&self) -> Option<&Part> {
+        match self {
+            Request::Offers { part, .. } | Request::Insert { part, .. } => Some(part),
+            _ => None,
+        }
+    }
+
+    /// Reads a line without its newline; none if it is malformed.
+    pub fn read(line: &[u8]) -> Option<Self> {
+        if line.len() > LONGEST_LINE {
+            return None;
+        }
+        let bytes = bytes_of(line)?;
+        if bytes.iter().fold(0, |sum: u8, byte| sum.wrapping_add(*byte)) != 0 {
+            return None;
+        }
+        let (_check, frame) = bytes.split_last()?;
+        let mut fields = Fields(frame);
+        let request = match fields.u8()? {
+            1 => Request::Open {
+                layout: fields.u16()?,
+                width: fields.u32()?,
+                height: fields.u32()?,
+                cut: fields.cut()?,
+                stages: fields.u8()?,
+            },
+            2 => Request::Offers { mark: fields.mark()?, part: fields.part()? },
+            3 => Request::Insert { mark: fields.mark()?, part: fields.part()?, offer: fields.offer()? },
+            4 => Request::Remove { mark: fields.mark()? },
+            5 => Request::Keep,
+            6 => Request::Restore,
+            7 => Request::Report,
+            _ => return None,
+        };
+        fields.0.is_empty().then_some(request)
+    }
+
+    /// The bytes of the frame before its check.
+    pub fn bytes(&self) -> Vec<u8> {
+        let mut bytes = vec![self.op()];
+        match self {
+            Request::Open { layout, width, height, cut, stages } => {
+                bytes.extend(layout.to_be_bytes());
+                bytes.extend(width.to_be_bytes());
+                bytes.extend(height.to_be_bytes());
+                bytes.extend([cut_number(*cut), *stages]);
+            }
+            Request::Offers { mark, part } => {
+                mark.write(&mut bytes);
+                write_part(part, &mut bytes);
+            }
+            Request::Insert { mark, part, offer } => {
+                mark.write(&mut bytes);
+                write_part(part, &mut bytes);
+                bytes.extend([offer.rotation, offer.shape]);
+            }
+            Request::Remove { mark } => mark.write(&mut bytes),
+            Request::Keep | Request::Restore | Request::Report => {}
+        }
+        bytes
+    }
+}
+
+fn write_part(part: &Part, bytes: &mut Vec<u8>) {
+    bytes.extend(part.number.to_be_bytes());
+    bytes.extend(part.width.to_be_bytes());
+    bytes.extend(part.height.to_be_bytes());
+    bytes.push(part.turn);
+}
+
+/// The rest of a frame, read field by field, highest byte first.
+struct Fields<'a>(&'a [u8]);
+
+impl Fields<'_> {
+    fn take<const N: usize>(&mut self) -> Option<[u8; N]> {
+        let field = self.0.get(..N)?.try_into().ok()?;
+        self.0 = &self.0[N..];
+        Some(field)
+    }
+
+    fn u8(&mut self) -> Option<u8> {
+        self.take().map(u8::from_be_bytes)
+    }
+
+    fn u16(&mut self) -> Option<u16> {
+        self.take().map(u16::from_be_bytes)
+    }
+
+    fn u32(&mut self) -> Option<u32> {
+        self.take().map(u32::from_be_bytes)
+    }
+
+    fn cut(&mut self) -> Option<Orientation> {
+        match self.u8()? {
+            0 => Some(Orientation::Horizontal),
+            1 => Some(Orientation::Vertical),
+            _ => None,
+        }
+    }
+
+    fn mark(&mut self) -> Option<Mark> {
+        Some(Mark { layout: self.u16()?, place: self.u8()?, serial: self.u32()? })
+    }
+
+    fn part(&mut self) -> Option<Part> {
+        let (number, width, height, turn) = (self.u16()?, self.u32()?, self.u32()?, self.u8()?);
+        (turn <= 2).then_some(Part { number, width, height, turn })
+    }
+
+    fn offer(&mut self) -> Option<Offer> {
+        let (rotation, shape) = (self.u8()?, self.u8()?);
+        (rotation <= 1 && (1..=4).contains(&shape)).then_some(Offer { rotation, shape })
+    }
+}
+
+/// The bytes that a line of lower-case hexadecimal stands for; none if it is anything else.
+fn bytes_of(line: &[u8]) -> Option<Vec<u8>> {
+    let digits = line.iter().map(|&digit| match digit {
+        b'0'..=b'9' => Some(digit - b'0'),
+        b'a'..=b'f' => Some(digit - b'a' + 10),
+        _ => None,
+    });
+    let digits = digits.collect::<Option<Vec<u8>>>()?;
+    let pairs = digits.chunks_exact(2);
+    pairs.remainder().is_empty().then(|| pairs.map(|pair| pair[0] << 4 | pair[1]).collect())
+}
+
+pub fn hexadecimal(bytes: &[u8]) -> String {
+    bytes.iter().map(|byte| format!("{byte:02x}")).collect()
+}
+
+/// The line for these bytes, with the check that makes them add to 0.
+pub fn line(mut bytes: Vec<u8>) -> String {
+    let sum = bytes.iter().fold(0, |sum: u8, byte| sum.wrapping_add(*byte));
+    bytes.push(sum.wrapping_neg());
+    hexadecimal(&bytes)
+}
+
+/// The line that answers `op`: what it gives on success, or the number of its refusal.
+pub fn answer(op: u8, outcome: &Result<Vec<u8>, u8>) -> String {
+    match outcome {
+        Ok(given) => line([&[op, 0], given.as_slice()].concat()),
+        Err(refusal) => line(vec![op, *refusal]),
+    }
+}

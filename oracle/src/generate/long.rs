@@ -1,0 +1,176 @@
+//! Sessions that go to the ends: chains of structures, rows of parts, full tables, the last serial.
+
+use super::{Generator, Kind, Piece};
+use crate::core::orientation::Orientation;
+use crate::frame::{Mark, Offer, Part, Request, GREATEST_SIDE};
+use crate::session::refusal;
+
+impl Generator {
+    /// The free piece at the deepest level.
+    fn deepest(&self) -> Piece {
+        self.free_pieces().into_iter().max_by_key(|piece| piece.level).expect("a free piece")
+    }
+
+    /// Books the part that fits across a piece of sides 2 or more and leaves `rest` of it.
+    fn book_across(&mut self, piece: &Piece, number: u16, rest: u32) -> u8 {
+        let (width, height) = match piece.cut {
+            Orientation::Horizontal => (piece.width, piece.height - rest),
+            Orientation::Vertical => (piece.width - rest, piece.height),
+        };
+        let part = Part { number, width, height, turn: 1 };
+        self.send(Request::Insert { mark: piece.mark, part, offer: Offer { rotation: 0, shape: 2 } })
+    }
+
+    /// Goes a level deeper: a part is booked across the deepest piece and taken out again. Gives the booking's number.
+    fn descend(&mut self, number: u16) -> u8 {
+        let piece = self.deepest();
+        let refused = self.book_across(&piece, number, 1);
+        if refused == 0 {
+            let part = self.newest_part();
+            self.send(Request::Remove { mark: part });
+        }
+        refused
+    }
+
+    fn newest_part(&self) -> Mark {
+        let sheet = self.sheet();
+        let parts = sheet.marks().by_place().filter(|key| sheet.node(*key).parttype().is_some());
+        parts.map(|key| sheet.marks().of(key)).max_by_key(|mark| mark.serial).expect("a part")
+    }
+
+    /// A few structures, one inside the other, as far as the stages allow; then ordinary calls.
+    pub(super) fn chain(&mut self) {
+        let (width, height) = (self.rng.between(2, 90), self.rng.between(2, 90));
+        let stages = self.rng.between(2, 9) as u8;
+        self.open_with(width, height, stages);
+        for number in 0..self.rng.between(1, 8) {
+            self.descend(number as u16);
+        }
+        self.calls(Kind::Exact, 8, 16);
+    }
+
+    /// To level 253, where only a part along the cut still finds two places; then structures are taken out and put back.
+    pub(super) fn deep(&mut self) {
+        let width = self.rng.between(2, 9);
+        self.open_with(width, 2, 254);
+        while self.descend(5) == 0 {}
+        self.send(Request::Report);
+        self.send(Request::Keep);
+        self.book_exactly();
+        self.send(Request::Report);
+        for level in [200, 100, 2, 1] {
+            let structure = self.at_level(level);
+            self.send(Request::Remove { mark: structure });
+            self.send(Request::Report);
+        }
+        self.send(Request::Restore);
+        self.calls(Kind::Exact, 20, 30);
+    }
+
+    /// A part as large as the deepest piece: along the cut, whatever the level.
+    fn book_exactly(&mut self) {
+        let piece = self.deepest();
+        let part = Part { number: 77, width: piece.width, height: piece.height, turn: 1 };
+        self.send(Request::Insert { mark: piece.mark, part, offer: Offer { rotation: 0, shape: 1 } });
+    }
+
+    /// The first node at a level.
+    fn at_level(&self, level: u8) -> Mark {
+        let sheet = self.sheet();
+        let key = sheet.marks().by_place().find(|key| sheet.node(*key).level() == level).expect("a node at this level");
+        sheet.marks().of(key)
+    }
+
+    /// A structure with parts in a row until the table is full; then it is taken out whole.
+    pub(super) fn row(&mut self) {
+        self.open_with(400, 300, 2);
+        let piece = self.deepest();
+        self.book_across(&piece, 1, 255);
+        for number in 2..=254 {
+            let piece = self.deepest();
+            self.book_along(&piece, number);
+        }
+        self.send(Request::Keep);
+        self.send(Request::Report);
+        let structure = self.at_level(1);
+        self.send(Request::Remove { mark: structure });
+        self.send(Request::Restore);
+        self.remove();
+        let piece = self.deepest();
+        self.book_along(&piece, 300);
+        self.calls(Kind::Plain, 20, 30);
+    }
+
+    /// A part of breadth 1 along the cut.
+    fn book_along(&mut self, piece: &Piece, number: u16) -> u8 {
+        let (width, height) = match piece.cut {
+            Orientation::Horizontal => (1, piece.height),
+            Orientation::Vertical => (piece.width, 1),
+        };
+        let part = Part { number, width, height, turn: 1 };
+        self.send(Request::Insert { mark: piece.mark, part, offer: Offer { rotation: 0, shape: 1 } })
+    }
+
+    /// A full table, twice: parts and structures are taken out of the first.
+    pub(super) fn full(&mut self) {
+        self.open_with(GREATEST_SIDE, GREATEST_SIDE - 1, 254);
+        for _ in 0..2 {
+            self.fill();
+            self.send(Request::Report);
+            self.send(Request::Keep);
+            for _ in 0..self.rng.between(1, 12) {
+                self.remove();
+            }
+            self.calls(Kind::Plain, 10, 20);
+        }
+    }
+
+    /// Books small parts by any shape until bookings were refused five times for want of places, or nothing more fits.
+    fn fill(&mut self) {
+        let mut refused = 0;
+        while refused < 5 {
+            let piece = self.free_pieces()[0];
+            let part = self.small_part(&piece);
+            let offers = self.offers(&piece, &part);
+            if offers.is_empty() {
+                return;
+            }
+            let offer = self.rng.pick(&offers);
+            let number = self.send(Request::Insert { mark: piece.mark, part, offer });
+            refused += u32::from(number == refusal::TABLE_FULL);
+        }
+    }
+
+    /// Fills the table with blocks of five nodes and restores, over and over, until no serial is left.
+    pub(super) fn serials(&mut self) {
+        self.open_with(GREATEST_SIDE, GREATEST_SIDE, 254);
+        self.send(Request::Keep);
+        loop {
+            match self.book_corner(4) {
+                0 => {}
+                refusal::TABLE_FULL => drop(self.send(Request::Restore)),
+                _ => break,
+            }
+        }
+        while self.book_along_first() == 0 {}
+        // a removal takes one serial: the last, if there is one yet
+        self.remove();
+        self.remove();
+        self.book_corner(3);
+        self.send(Request::Restore);
+        self.book_corner(4);
+        self.send(Request::Report);
+    }
+
+    /// A part of 1 x 1 into the first free piece.
+    fn book_corner(&mut self, shape: u8) -> u8 {
+        let mark = self.free_pieces()[0].mark;
+        let part = Part { number: 1, width: 1, height: 1, turn: 1 };
+        self.send(Request::Insert { mark, part, offer: Offer { rotation: 0, shape } })
+    }
+
+    fn book_along_first(&mut self) -> u8 {
+        let piece = self.free_pieces()[0];
+        self.book_along(&piece, 2)
+    }
+}

@@ -1,0 +1,51 @@
+//! The lines of the program `inspect`: the answer to a frame, and then what frames don't show.
+//!
+//! Seven fields, one space apart: answer, tree snapshot, free list, removable list, figures, part numbers by place, room light.
+//! An empty or missing field is '-'; the five in the middle are missing until a layout was opened.
+
+use crate::core::entities::node::NodeKey;
+use crate::frame::{hexadecimal, Part};
+use crate::session::{bytes_of, Reply, Session};
+use crate::sheet::Sheet;
+
+/// The names of the fields, in their order.
+pub const FIELDS: [&str; 7] = ["answer", "snapshot", "free list", "removable list", "figures", "part numbers", "light"];
+
+/// The line for a reply, in the state that the session has after it.
+pub fn line(session: &Session, reply: &Reply) -> String {
+    let state = session.sheet().map_or_else(Default::default, state_fields);
+    let light = reply.request.as_ref().and_then(|request| request.part()).map(|part| light_field(session, part));
+    let mut fields = vec![reply.answer.clone()];
+    fields.extend(state.iter().map(|bytes| hexadecimal(bytes)));
+    fields.push(hexadecimal(&light.unwrap_or_default()));
+    for field in &mut fields {
+        if field.is_empty() {
+            field.push('-');
+        }
+    }
+    fields.join(" ")
+}
+
+fn state_fields(sheet: &Sheet) -> [Vec<u8>; 5] {
+    let figures = sheet.figures();
+    let figures = [figures.used_area, figures.free_area, figures.sheet_usage, figures.tree_usage];
+    [
+        sheet.snapshot(),
+        marks_field(sheet, &sheet.free_list()),
+        marks_field(sheet, sheet.removable_list()),
+        figures.iter().flat_map(|figure| figure.to_be_bytes()).collect(),
+        sheet.part_numbers().into_iter().flat_map(u16::to_be_bytes).collect(),
+    ]
+}
+
+fn marks_field(sheet: &Sheet, keys: &[NodeKey]) -> Vec<u8> {
+    let marks: Vec<_> = keys.iter().map(|key| sheet.marks().of(*key)).collect();
+    bytes_of(&marks)
+}
+
+fn light_field(session: &Session, part: &Part) -> Vec<u8> {
+    match session.light(part) {
+        Ok(room) => vec![0, room.into()],
+        Err(refusal) => vec![refusal],
+    }
+}

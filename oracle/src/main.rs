@@ -1,0 +1,174 @@
+//! The Rust as judge: its own layout code, compiled unchanged, answering counter frames as our programs will.
+
+mod coverage;
+mod differences;
+mod frame;
+mod generate;
+mod inspect;
+mod marks;
+mod records;
+mod rng;
+mod session;
+mod sheet;
+#[cfg(test)]
+mod tests;
+
+// The Rust's own modules `core`, `optimization` and `util`, with our stubs among them.
+include!(concat!(env!("OUT_DIR"), "/rust.rs"));
+
+use std::env;
+use std::fs::File;
+use std::io::{self, BufRead, BufReader, BufWriter, Write};
+use std::process::ExitCode;
+
+use coverage::Coverage;
+use session::Session;
+
+const USAGE: &str = "usage:
+  oracle run [--counter]                     answer the frames on standard input as inspect (or counter) does
+  oracle check [--counter] FRAMES ANSWERS    replay recorded frames and report every answer that differs
+  oracle gen SEED SESSIONS [KIND]            write the frames of random sessions
+  oracle offers SEED COUNT                   write records of what a free piece offers
+  oracle blocks SEED COUNT                   write records of the nodes that a shape makes
+  oracle coverage FRAMES...                  count what recorded frames reach; fails if something is never reached
+  oracle differences                         show by running where the Rust and document 01 differ";
+
+/// What is printed for a line: as `inspect` does, or the answer alone, as `counter` does.
+#[derive(Clone, Copy)]
+enum View {
+    Inspect,
+    Counter,
+}
+
+impl View {
+    /// Answers one line, and gives what the program of this view prints for it.
+    fn answer(self, session: &mut Session, line: &[u8]) -> String {
+        let reply = session.answer(line);
+        match self {
+            View::Inspect => inspect::line(session, &reply),
+            View::Counter => reply.answer,
+        }
+    }
+}
+
+fn main() -> ExitCode {
+    let words: Vec<String> = env::args().skip(1).collect();
+    let words: Vec<&str> = words.iter().map(String::as_str).collect();
+    match command(&words) {
+        Ok(true) => ExitCode::SUCCESS,
+        Ok(false) => ExitCode::FAILURE,
+        Err(problem) => {
+            eprintln!("oracle: {problem}");
+            ExitCode::from(2)
+        }
+    }
+}
+
+/// Runs a command; gives whether all was well.
+fn command(words: &[&str]) -> Result<bool, String> {
+    match words {
+        ["run"] => run(View::Inspect),
+        ["run", "--counter"] => run(View::Counter),
+        ["check", frames, answers] => check(View::Inspect, frames, answers),
+        ["check", "--counter", frames, answers] => check(View::Counter, frames, answers),
+        ["gen", seed, sessions] => gen(seed, sessions, "mixed"),
+        ["gen", seed, sessions, kind] => gen(seed, sessions, kind),
+        ["offers", seed, count] => {
+            records::offers(number(seed)?, number(count)?);
+            Ok(true)
+        }
+        ["blocks", seed, count] => {
+            records::blocks(number(seed)?, number(count)?);
+            Ok(true)
+        }
+        ["coverage", files @ ..] if !files.is_empty() => cover(files),
+        ["differences"] => {
+            differences::show();
+            Ok(true)
+        }
+        _ => Err(USAGE.to_string()),
+    }
+}
+
+fn number<N: std::str::FromStr>(word: &str) -> Result<N, String> {
+    word.parse().map_err(|_| format!("{word} is no number"))
+}
+
+/// Hands on the lines of an input. One that lacks its newline is malformed, which no frame of ours can be mistaken for.
+fn each_line(mut input: impl BufRead, mut take: impl FnMut(&[u8]) -> Result<(), String>) -> Result<(), String> {
+    let mut line = Vec::new();
+    while input.read_until(b'\n', &mut line).map_err(|problem| problem.to_string())? > 0 {
+        match line.split_last() {
+            Some((b'\n', frame)) => take(frame)?,
+            _ => take(b"")?,
+        }
+        line.clear();
+    }
+    Ok(())
+}
+
+fn open(path: &str) -> Result<BufReader<File>, String> {
+    File::open(path).map(BufReader::new).map_err(|problem| format!("{path}: {problem}"))
+}
+
+fn run(view: View) -> Result<bool, String> {
+    let mut session = Session::default();
+    let mut out = BufWriter::new(io::stdout().lock());
+    each_line(io::stdin().lock(), |line| {
+        writeln!(out, "{}", view.answer(&mut session, line)).map_err(|problem| problem.to_string())
+    })?;
+    Ok(true)
+}
+
+fn gen(seed: &str, sessions: &str, kind: &str) -> Result<bool, String> {
+    let lines = generate::lines(number(seed)?, number(sessions)?, kind)?;
+    let mut out = BufWriter::new(io::stdout().lock());
+    for line in lines {
+        writeln!(out, "{line}").map_err(|problem| problem.to_string())?;
+    }
+    Ok(true)
+}
+
+/// Replays frames and compares with the recorded answers, line by line.
+fn check(view: View, frames: &str, answers: &str) -> Result<bool, String> {
+    let mut recorded = open(answers)?.lines();
+    let mut session = Session::default();
+    let (mut lines, mut different) = (0, 0);
+    each_line(open(frames)?, |line| {
+        lines += 1;
+        let ours = view.answer(&mut session, line);
+        let theirs = recorded.next().transpose().map_err(|problem| problem.to_string())?.unwrap_or_default();
+        if ours != theirs {
+            different += 1;
+            println!("line {lines}, frame {}: {}", String::from_utf8_lossy(line), first_difference(&ours, &theirs));
+        }
+        Ok(())
+    })?;
+    let surplus = recorded.count();
+    println!("{lines} lines, {different} different, {surplus} recorded answers too many");
+    Ok(lines > 0 && different == 0 && surplus == 0)
+}
+
+/// Names the first field in which two lines differ, with both its values.
+fn first_difference(ours: &str, theirs: &str) -> String {
+    let (mut ours, mut theirs) = (ours.split(' '), theirs.split(' '));
+    for name in inspect::FIELDS {
+        let (mine, other) = (ours.next(), theirs.next());
+        if mine != other {
+            return format!("{name}: the Rust gives {}, recorded {}", mine.unwrap_or("nothing"), other.unwrap_or("nothing"));
+        }
+    }
+    "more fields than there are".to_string()
+}
+
+fn cover(files: &[&str]) -> Result<bool, String> {
+    let mut coverage = Coverage::default();
+    for file in files {
+        let mut session = Session::default();
+        each_line(open(file)?, |line| {
+            coverage.count(&mut session, line);
+            Ok(())
+        })?;
+    }
+    Ok(coverage.report())
+}

@@ -1,0 +1,206 @@
+//! A session at the counter: the layout and the kept snapshot, and the answer to each line.
+//!
+//! The refusals, which the Rust does not have, are tested in document 01's order; design.md lists them by op.
+
+use crate::core::entities::node::NodeKey;
+use crate::core::orientation::Orientation;
+use crate::frame::{self, Mark, Offer, Part, Request, GREATEST_SIDE};
+use crate::marks::{LAST_SERIAL, PLACES};
+use crate::sheet::Sheet;
+
+/// The numbers of document 01's refusals.
+pub mod refusal {
+    pub const NOT_SOUND: u8 = 1;
+    pub const OPENING: u8 = 2;
+    pub const PART_SIDE: u8 = 3;
+    pub const OTHER_LAYOUT: u8 = 4;
+    pub const GONE: u8 = 5;
+    pub const NOT_FREE: u8 = 6;
+    pub const NOT_OFFERED: u8 = 7;
+    pub const TABLE_FULL: u8 = 8;
+    pub const SERIALS_SPENT: u8 = 9;
+    pub const TOP: u8 = 10;
+    pub const FREE_PIECE: u8 = 11;
+}
+
+type Outcome = Result<Vec<u8>, u8>;
+
+#[derive(Default)]
+pub struct Session {
+    sheet: Option<Sheet>,
+    kept: Option<Sheet>,
+}
+
+/// What a line was read as, none if malformed, and how it was answered.
+pub struct Reply {
+    pub request: Option<Request>,
+    pub answer: String,
+}
+
+impl Session {
+    /// The sheet on the table, if one was opened. Every opened sheet is sound.
+    pub fn sheet(&self) -> Option<&Sheet> {
+        self.sheet.as_ref()
+    }
+
+    /// Answers one line, given without its newline.
+    pub fn answer(&mut self, line: &[u8]) -> Reply {
+        let request = Request::read(line);
+        let answer = match &request {
+            Some(request) => frame::answer(request.op(), &self.call(request)),
+            None => frame::MALFORMED.to_string(),
+        };
+        Reply { request, answer }
+    }
+
+    fn call(&mut self, request: &Request) -> Outcome {
+        match *request {
+            Request::Open { layout, width, height, cut, stages } => self.open(layout, width, height, cut, stages),
+            Request::Offers { mark, part } => self.offers(mark, &part),
+            Request::Insert { mark, part, offer } => self.insert(mark, &part, offer),
+            Request::Remove { mark } => self.remove(mark),
+            Request::Keep => self.keep(),
+            Request::Restore => self.restore(),
+            Request::Report => self.report(),
+        }
+    }
+
+    fn opened(&self) -> Result<&Sheet, u8> {
+        self.sheet.as_ref().ok_or(refusal::NOT_SOUND)
+    }
+
+    fn open(&mut self, layout: u16, width: u32, height: u32, cut: Orientation, stages: u8) -> Outcome {
+        let sides_in_domain = [width, height].iter().all(|side| (1..=GREATEST_SIDE).contains(side));
+        if !sides_in_domain || !(1..=254).contains(&stages) {
+            return Err(refusal::OPENING);
+        }
+        let sheet = Sheet::open(layout, width, height, cut, stages);
+        let free = sheet.marks().of(sheet.free_list()[0]);
+        self.sheet = Some(sheet);
+        Ok(bytes_of(&[free]))
+    }
+
+    fn offers(&self, mark: Mark, part: &Part) -> Outcome {
+        let sheet = self.opened()?;
+        let piece = free_piece(sheet, mark, part)?;
+        let part = part.parttype();
+        let offers = sheet.offers(piece, &part);
+        let mut given = vec![offers.len() as u8];
+        given.extend(offers.iter().flat_map(|(offer, _)| [offer.rotation, offer.shape]));
+        Ok(given)
+    }
+
+    fn insert(&mut self, mark: Mark, part: &Part, offer: Offer) -> Outcome {
+        let sheet = self.opened()?;
+        let piece = free_piece(sheet, mark, part)?;
+        let new = nodes_of_offer(sheet, piece, part, offer).ok_or(refusal::NOT_OFFERED)?;
+        if sheet.marks().held() - 1 + new > PLACES {
+            return Err(refusal::TABLE_FULL);
+        }
+        serials_left(sheet, new)?;
+
+        let inserted = self.sheet_mut().insert(piece, part, offer);
+        let mut given = bytes_of(&[inserted.first, inserted.part]);
+        given.push(inserted.free.len() as u8);
+        given.extend(bytes_of(&inserted.free));
+        Ok(given)
+    }
+
+    fn remove(&mut self, mark: Mark) -> Outcome {
+        let sheet = self.opened()?;
+        let key = find(sheet, mark)?;
+        if key == *sheet.layout().top_node_index() {
+            return Err(refusal::TOP);
+        }
+        if sheet.node(key).is_empty() {
+            return Err(refusal::FREE_PIECE);
+        }
+        serials_left(sheet, 1)?;
+
+        let (free, numbers) = self.sheet_mut().remove(key);
+        let mut given = bytes_of(&[free]);
+        given.push(numbers.len() as u8);
+        given.extend(numbers.into_iter().flat_map(u16::to_be_bytes));
+        Ok(given)
+    }
+
+    fn keep(&mut self) -> Outcome {
+        self.kept = Some(self.opened()?.clone());
+        Ok(Vec::new())
+    }
+
+    fn restore(&mut self) -> Outcome {
+        let sheet = self.sheet.as_mut().ok_or(refusal::NOT_SOUND)?;
+        let kept = self.kept.as_ref().ok_or(refusal::NOT_SOUND)?;
+        if kept.number() != sheet.number() {
+            return Err(refusal::OTHER_LAYOUT);
+        }
+        sheet.restore(kept);
+        Ok(Vec::new())
+    }
+
+    fn report(&self) -> Outcome {
+        let sheet = self.opened()?;
+        let figures = sheet.figures();
+        let mut given = figures.used_area.to_be_bytes().to_vec();
+        given.push(sheet.marks().held() as u8);
+        given.extend(figures.sheet_usage.to_be_bytes());
+        Ok(given)
+    }
+
+    /// The room light for a part: whether there is room, or the number of its refusal.
+    pub fn light(&self, part: &Part) -> Result<bool, u8> {
+        let sheet = self.opened()?;
+        if !part.in_domain() {
+            return Err(refusal::PART_SIDE);
+        }
+        Ok(sheet.room_for(part))
+    }
+
+    fn sheet_mut(&mut self) -> &mut Sheet {
+        self.sheet.as_mut().expect("tested before")
+    }
+}
+
+/// The node that a mark names: refusals 4 and 5.
+fn find(sheet: &Sheet, mark: Mark) -> Result<NodeKey, u8> {
+    if mark.layout != sheet.number() {
+        return Err(refusal::OTHER_LAYOUT);
+    }
+    sheet.marks().find(mark).ok_or(refusal::GONE)
+}
+
+/// The free piece that a mark names for a part: refusals 3 to 6.
+fn free_piece(sheet: &Sheet, mark: Mark, part: &Part) -> Result<NodeKey, u8> {
+    if !part.in_domain() {
+        return Err(refusal::PART_SIDE);
+    }
+    let key = find(sheet, mark)?;
+    if !sheet.node(key).is_empty() {
+        return Err(refusal::NOT_FREE);
+    }
+    Ok(key)
+}
+
+/// How many nodes an offer creates; none if it isn't made.
+fn nodes_of_offer(sheet: &Sheet, piece: NodeKey, part: &Part, offer: Offer) -> Option<usize> {
+    let part = part.parttype();
+    let offers = sheet.offers(piece, &part);
+    let (_, blueprint) = offers.iter().find(|(listed, _)| *listed == offer)?;
+    Some(sheet.nodes_made(blueprint))
+}
+
+fn serials_left(sheet: &Sheet, new: usize) -> Result<(), u8> {
+    if sheet.marks().last() as usize + new > LAST_SERIAL as usize {
+        return Err(refusal::SERIALS_SPENT);
+    }
+    Ok(())
+}
+
+pub fn bytes_of(marks: &[Mark]) -> Vec<u8> {
+    let mut bytes = Vec::new();
+    for mark in marks {
+        mark.write(&mut bytes);
+    }
+    bytes
+}
