@@ -1,0 +1,13 @@
+pub mod Chain
+pub mod Walk
+pub mod Filled
+pub mod Says
+pub mod PlacesSay
+pub mod RowsSay
+pub mod Means
+pub mod Passing
+pub mod Lists
+pub mod Marks
+pub mod Sums
+pub mod Worth
+pub mod Serials

@@ -1,0 +1,83 @@
+-- The sums over places: a turn of each loop, and that a sum only grows.
+use mathlib.Core.Path.{_≡_, refl, sym, _∙_}
+use mathlib.Core.List.{List}
+use mathlib.Core.Bool.{Bool, true, false, cond}
+use Prim.Native.Nat.{ℕ, zero, suc, _+_, _<_, _≤_}
+use native.Mathlib.Numerals.{add-one}
+use native.Mathlib.Omega.{arith}
+use native.Mathlib.Decide.{ℕ-discrete}
+use lib.Dec.{eqb}
+use lib.ListN.{getD}
+use borrow.Author.Tests.{eq-eqb, ne-eqb}
+use Rattle.sound.specs.Listed.{heldIn, areaIn}
+
+-- what falls at no step falls nowhere
+grows : (g : ℕ → ℕ) → ((n : ℕ) → g n ≤ g (suc n)) → (m n : ℕ) → n ≤ m → g n ≤ g m
+grows g step zero n h = let e : n ≡ 0 = omega arith in rw e (omega arith)
+grows g step (suc m) n h = go (ℕ-discrete n (suc m)) (grows g step m n)
+  where
+    go : Dec (n ≡ suc m) → (n ≤ m → g n ≤ g m) → g n ≤ g (suc m)
+    go (yes e) ih = rw e (omega arith)
+    go (no e) ih = let l = ih (omega arith) in omega (arith, step m)
+
+module _ (serial : List ℕ) where
+  pub held-none : heldIn serial 0 ≡ 0
+  unfolding heldIn
+  held-none = refl
+
+  pub held-here : (n : ℕ) → (getD serial n 0 ≡ 0 → ⊥) → heldIn serial (n + 1) ≡ heldIn serial n + 1
+  unfolding heldIn
+  held-here n e = rw (add-one n, ne-eqb (getD serial n 0) 0 e) refl
+
+  pub held-pass : (n : ℕ) → getD serial n 0 ≡ 0 → heldIn serial (n + 1) ≡ heldIn serial n
+  unfolding heldIn
+  held-pass n e = rw (add-one n, eq-eqb (getD serial n 0) 0 e) (omega arith)
+
+  pub held-most : (n : ℕ) → heldIn serial n ≤ n
+  unfolding heldIn
+  held-most zero = omega arith
+  held-most (suc n) = go (eqb (getD serial n 0) 0) (held-most n)
+    where
+      go : (b : Bool) → heldIn serial n ≤ n → heldIn serial n + cond b 0 1 ≤ suc n
+      go true h = omega arith
+      go false h = omega arith
+
+  -- the count over more places is no smaller
+  pub held-grows : (m n : ℕ) → n ≤ m → heldIn serial n ≤ heldIn serial m
+  unfolding heldIn
+  held-grows = grows (heldIn serial) (λ n. omega arith)
+
+module _ (k : ℕ) (kind area : List ℕ) where
+  pub area-none : areaIn k kind area 0 ≡ 0
+  unfolding areaIn
+  area-none = refl
+
+  pub area-here : (n : ℕ) → getD kind n 0 ≡ k → areaIn k kind area (n + 1) ≡ areaIn k kind area n + getD area n 0
+  unfolding areaIn
+  area-here n e = rw (add-one n, eq-eqb (getD kind n 0) k e) refl
+
+  pub area-pass : (n : ℕ) → (getD kind n 0 ≡ k → ⊥) → areaIn k kind area (n + 1) ≡ areaIn k kind area n
+  unfolding areaIn
+  area-pass n e = rw (add-one n, ne-eqb (getD kind n 0) k e) (omega arith)
+
+  -- the sum over more places is no smaller
+  pub area-grows : (m n : ℕ) → n ≤ m → areaIn k kind area n ≤ areaIn k kind area m
+  unfolding areaIn
+  area-grows = grows (areaIn k kind area) (λ n. omega arith)
+
+  pub area-le : (n m : ℕ) → areaIn k kind area n ≤ areaIn k kind area (n + m)
+  area-le n m = area-grows (n + m) n (omega arith)
+
+  -- the sum passes what is left of `used`: it is not `used`
+  pub area-passes : (m n left used : ℕ) → n < m → left + areaIn k kind area n ≡ used → getD kind n 0 ≡ k → left < getD area n 0
+      → eqb (areaIn k kind area m) used ≡ false
+  area-passes m n left used h e here l =
+      ne-eqb (areaIn k kind area m) used (λ z. omega (arith, area-grows m (n + 1) (omega arith), area-here n here))
+
+-- nothing is left exactly where the sum is `used`
+pub none-left : (left sum used : ℕ) → left + sum ≡ used → eqb left 0 ≡ eqb sum used
+none-left left sum used e = go (ℕ-discrete left 0)
+  where
+    go : Dec (left ≡ 0) → eqb left 0 ≡ eqb sum used
+    go (yes z) = eq-eqb left 0 z ∙ sym (eq-eqb sum used (omega arith))
+    go (no z) = ne-eqb left 0 z ∙ sym (ne-eqb sum used (λ w. z (omega arith)))

@@ -1,0 +1,142 @@
+-- `columns_of` meets its contract: each column is filled as far as the loop has come.
+use mathlib.Core.Path.{_≡_, refl, sym, _∙_}
+use Prim.Native.Nat.{ℕ, _-_, _≤_, _<_}
+use native.Mathlib.Omega.{arith}
+use lib.ListN.{length, length-map}
+use borrow.Author.Needs.{needs}
+use Rattle.piece.specs.Sides.{area}
+use Rattle.tree.specs.Snapshot.{kindNo}
+use Rattle.table.specs.declared.Node.{Node}
+use Rattle.sound.specs.Columns.{areasOf, serialsOf, firstsOf, nextsOf, kindsOf}
+use Rattle.sound.proofs.Filled.{filled, fill-more, fill-all, columns-are}
+use Rattle.sound.proofs.columns.columns_of.Statement.{statement}
+use Rattle.sound.proofs.columns.columns_of.Tie as tie
+
+-- the five fields
+abbrev areaOf : Node → ℕ
+areaOf n = area (n .datum .size)
+
+abbrev serialOf : Node → ℕ
+serialOf n = n .datum .serial
+
+abbrev firstOf : Node → ℕ
+firstOf n = n .first
+
+abbrev nextOf : Node → ℕ
+nextOf n = n .next
+
+abbrev kindOf : Node → ℕ
+kindOf n = kindNo (n .datum .kind)
+
+abbrev Inv-loop : tie.InvT-loop
+Inv-loop nodes area₀ serial₀ first₀ next₀ kind₀ i₀ area serial first next kind i =
+    (i ≤ 255)
+    × (area ≡ filled (areasOf nodes) i)
+    × (serial ≡ filled (serialsOf nodes) i)
+    × (first ≡ filled (firstsOf nodes) i)
+    × (next ≡ filled (nextsOf nodes) i)
+    × (kind ≡ filled (kindsOf nodes) i)
+
+abbrev μ-loop : tie.MeasureT-loop
+μ-loop nodes area₀ serial₀ first₀ next₀ kind₀ i₀ area serial first next kind i = 255 - i
+
+loop-holds : tie.Need-loop-holds Inv-loop μ-loop
+loop-holds c = (omega arith, refl, refl, refl, refl, refl)
+
+mul-n : tie.Need-mul-n Inv-loop μ-loop
+mul-n c = search needs
+
+array-copy-out-n : tie.Need-array-copy-out-n Inv-loop μ-loop
+array-copy-out-n c = search needs
+
+area-requires : tie.Need-area-requires Inv-loop μ-loop
+area-requires c κs = search needs
+
+mul-area : tie.Need-mul-area Inv-loop μ-loop
+mul-area c = search needs
+
+array-write-area : tie.Need-array-write-area Inv-loop μ-loop
+array-write-area c = search needs
+
+mul-serial : tie.Need-mul-serial Inv-loop μ-loop
+mul-serial c = search needs
+
+array-write-serial : tie.Need-array-write-serial Inv-loop μ-loop
+array-write-serial c = search needs
+
+mul-first : tie.Need-mul-first Inv-loop μ-loop
+mul-first c = search needs
+
+array-write-first : tie.Need-array-write-first Inv-loop μ-loop
+array-write-first c = search needs
+
+mul-next : tie.Need-mul-next Inv-loop μ-loop
+mul-next c = search needs
+
+array-write-next : tie.Need-array-write-next Inv-loop μ-loop
+array-write-next c = search needs
+
+kind-number-requires : tie.Need-kind-number-requires Inv-loop μ-loop
+kind-number-requires c κs = search needs
+
+array-write-kind : tie.Need-array-write-kind Inv-loop μ-loop
+array-write-kind c = search needs
+
+add-i : tie.Need-add-i Inv-loop μ-loop
+add-i c = search needs
+
+loop-less : tie.Need-loop-less Inv-loop μ-loop
+loop-less c = search needs
+
+loop-again : tie.Need-loop-again Inv-loop μ-loop
+loop-again c =
+    let l = c .before .before .before .before .before .before .loop in
+    let s = c .before .before .before .before .before .before .before in
+    let t = s .args .t1 in
+    let len : length t ≡ 255 = s .good .0 .1 .0 .1 in
+    let h : l .i < 255 = omega arith in (
+      omega arith,
+      fill-more areaOf t len (l .area) (l .i) _ (l .inv .1) h (c .before .area .ensures),
+      fill-more serialOf t len (l .serial) (l .i) _ (l .inv .2) h refl,
+      fill-more firstOf t len (l .first) (l .i) _ (l .inv .3) h refl,
+      fill-more nextOf t len (l .next) (l .i) _ (l .inv .4) h refl,
+      fill-more kindOf t len (l .kind) (l .i) _ (l .inv .5) h (c .kind-number .ensures),
+    )
+
+returns : tie.Need-returns Inv-loop μ-loop
+returns c =
+    let l = c .before .loop in
+    let t = c .before .before .args .t1 in
+    let len : length t ≡ 255 = c .before .before .good .0 .1 .0 .1 in
+    let h : 255 ≤ l .i = omega arith in
+    columns-are t _ _ _ _ _
+    (fill-all areaOf t len (l .area) (l .i) (l .inv .1) h)
+    (fill-all serialOf t len (l .serial) (l .i) (l .inv .2) h)
+    (fill-all firstOf t len (l .first) (l .i) (l .inv .3) h)
+    (fill-all nextOf t len (l .next) (l .i) (l .inv .4) h)
+    (fill-all kindOf t len (l .kind) (l .i) (l .inv .5) h)
+
+pub columns-of-spec : {M : Type 1} → statement M
+columns-of-spec =
+    tie.close
+    (tie.spec
+    Inv-loop
+    μ-loop
+    loop-holds
+    mul-n
+    array-copy-out-n
+    area-requires
+    mul-area
+    array-write-area
+    mul-serial
+    array-write-serial
+    mul-first
+    array-write-first
+    mul-next
+    array-write-next
+    kind-number-requires
+    array-write-kind
+    add-i
+    loop-less
+    loop-again
+    returns)

@@ -1,0 +1,76 @@
+-- The sum after i places is `areaIn` of these, and no more than that of all.
+use mathlib.Core.Path.{_≡_, sym}
+use mathlib.Core.Logic.{⊎-elim}
+use Prim.Native.Nat.{_+_, _-_, _≤_}
+use native.Mathlib.Omega.{arith}
+use borrow.Author.Needs.{needs}
+use Rattle.sound.specs.Listed.{areaIn}
+use Rattle.sound.proofs.Sums.{area-none, area-here, area-pass, area-grows}
+use Rattle.sound.proofs.listed.free_sum.Statement.{statement}
+use Rattle.sound.proofs.listed.free_sum.Tie as tie
+
+abbrev Inv-loop : tie.InvT-loop
+Inv-loop kind area sum₀ i₀ sum i = (i ≤ 255) × (sum ≡ areaIn 0 kind area i)
+
+abbrev μ-loop : tie.MeasureT-loop
+μ-loop kind area sum₀ i₀ sum i = 255 - i
+
+loop-holds : tie.Need-loop-holds Inv-loop μ-loop
+loop-holds c = (omega arith, sym (area-none 0 (c .args .kind .now) (c .args .area .now)))
+
+element-copy-out-if1 : tie.Need-element-copy-out-if1 Inv-loop μ-loop
+element-copy-out-if1 c = search needs
+
+mul-sum : tie.Need-mul-sum Inv-loop μ-loop
+mul-sum c = search needs
+
+element-copy-out-sum : tie.Need-element-copy-out-sum Inv-loop μ-loop
+element-copy-out-sum c = search needs
+
+add-sum : tie.Need-add-sum Inv-loop μ-loop
+add-sum c =
+    let l = c .before .before .before .before .loop in
+    let s = c .before .before .before .before .before in
+    let k = s .args .kind .now in
+    let a = s .args .area .now in
+    omega (arith, s .pre, area-grows 0 k a 255 (l .i + 1) (omega arith), area-here 0 k a (l .i) (c .before .if1 .taken))
+
+add-i : tie.Need-add-i Inv-loop μ-loop
+add-i c = search needs
+
+loop-less : tie.Need-loop-less Inv-loop μ-loop
+loop-less c = search needs
+
+loop-again : tie.Need-loop-again Inv-loop μ-loop
+loop-again c =
+    let l = c .before .before .before .loop in
+    let k = c .before .before .before .before .args .kind .now in
+    let a = c .before .before .before .before .args .area .now in
+    let more : c .if1 .sum ≡ areaIn 0 k a (l .i + 1) = ⊎-elim
+    (λ w. omega (arith, w .2, area-here 0 k a (l .i) (w .0 .taken)))
+    (λ w. omega (arith, w .1, area-pass 0 k a (l .i) (w .0 .left)))
+    (c .if1 .came)
+    in
+    (omega arith, more)
+
+returns : tie.Need-returns Inv-loop μ-loop
+returns c =
+    let l = c .before .loop in
+    let full : l .i ≡ 255 = omega arith in
+    rw full at (l .inv .1)
+
+pub free-sum-spec : {M : Type 1} → statement M
+free-sum-spec =
+    tie.close
+    (tie.spec
+    Inv-loop
+    μ-loop
+    loop-holds
+    element-copy-out-if1
+    mul-sum
+    element-copy-out-sum
+    add-sum
+    add-i
+    loop-less
+    loop-again
+    returns)

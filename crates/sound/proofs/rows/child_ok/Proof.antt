@@ -1,0 +1,124 @@
+-- `child_ok` meets its contract: each way out is one outcome of the tests of `childB`.
+use mathlib.Core.Path.{ap, _∙_}
+use borrow.Author.Needs.{needs}
+use Rattle.sound.specs.Rows.{childB, sameCut}
+use Rattle.sound.proofs.Chain.{pass-by, pass-eq, pass-le, pass-ne, stop-by, stop-eq, stop-gt, stop-ne}
+use Rattle.sound.proofs.rows.child_ok.Statement.{statement}
+use Rattle.sound.proofs.rows.child_ok.Tie as tie
+
+returns : tie.Need-returns
+unfolding childB
+returns c = stop-eq _ (c .if1 .taken)
+
+returns-2 : tie.Need-returns-2
+unfolding childB
+returns-2 c = pass-ne (c .before .before .if1 .left) (stop-ne _ (c .if2 .taken))
+
+returns-3 : tie.Need-returns-3
+unfolding childB
+returns-3 c =
+    let c2 = c .before .before in
+    let c1 = c2 .before .before in
+    pass-ne (c1 .if1 .left)
+    (pass-eq (c2 .if2 .left)
+    (stop-ne _ (c .if3 .taken)))
+
+cast-level : tie.Need-cast-level
+cast-level c = search needs
+
+cast-above : tie.Need-cast-above
+cast-above c = search needs
+
+add-if4 : tie.Need-add-if4
+add-if4 c = search needs
+
+returns-4 : tie.Need-returns-4
+unfolding childB
+returns-4 c =
+    let c3 = c .before .before .before in
+    let c2 = c3 .before .before in
+    let c1 = c2 .before .before in
+    pass-ne (c1 .if1 .left)
+    (pass-eq (c2 .if2 .left)
+    (pass-eq (c3 .if3 .left)
+    (stop-ne _ (c .if4 .taken))))
+
+returns-5 : tie.Need-returns-5
+unfolding childB
+returns-5 c =
+    let c4 = c .before .before in
+    let c3 = c4 .before .before .before in
+    let c2 = c3 .before .before in
+    let c1 = c2 .before .before in
+    pass-ne (c1 .if1 .left)
+    (pass-eq (c2 .if2 .left)
+    (pass-eq (c3 .if3 .left)
+    (pass-eq (c4 .if4 .left)
+    (stop-gt _ (c .if5 .taken)))))
+
+rotate-requires : tie.Need-rotate-requires
+rotate-requires c κs = search needs
+
+same-cut-requires : tie.Need-same-cut-requires
+same-cut-requires c κs = search needs
+
+returns-6 : tie.Need-returns-6
+unfolding childB
+returns-6 c =
+    let c5 = c .before .before .before in
+    let c4 = c5 .before .before in
+    let c3 = c4 .before .before .before in
+    let c2 = c3 .before .before in
+    let c1 = c2 .before .before in
+    let a = c1 .before .before .before .before .args in
+    let cuts = c .before .same-cut .ensures ∙ ap (sameCut (a .n .datum .cut)) (c .before .before .rotate .ensures) in
+    pass-ne (c1 .if1 .left)
+    (pass-eq (c2 .if2 .left)
+    (pass-eq (c3 .if3 .left)
+    (pass-eq (c4 .if4 .left)
+    (pass-le (c5 .if5 .left)
+    (stop-by _ cuts (c .if6 .left))))))
+
+laid-requires : tie.Need-laid-requires
+laid-requires c κs = search needs
+
+laid-requires-2 : tie.Need-laid-requires-2
+laid-requires-2 c κs = search needs
+
+returns-7 : tie.Need-returns-7
+unfolding childB
+returns-7 c =
+    let c6 = c .before .before .before .before .before .before in
+    let c5 = c6 .before .before .before in
+    let c4 = c5 .before .before in
+    let c3 = c4 .before .before .before in
+    let c2 = c3 .before .before in
+    let c1 = c2 .before .before in
+    let a = c1 .before .before .before .before .args in
+    let cuts = c6 .before .same-cut .ensures ∙ ap (sameCut (a .n .datum .cut)) (c6 .before .before .rotate .ensures) in
+    pass-ne (c1 .if1 .left)
+    (pass-eq (c2 .if2 .left)
+    (pass-eq (c3 .if3 .left)
+    (pass-eq (c4 .if4 .left)
+    (pass-le (c5 .if5 .left)
+    (pass-by cuts (c6 .if6 .taken)
+    (cc))))))
+
+pub child-ok-spec : {M : Type 1} → statement M
+child-ok-spec =
+    tie.close
+    (tie.spec
+    returns
+    returns-2
+    returns-3
+    cast-level
+    cast-above
+    add-if4
+    returns-4
+    returns-5
+    rotate-requires
+    same-cut-requires
+    returns-6
+    laid-requires
+    laid-requires-2
+    returns-7)

@@ -1,0 +1,27 @@
+-- `ends_ok` meets its contract: each way out is one outcome of the tests of `endB`.
+use borrow.Author.Needs.{needs}
+use Rattle.sound.specs.Rows.{endB}
+use Rattle.sound.proofs.Chain.{pass-eq, stop-ne}
+use Rattle.sound.proofs.rows.ends_ok.Statement.{statement}
+use Rattle.sound.proofs.rows.ends_ok.Tie as tie
+
+returns : tie.Need-returns
+unfolding endB
+returns c = stop-ne _ (c .if1 .taken)
+
+returns-2 : tie.Need-returns-2
+unfolding endB
+returns-2 c = pass-eq (c .before .before .if1 .left) (stop-ne _ (c .if2 .taken))
+
+room-of-requires : tie.Need-room-of-requires
+room-of-requires c κs = search needs
+
+cast-result : tie.Need-cast-result
+cast-result c = search needs
+
+returns-3 : tie.Need-returns-3
+unfolding endB
+returns-3 c = pass-eq (c .before .before .before .if1 .left) (pass-eq (c .before .if2 .left) (cc))
+
+pub ends-ok-spec : {M : Type 1} → statement M
+ends-ok-spec = tie.close (tie.spec returns returns-2 room-of-requires cast-result returns-3)

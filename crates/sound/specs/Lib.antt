@@ -1,0 +1,5 @@
+pub mod Columns
+pub mod Places
+pub mod Rows
+pub mod Hung
+pub mod Listed

@@ -1,0 +1,147 @@
+// The clauses on the two lists and on the sums, over columns of the table.
+ghost use mathlib.Core.Path.{_≡_};
+ghost use Prim.Native.Nat.{ℕ, _<_, _≤_, _^_};
+ghost use lib.Dec.{eqb};
+ghost use lib.ListN.{getD};
+ghost use Rattle.sound.specs.Listed.{noneAboveB, areaIn, before, coversB, heldIn, sortedB, wanted};
+
+// Whether the node at a place belongs in the free list, or where `free` is false in the removable list.
+fn is_wanted<'a>(free: bool, serial: &'a [u32; 255], kind: &'a [u8; 255], i: usize) -> bool
+    requires { ⌜ i < 255 ⌝ }
+    ensures { λ r. ⌜ r ≡ wanted free (now (serial .entry)) (now (kind .entry)) i ⌝ }
+{
+    if serial[i] == 0 {
+        return false;
+    }
+    if free {
+        return kind[i] == 0;
+    }
+    kind[i] != 0
+}
+
+// Whether the flags stand exactly at the free pieces, or exactly at the parts and structures.
+pub fn covers<'a>(
+    free: bool,
+    serial: &'a [u32; 255],
+    kind: &'a [u8; 255],
+    flag: &'a [u8; 255],
+) -> bool
+    ensures { λ r. ⌜ r ≡ coversB 255 free (now (serial .entry)) (now (kind .entry)) (now (flag .entry)) ⌝ }
+{
+    let mut i: usize = 0;
+    while i < 255 {
+        if is_wanted(free, serial, kind, i) {
+            if flag[i] != 1 {
+                return false;
+            }
+        } else {
+            if flag[i] == 1 {
+                return false;
+            }
+        }
+        i += 1;
+    }
+    true
+}
+
+// Whether the piece at p comes before the one at q: greatest area first, equal areas by rising serial.
+fn is_before<'a>(area: &'a [u64; 255], serial: &'a [u32; 255], p: u16, q: u16) -> bool
+    requires { ⌜ (p < 255) × (q < 255) ⌝ }
+    ensures { λ r. ⌜ r ≡ before (now (area .entry)) (now (serial .entry)) p q ⌝ }
+{
+    let i = p as usize;
+    let j = q as usize;
+    let a = area[i];
+    let b = area[j];
+    if b < a {
+        return true;
+    }
+    if a == b {
+        return serial[i] < serial[j];
+    }
+    false
+}
+
+// Whether each of the first count entries comes before the next.
+pub fn is_sorted<'a>(
+    area: &'a [u64; 255],
+    serial: &'a [u32; 255],
+    list: &'a [u16; 255],
+    count: usize,
+) -> bool
+    requires { ⌜ (count ≤ 255) × ((k : ℕ) → k < count → getD (now list) k 0 < 255) ⌝ }
+    ensures { λ r. ⌜ r ≡ sortedB (now (area .entry)) (now (serial .entry)) (now (list .entry)) count ⌝ }
+{
+    let mut k: usize = 0;
+    while k + 1 < count {
+        if !is_before(area, serial, list[k], list[k + 1]) {
+            return false;
+        }
+        k += 1;
+    }
+    true
+}
+
+// The number of held places.
+pub fn held_count(serial: &[u32; 255]) -> usize
+    ensures { λ r. ⌜ r ≡ heldIn (now (serial .entry)) 255 ⌝ }
+{
+    let mut n: usize = 0;
+    let mut i: usize = 0;
+    while i < 255 {
+        if serial[i] != 0 {
+            n += 1;
+        }
+        i += 1;
+    }
+    n
+}
+
+// Whether the areas of the parts add to `used`. The sum is taken away from it, so that nothing overflows on any record.
+pub fn used_ok<'a>(kind: &'a [u8; 255], area: &'a [u64; 255], used: u64) -> bool
+    ensures { λ r. ⌜ r ≡ eqb (areaIn 1 (now (kind .entry)) (now (area .entry)) 255) used ⌝ }
+{
+    let mut left = used;
+    let mut i: usize = 0;
+    while i < 255 {
+        if kind[i] == 1 {
+            let a = area[i];
+            if left < a {
+                return false;
+            }
+            left -= a;
+        }
+        i += 1;
+    }
+    left == 0
+}
+
+// The area of the free pieces, where it is known to be small.
+pub fn free_sum<'a>(kind: &'a [u8; 255], area: &'a [u64; 255]) -> u64
+    requires { ⌜ areaIn 0 (now kind) (now area) 255 < 2 ^ 52 ⌝ }
+    ensures { λ r. ⌜ r ≡ areaIn 0 (now (kind .entry)) (now (area .entry)) 255 ⌝ }
+{
+    let mut sum: u64 = 0;
+    let mut i: usize = 0;
+    while i < 255 {
+        if kind[i] == 0 {
+            sum += area[i];
+        }
+        i += 1;
+    }
+    sum
+}
+
+// Whether no serial is above the last one issued.
+pub fn none_above(serial: &[u32; 255], last: u32) -> bool
+    ensures { λ r. ⌜ r ≡ noneAboveB 255 (now (serial .entry)) last ⌝ }
+{
+    let mut i: usize = 0;
+    while i < 255 {
+        if last < serial[i] {
+            return false;
+        }
+        i += 1;
+    }
+    true
+}

@@ -1,0 +1,204 @@
+// The clauses that speak of one place at a time.
+ghost use mathlib.Core.Path.{_≡_};
+ghost use Rattle.tree.specs.Tree.{isFree, isStructure};
+ghost use Rattle.sound.specs.Places.{isHorizontal, kindB, leafB, placeB, placesB, sidedB, topB, zeroB, zeroDatumB, zeroLinksB};
+use piece::node::Datum;
+use piece::node::Kind;
+use piece::orientation::Orientation;
+use piece::size::Size;
+use table::NONE;
+use table::Node;
+
+fn is_free(kind: Kind) -> bool
+    ensures { λ r. ⌜ r ≡ isFree kind ⌝ }
+{
+    match kind {
+        Kind::Free => true,
+        Kind::Part => false,
+        Kind::Structure => false,
+    }
+}
+
+pub fn is_structure(kind: Kind) -> bool
+    ensures { λ r. ⌜ r ≡ isStructure kind ⌝ }
+{
+    match kind {
+        Kind::Free => false,
+        Kind::Part => false,
+        Kind::Structure => true,
+    }
+}
+
+fn is_horizontal(cut: Orientation) -> bool
+    ensures { λ r. ⌜ r ≡ isHorizontal cut ⌝ }
+{
+    match cut {
+        Orientation::Horizontal => true,
+        Orientation::Vertical => false,
+    }
+}
+
+// Whether both sides are at least 1.
+fn is_sided(size: Size) -> bool
+    ensures { λ r. ⌜ r ≡ sidedB size ⌝ }
+{
+    if 1 <= size.width {
+        1 <= size.height
+    } else {
+        false
+    }
+}
+
+// Whether there is no child.
+fn is_leaf(n: Node) -> bool
+    ensures { λ r. ⌜ r ≡ leafB 255 n ⌝ }
+{
+    if n.first == NONE {
+        n.last == NONE
+    } else {
+        false
+    }
+}
+
+fn zero_links(n: Node) -> bool
+    ensures { λ r. ⌜ r ≡ zeroLinksB n ⌝ }
+{
+    if n.parent != 0 {
+        return false;
+    }
+    if n.first != 0 {
+        return false;
+    }
+    if n.last != 0 {
+        return false;
+    }
+    if n.prev != 0 {
+        return false;
+    }
+    n.next == 0
+}
+
+fn zero_datum(d: Datum) -> bool
+    ensures { λ r. ⌜ r ≡ zeroDatumB d ⌝ }
+{
+    if d.serial != 0 {
+        return false;
+    }
+    if d.size.width != 0 {
+        return false;
+    }
+    if d.size.height != 0 {
+        return false;
+    }
+    if d.number != 0 {
+        return false;
+    }
+    if d.level != 0 {
+        return false;
+    }
+    let kind = d.kind;
+    let cut = d.cut;
+    if is_free(kind) {
+        is_horizontal(cut)
+    } else {
+        false
+    }
+}
+
+fn is_zero(n: Node) -> bool
+    ensures { λ r. ⌜ r ≡ zeroB n ⌝ }
+{
+    let d = n.datum;
+    if zero_datum(d) { zero_links(n) } else { false }
+}
+
+// Whether a held node's links, number and sides suit its kind.
+fn kind_ok(n: Node) -> bool
+    ensures { λ r. ⌜ r ≡ kindB 255 (n .datum .kind) n ⌝ }
+{
+    let d = n.datum;
+    let kind = d.kind;
+    let size = d.size;
+    match kind {
+        Kind::Free => {
+            if is_leaf(n) {
+                if d.number == 0 { n.next == NONE } else { false }
+            } else {
+                false
+            }
+        }
+        Kind::Part => {
+            if is_leaf(n) {
+                if d.number <= 65535 {
+                    is_sided(size)
+                } else {
+                    false
+                }
+            } else {
+                false
+            }
+        }
+        Kind::Structure => {
+            if n.first < NONE {
+                if d.number == 0 { is_sided(size) } else { false }
+            } else {
+                false
+            }
+        }
+    }
+}
+
+// A place is all zero where its serial is.
+pub fn place_ok(n: Node) -> bool
+    ensures { λ r. ⌜ r ≡ placeB 255 n ⌝ }
+{
+    if n.datum.serial == 0 {
+        is_zero(n)
+    } else {
+        kind_ok(n)
+    }
+}
+
+pub fn places_ok(nodes: [Node; 255]) -> bool
+    ensures { λ r. ⌜ r ≡ placesB 255 nodes ⌝ }
+{
+    let mut i: usize = 0;
+    while i < 255 {
+        let n = nodes[i];
+        if place_ok(n) {} else {
+            return false;
+        }
+        i += 1;
+    }
+    true
+}
+
+// Whether the node at place 0 is a top with the sheet's size.
+pub fn top_ok(n: Node, sheet: Size) -> bool
+    ensures { λ r. ⌜ r ≡ topB 255 sheet n ⌝ }
+{
+    let d = n.datum;
+    if d.serial == 0 {
+        return false;
+    }
+    if d.level != 0 {
+        return false;
+    }
+    let kind = d.kind;
+    if is_structure(kind) {} else {
+        return false;
+    }
+    if d.size.width != sheet.width {
+        return false;
+    }
+    if d.size.height != sheet.height {
+        return false;
+    }
+    if n.parent != NONE {
+        return false;
+    }
+    if n.prev != NONE {
+        return false;
+    }
+    n.next == NONE
+}
