@@ -22,7 +22,7 @@ pub struct OfferList {
 }
 
 impl OfferList {
-    fn none() -> OfferList
+    pub fn none() -> OfferList
         ensures { λ r. ⌜ r ≡ noOffers ⌝ }
     {
         let z = Offer {

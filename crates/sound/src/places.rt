@@ -9,7 +9,7 @@ use piece::size::Size;
 use table::NONE;
 use table::Node;
 
-fn is_free(kind: Kind) -> bool
+pub fn is_free(kind: Kind) -> bool
     ensures { λ r. ⌜ r ≡ isFree kind ⌝ }
 {
     match kind {

@@ -12,3 +12,5 @@ pub mod Booking
 pub mod Removal
 pub mod Listed
 pub mod Steps
+pub mod Pigeon
+pub mod Unheld

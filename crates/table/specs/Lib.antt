@@ -1,3 +1,4 @@
 pub mod Table
 pub mod Build
 pub mod Steps
+pub mod Unheld

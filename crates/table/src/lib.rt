@@ -1,6 +1,9 @@
 // The linked table of 255 places that holds a cut tree. Rust: LayoutNodes of core/entities/layout.rs, with the links of core/entities/node.rs.
-// It rests on `piece` for what a node is and on `tree` for what the table means.
+// It rests on `piece` for what a node is, on `tree` for what the table means and on `lists` for what a search is.
 use piece::node::Datum;
+
+pub mod nodes;
+pub mod places;
 
 // The most nodes that a layout holds. It is also the number that says that there is no such place.
 pub const LIMIT: usize = 255;

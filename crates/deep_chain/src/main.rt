@@ -1,0 +1,133 @@
+// The deepest sound tree, 254 levels below the top, is examined, snapshotted and measured. The proofs know no stack: tests/stack.sh runs
+// this on one of 2 MiB.
+ghost use Prim.Native.Nat.{_<_};
+use layout::layout::Layout;
+use layout::replies::AreaAnswer;
+use layout::replies::CountAnswer;
+use layout::replies::LightAnswer;
+use layout::replies::UsageAnswer;
+use piece::node::Datum;
+use piece::node::Kind;
+use piece::orientation::Orientation;
+use piece::size::Size;
+use table::NONE;
+use table::Node;
+
+fn sheet() -> Size {
+    Size {
+        width: 7,
+        height: 5,
+    }
+}
+
+fn cut_at(level: usize) -> Orientation {
+    if level % 2 == 0 {
+        Orientation::Horizontal
+    } else {
+        Orientation::Vertical
+    }
+}
+
+// Structures, each the only child of the one above, and a part, number 9, at level 254.
+fn kind_at(level: usize) -> Kind {
+    if level < 254 {
+        Kind::Structure
+    } else {
+        Kind::Part
+    }
+}
+
+fn node_at(level: usize) -> Node
+    requires { ⌜ level < 255 ⌝ }
+{
+    let below = if level < 254 {
+        (level + 1) as u16
+    } else {
+        NONE
+    };
+    let above = if 0 < level { (level - 1) as u16 } else { NONE };
+    let number = if level < 254 { 0u16 } else { 9u16 };
+    Node {
+        datum: Datum {
+            serial: (level + 1) as u32,
+            size: sheet(),
+            number,
+            level: level as u8,
+            kind: kind_at(level),
+            cut: cut_at(level),
+        },
+        parent: above,
+        first: below,
+        last: below,
+        prev: NONE,
+        next: NONE,
+    }
+}
+
+fn chain() -> Layout {
+    let mut l = Layout::zero();
+    let mut i: usize = 0;
+    while i < 255 {
+        l.nodes[i] = node_at(i);
+        l.removable[i] = i as u16;
+        i += 1;
+    }
+    l.held = 255;
+    l.removables = 255;
+    l.used = 35;
+    l.serial = 255;
+    l.stages = 254;
+    l.sheet = sheet();
+    l
+}
+
+fn say(what: &[u8], n: u64) {
+    io::write_all(libc::STDOUT_FILENO, what);
+    io::print_decimal(libc::STDOUT_FILENO, n);
+    io::write_all(libc::STDOUT_FILENO, b"\n");
+}
+
+// The number that an answer gives, or 1,000,000.
+fn count_in(answer: CountAnswer) -> u64 {
+    match answer {
+        CountAnswer::Count(n) => n as u64,
+        CountAnswer::Refused(_) => 1000000,
+    }
+}
+
+fn area_in(answer: AreaAnswer) -> u64 {
+    match answer {
+        AreaAnswer::Area(n) => n,
+        AreaAnswer::Refused(_) => 1000000,
+    }
+}
+
+// 1 where the usage is exactly 1, else 0, or 1,000,000.
+fn usage_in(answer: UsageAnswer) -> u64 {
+    match answer {
+        UsageAnswer::Usage(u) => if u == 1.0 { 1 } else { 0 },
+        UsageAnswer::Refused(_) => 1000000,
+    }
+}
+
+fn wide(b: u8) -> u64 {
+    b as u64
+}
+
+fn main() {
+    let l = chain();
+    let mut out = [0u8; 3400];
+    if l.sound() {
+        io::write_all(libc::STDOUT_FILENO, b"sound\n");
+    }
+    say(b"nodes ", count_in(l.nodes_held()));
+    say(b"used area ", area_in(l.used_area()));
+    say(b"free area ", area_in(l.free_area()));
+    say(b"sheet usage ", usage_in(l.sheet_usage()));
+    say(b"tree usage ", usage_in(l.tree_usage()));
+    say(b"snapshot ", count_in(l.snapshot(&mut out)));
+    say(b"its last node's level ", wide(out[3302]));
+    say(b"its last node's kind ", wide(out[3303]));
+    say(b"its last node's number ", wide(out[3306]));
+    say(b"its last node's height ", wide(out[3314]));
+}

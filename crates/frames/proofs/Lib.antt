@@ -1,0 +1,10 @@
+pub mod Lists
+pub mod Decoding
+pub mod Fields
+pub mod Requests
+pub mod Writing
+pub mod Laws
+pub mod AnswerLaws
+pub mod RequestLaws
+pub mod Heard
+pub mod Session

@@ -1,0 +1,82 @@
+-- `read::insert` meets its contract. Assumes nothing.
+use borrow.Author.Tests.{le-leb, lt-leb}
+use borrow.Author.Needs.{needs}
+use Rattle.frames.specs.Requests.{insertOf}
+use Rattle.frames.proofs.Fields.{insert-read}
+use Rattle.frames.proofs.read.insert.Statement.{statement}
+use Rattle.frames.proofs.read.insert.Tie as tie
+
+element-copy-out-turn : tie.Need-element-copy-out-turn
+element-copy-out-turn c = search needs
+
+element-copy-out-rotation : tie.Need-element-copy-out-rotation
+element-copy-out-rotation c = search needs
+
+element-copy-out-shape : tie.Need-element-copy-out-shape
+element-copy-out-shape c = search needs
+
+returns : tie.Need-returns
+unfolding insertOf
+returns c = simp (lt-leb _ _ (c .if1 .taken))
+
+returns-2 : tie.Need-returns-2
+unfolding insertOf
+returns-2 c = simp (le-leb _ _ (c .before .if1 .left), lt-leb _ _ (c .if2 .taken))
+
+returns-3 : tie.Need-returns-3
+unfolding insertOf
+returns-3 c =
+    simp (le-leb _ _ (c .before .before .if1 .left), le-leb _ _ (c .before .if2 .left), lt-leb _ _ (c .if3 .taken))
+
+returns-4 : tie.Need-returns-4
+unfolding insertOf
+returns-4 c =
+    simp (
+      le-leb _ _ (c .before .before .before .if1 .left),
+      le-leb _ _ (c .before .before .if2 .left),
+      le-leb _ _ (c .before .if3 .left),
+      lt-leb _ _ (c .if4 .taken),
+    )
+
+mark-at-requires : tie.Need-mark-at-requires
+mark-at-requires c κs = search needs
+
+part-at-requires : tie.Need-part-at-requires
+part-at-requires c κs = search needs
+
+rotation-of-requires : tie.Need-rotation-of-requires
+rotation-of-requires c κs = search needs
+
+shape-of-requires : tie.Need-shape-of-requires
+shape-of-requires c κs = search needs
+
+returns-5 : tie.Need-returns-5
+returns-5 c =
+    let f = c .before .before .before in
+    let t = f .before in
+    insert-read _ _ _ _ _
+    (t .before .before .before .if1 .left)
+    (t .before .before .if2 .left)
+    (t .before .if3 .left)
+    (t .if4 .left)
+    (f .mark-at .ensures)
+    (c .before .before .part-at .ensures)
+    (c .before .rotation-of .ensures)
+    (c .shape-of .ensures)
+
+pub insert-spec : {M : Type 1} → statement M
+insert-spec =
+    tie.close
+    (tie.spec
+    element-copy-out-turn
+    element-copy-out-rotation
+    element-copy-out-shape
+    returns
+    returns-2
+    returns-3
+    returns-4
+    mark-at-requires
+    part-at-requires
+    rotation-of-requires
+    shape-of-requires
+    returns-5)

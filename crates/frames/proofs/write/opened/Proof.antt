@@ -1,0 +1,30 @@
+-- `write::opened` meets its contract. Assumes nothing.
+use mathlib.Core.Path.{refl}
+use borrow.Author.Needs.{needs}
+use Rattle.frames.specs.Answers.{contentOf}
+use Rattle.frames.proofs.Writing.{answered, and-then}
+use Rattle.frames.proofs.write.opened.Statement.{statement}
+use Rattle.frames.proofs.write.opened.Tie as tie
+
+begin-requires : tie.Need-begin-requires
+begin-requires c κs = search needs
+
+put-mark-requires : tie.Need-put-mark-requires
+put-mark-requires c κs = search needs
+
+end-requires : tie.Need-end-requires
+end-requires c κs = search needs
+
+same-length : tie.Need-same-length
+same-length c = search needs
+
+returns : tie.Need-returns
+unfolding contentOf
+returns c =
+    let e = c .before .before in
+    let m = e .before .before .before .before in
+    answered _ refl (and-then (m .before .before .before .before .begin .ensures) (m .put-mark .ensures)) (e .end .ensures)
+
+pub opened-spec : {M : Type 1} → statement M
+opened-spec =
+    tie.close (tie.spec begin-requires put-mark-requires end-requires same-length returns)

@@ -1,0 +1,16 @@
+pub mod Covered
+pub mod Listed
+pub mod Summed
+pub mod Unique
+pub mod Exactly
+pub mod Opened
+pub mod Typed
+pub mod SizedBy
+pub mod Ways
+pub mod Entries
+pub mod Marks
+pub mod Figured
+pub mod FiguresSay
+pub mod Lent
+pub mod Snapshots
+pub mod Determined

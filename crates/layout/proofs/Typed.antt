@@ -1,0 +1,19 @@
+-- What the type itself says of a layout that a call is handed: its three arrays have as many entries as there are places.
+-- A call cites `typed-sized self _ (c .good .0)`.
+use mathlib.Core.Path.{sym, _∙_}
+use mathlib.Core.List.{List}
+use lib.ListN.{length-map}
+use mir.Val.{Val}
+use denote.Laws.{Is}
+use denote.Struct.Declared.{row}
+use Rattle.layout.specs.declared.layout.Layout.{Layout}
+use Rattle.layout.specs.SoundLayout.{Sized}
+use Rattle.layout.proofs.layout.Layout.{the-type}
+
+pub typed-sized : (l : Layout) (vs : List Val) → Is (row the-type) l vs → Sized l
+typed-sized l vs g =
+    record {
+      nodes = sym (length-map (l .nodes) _) ∙ g .1 .1 .0 .1 .0 .1;
+      free = sym (length-map (l .free) _) ∙ g .1 .1 .1 .0 .1 .0 .1;
+      removable = sym (length-map (l .removable) _) ∙ g .1 .1 .1 .1 .0 .1 .0 .1;
+    }

@@ -1,0 +1,65 @@
+-- The soundness check as a test: what the code computes. specs/SoundLayout.antt is the rule; proofs/Exactly.antt says that the two agree.
+use mathlib.Core.List.{List}
+use mathlib.Core.Bool.{Bool, true, false, _&&_}
+use Prim.Native.Nat.{ℕ}
+use lib.Dec.{eqb, leb}
+use Rattle.piece.specs.declared.size.Size.{Size}
+use Rattle.tree.specs.Tree.{Tree}
+use Rattle.tree.specs.Sound.{maxSide, maxStages}
+use Rattle.table.specs.Table.{at}
+use Rattle.table.specs.Build.{treeOf}
+use Rattle.lists.specs.Search.{differ, zeroTail}
+use Rattle.lists.specs.Flags.{okB, flagsOf}
+use Rattle.sound.specs.declared.columns.Columns.{Columns}
+use Rattle.sound.specs.Columns.{columnsOf}
+use Rattle.sound.specs.Places.{placesB, topB}
+use Rattle.sound.specs.Rows.{rowsB}
+use Rattle.sound.specs.Hung.{hungB}
+use Rattle.sound.specs.Listed.{areaIn, coversB, heldIn, noneAboveB, sortedB}
+use Rattle.layout.specs.declared.layout.Layout.{Layout}
+
+-- the most nodes that a layout holds, and the greatest serial
+abbrev pub limit : ℕ
+limit = 255
+
+abbrev pub maxSerial : ℕ
+maxSerial = 1000000
+
+-- the tree that a layout holds
+abbrev pub tree : Layout → Tree
+tree l = treeOf limit (l .nodes)
+
+abbrev pub sideB : ℕ → Bool
+sideB s = leb 1 s && leb s maxSide
+
+abbrev pub domainB : ℕ → Size → Bool
+domainB stages sheet = sideB (sheet .width) && (sideB (sheet .height) && (leb 1 stages && leb stages maxStages))
+
+unfoldable pub tableB : Layout → Bool
+tableB l = placesB limit (l .nodes) && (topB limit (l .sheet) (at (l .nodes) 0) && rowsB limit (l .stages) (l .nodes))
+
+unfoldable pub coveredB : Bool → List ℕ → ℕ → List ℕ → List ℕ → Bool
+coveredB free list n serial kind =
+    okB limit list n && (coversB limit free serial kind (flagsOf limit list n) && zeroTail limit list n)
+
+unfoldable pub serialsB : List ℕ → ℕ → Bool
+serialsB serial last = leb last maxSerial && (noneAboveB limit serial last && differ limit serial)
+
+unfoldable pub sumsB : Layout → Columns → Bool
+sumsB l c =
+    eqb (heldIn (c .serial) limit) (l .held) && eqb (areaIn 1 (c .kind) (c .area) limit) (l .used)
+
+unfoldable pub freeB : Layout → Columns → Bool
+freeB l c =
+    coveredB true (l .free) (l .frees) (c .serial) (c .kind) && sortedB (c .area) (c .serial) (l .free) (l .frees)
+
+unfoldable pub removableB : Layout → Columns → Bool
+removableB l c = coveredB false (l .removable) (l .removables) (c .serial) (c .kind)
+
+unfoldable pub columnsB : Layout → Columns → Bool
+columnsB l c =
+    hungB limit (c .serial) (c .first) (c .next)
+    && (sumsB l c && (serialsB (c .serial) (l .serial) && (freeB l c && removableB l c)))
+
+unfoldable pub soundB : Layout → Bool
+soundB l = domainB (l .stages) (l .sheet) && (tableB l && columnsB l (columnsOf (l .nodes)))

@@ -1,0 +1,10 @@
+// A layout: one stock sheet and its pieces (document 01). Every public call takes it by value, examines it first, and answers on every input.
+// Files are named after the Rust's where they match: layout.rt (core/entities/layout.rs) has the record, assertions.rt (util/assertions.rs) the
+// soundness check. It rests on `sound`, `lists` and `walks`, which know the table, the lists and the columns, and on `tree` for what the words mean.
+pub mod assertions;
+pub mod figures;
+pub mod layout;
+pub mod looks;
+pub mod open;
+pub mod replies;
+pub mod written;

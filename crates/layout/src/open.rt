@@ -1,0 +1,161 @@
+// The opening. Rust: Layout::new and LayoutNodes::new of core/entities/layout.rs, Node::new of core/entities/node.rs. Document 01, "Open".
+ghost use mathlib.Core.Path.{_≡_};
+ghost use Rattle.table.specs.Table.{zeroNode};
+ghost use Rattle.layout.specs.Zero.{zeroLayout};
+ghost use Rattle.layout.specs.Open.{freshLayout, freshNodes, openOf};
+use crate::assertions::domain_ok;
+use crate::layout::Layout;
+use answers::Mark;
+use answers::Refusal;
+use piece::node::Datum;
+use piece::node::Kind;
+use piece::orientation::Orientation;
+use piece::size::Size;
+use table::LIMIT;
+use table::NONE;
+use table::Node;
+
+// The mark of the free piece, or why there is none.
+pub enum Opening {
+    Free(Mark),
+    Refused(Refusal),
+}
+
+// With the layout of zeros where it is refused.
+pub struct Opened {
+    pub outcome: Opening,
+    pub layout: Layout,
+}
+
+// What an unheld place holds.
+fn zero_node() -> Node
+    ensures { λ r. ⌜ r ≡ zeroNode ⌝ }
+{
+    Node {
+        datum: Datum {
+            serial: 0,
+            size: Size {
+                width: 0,
+                height: 0,
+            },
+            number: 0,
+            level: 0,
+            kind: Kind::Free,
+            cut: Orientation::Horizontal,
+        },
+        parent: 0,
+        first: 0,
+        last: 0,
+        prev: 0,
+        next: 0,
+    }
+}
+
+// The table with the top at place 0 and its only child, the free piece, at place 1.
+fn fresh_nodes(size: Size, cut: Orientation) -> [Node; LIMIT]
+    ensures { λ r. ⌜ r ≡ freshNodes size cut ⌝ }
+{
+    let zero = zero_node();
+    let other = cut.rotate();
+    let mut nodes = [zero; LIMIT];
+    nodes[0] = Node {
+        datum: Datum {
+            serial: 1,
+            size,
+            number: 0,
+            level: 0,
+            kind: Kind::Structure,
+            cut,
+        },
+        parent: NONE,
+        first: 1,
+        last: 1,
+        prev: NONE,
+        next: NONE,
+    };
+    nodes[1] = Node {
+        datum: Datum {
+            serial: 2,
+            size,
+            number: 0,
+            level: 1,
+            kind: Kind::Free,
+            cut: other,
+        },
+        parent: 0,
+        first: NONE,
+        last: NONE,
+        prev: NONE,
+        next: NONE,
+    };
+    nodes
+}
+
+impl Layout {
+    // All zero: what a refused opening hands back.
+    pub fn zero() -> Layout
+        ensures { λ r. ⌜ r ≡ zeroLayout ⌝ }
+    {
+        let zero = zero_node();
+        Layout {
+            nodes: [zero; LIMIT],
+            free: [0u16; LIMIT],
+            removable: [0u16; LIMIT],
+            held: 0,
+            frees: 0,
+            removables: 0,
+            used: 0,
+            serial: 0,
+            number: 0,
+            stages: 0,
+            sheet: Size {
+                width: 0,
+                height: 0,
+            },
+        }
+    }
+
+    // The layout as it opens. The free list holds place 1, and the removable list the top, which is at place 0.
+    fn fresh(number: u16, size: Size, cut: Orientation, stages: u8) -> Layout
+        ensures { λ r. ⌜ r ≡ freshLayout number size cut stages ⌝ }
+    {
+        let nodes = fresh_nodes(size, cut);
+        let mut free = [0u16; LIMIT];
+        free[0] = 1;
+        Layout {
+            nodes,
+            free,
+            removable: [0u16; LIMIT],
+            held: 2,
+            frees: 1,
+            removables: 1,
+            used: 0,
+            serial: 2,
+            number,
+            stages,
+            sheet: size,
+        }
+    }
+
+    // A layout with one free piece of the sheet's size, or refusal 2.
+    pub fn open(number: u16, size: Size, cut: Orientation, stages: u8) -> Opened
+        ensures { λ r. ⌜ r ≡ openOf number size cut stages ⌝ }
+    {
+        if domain_ok(stages, size) {} else {
+            let layout = Layout::zero();
+            return Opened {
+                outcome: Opening::Refused(Refusal::OpeningOutside),
+                layout,
+            };
+        }
+        let layout = Layout::fresh(number, size, cut, stages);
+        Opened {
+            outcome: Opening::Free(Mark {
+                layout: number,
+                place: 1,
+                serial: 2,
+            }),
+            layout,
+        }
+    }
+}

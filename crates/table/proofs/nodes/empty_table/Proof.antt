@@ -1,0 +1,16 @@
+-- `table::nodes::empty_table` meets its contract: the repeated entry is the zero node. Assumes nothing.
+use mathlib.Core.Path.{ap}
+use borrow.Author.Needs.{needs}
+use lib.ListN.{replicate}
+use Rattle.table.specs.declared.Node.{Node}
+use Rattle.table.proofs.nodes.empty_table.Statement.{statement}
+use Rattle.table.proofs.nodes.empty_table.Tie as tie
+
+no-node-requires : tie.Need-no-node-requires
+no-node-requires c κs = search needs
+
+returns : tie.Need-returns
+returns c = ap (λ (n : Node). replicate 255 n) (c .no-node .ensures)
+
+pub empty-table-spec : {M : Type 1} → statement M
+empty-table-spec = tie.close (tie.spec no-node-requires returns)

@@ -1,0 +1,52 @@
+-- The bytes of a node, as they are written one after the other, and how many they are; how many numbers a piece has. Assumes nothing.
+use mathlib.Core.Path.{_≡_, refl}
+use mathlib.Core.Bool.{Bool, true, false, cond}
+use mathlib.Core.List.{List, [], _∷_}
+use Prim.Native.Nat.{ℕ, suc, _+_, _≤_}
+use native.Mathlib.Numerals.{add-one}
+use native.Mathlib.Omega.{arith}
+use lib.ListN.{length, set}
+use lib.Seq.{sets}
+use Rattle.piece.specs.declared.node.Datum.{Datum}
+use Rattle.tree.specs.Tree.{isPart}
+use Rattle.tree.specs.Snapshot.{kindNo, cutNo, two, four, nodeBytes}
+use Rattle.walks.specs.Along.{partNumber}
+
+-- ---- bytes written one by one
+
+module _ (l : List ℕ) (x : ℕ) where
+  pub two-stored : (a b : ℕ) → set (set l x a) (x + 1) b ≡ sets l x (a ∷ b ∷ [])
+  two-stored a b = rw (add-one x) refl
+
+  pub four-stored : (a b c d : ℕ) → set (set (set (set l x a) (x + 1) b) (x + 2) c) (x + 3) d ≡ sets l x (a ∷ b ∷ c ∷ d ∷ [])
+  four-stored a b c d =
+      let e₂ : x + 2 ≡ suc (suc x) = omega arith in
+      let e₃ : x + 3 ≡ suc (suc (suc x)) = omega arith in
+      rw (add-one x, e₂, e₃) refl
+
+  -- a node's: level, kind and cut, and then its three numbers
+  pub node-stored : (d : Datum) (k c : ℕ) (l₁ l₂ l₃ : List ℕ) → k ≡ kindNo (d .kind) → c ≡ cutNo (d .cut)
+      → l₁ ≡ sets (set (set (set l x (d .level)) (x + 1) k) (x + 2) c) (x + 3) (two (d .number) [])
+      → l₂ ≡ sets l₁ (x + 5) (four (d .size .width) [])
+      → l₃ ≡ sets l₂ (x + 9) (four (d .size .height) [])
+      → l₃ ≡ sets l x (nodeBytes d [])
+  unfolding nodeBytes
+  node-stored d k c l₁ l₂ l₃ is-kind is-cut number width height =
+      let e₂ : x + 2 ≡ suc (suc x) = omega arith in
+      let e₃ : x + 3 ≡ suc (suc (suc x)) = omega arith in
+      let e₅ : x + 5 ≡ suc (suc (suc (suc (suc x)))) = omega arith in
+      let e₉ : x + 9 ≡ suc (suc (suc (suc (suc (suc (suc (suc (suc x)))))))) = omega arith in
+      rw (height, width, number, is-kind, is-cut, add-one x, e₂, e₃, e₅, e₉) refl
+
+-- ---- how many there are
+
+pub length-node : (d : Datum) (r : List ℕ) → length (nodeBytes d r) ≡ 13 + length r
+unfolding nodeBytes
+length-node d r = omega arith
+
+number-one : (b : Bool) (v : ℕ) → length (cond b (v ∷ []) []) ≤ 1
+number-one true v = omega arith
+number-one false v = omega arith
+
+pub number-most : (d : Datum) → length (partNumber d) ≤ 1
+number-most d = number-one (isPart (d .kind)) (d .number)

@@ -1,0 +1,90 @@
+-- `walks::numbers::count_numbers` meets its contract. The loop's invariant: so many numbers are along the first i places, and at most i. The measure
+-- is what is left of the count. Assumes nothing.
+use mathlib.Core.Path.{_≡_, refl, ap, _∙_}
+use Prim.Native.Nat.{ℕ, _-_, _≤_}
+use native.Mathlib.Omega.{arith}
+use borrow.Author.Needs.{needs}
+use lib.ListN.{length, getD}
+use Rattle.table.specs.Table.{at}
+use Rattle.walks.specs.Along.{entries, numberAt, numbersAlong}
+use Rattle.walks.proofs.Entries.{length-more}
+use Rattle.walks.proofs.NodeBytes.{number-most}
+use Rattle.walks.proofs.numbers.count_numbers.Statement.{statement}
+use Rattle.walks.proofs.numbers.count_numbers.Tie as tie
+
+abbrev Inv-loop : tie.InvT-loop
+Inv-loop order count nodes found₀ i₀ found i =
+    (i ≤ count) × (found ≤ i) × (found ≡ length (numbersAlong nodes (entries i order)))
+
+abbrev μ-loop : tie.MeasureT-loop
+μ-loop order count nodes found₀ i₀ found i = count - i
+
+loop-holds : tie.Need-loop-holds Inv-loop μ-loop
+unfolding entries
+loop-holds c = (omega arith, omega arith, refl)
+
+mul-c : tie.Need-mul-c Inv-loop μ-loop
+mul-c c = search needs
+
+element-copy-out-c : tie.Need-element-copy-out-c Inv-loop μ-loop
+element-copy-out-c c = search needs
+
+array-copy-out-node : tie.Need-array-copy-out-node Inv-loop μ-loop
+array-copy-out-node c = c .before .before .before .pre .1 (c .before .before .loop .i) (c .before .loop-test .taken)
+
+cast-p : tie.Need-cast-p Inv-loop μ-loop
+cast-p c = omega (arith, array-copy-out-node c)
+
+mul-node : tie.Need-mul-node Inv-loop μ-loop
+mul-node c = omega (arith, array-copy-out-node c)
+
+count-number-requires : tie.Need-count-number-requires Inv-loop μ-loop
+count-number-requires c κs = search needs
+
+add-found : tie.Need-add-found Inv-loop μ-loop
+add-found c =
+    let l = c .before .before .before .before .loop in
+    let a = c .before .before .before .before .before .args in
+    let d = at (a .t1) (getD (a .order .now) (l .i) 0) .datum in
+    let e = c .count-number .ensures in
+    omega (arith, number-most d)
+
+add-i : tie.Need-add-i Inv-loop μ-loop
+add-i c = search needs
+
+loop-less : tie.Need-loop-less Inv-loop μ-loop
+loop-less c = search needs
+
+loop-again : tie.Need-loop-again Inv-loop μ-loop
+loop-again c =
+    let l = c .before .before .before .before .loop in
+    let a = c .before .before .before .before .before .args in
+    let d = at (a .t1) (getD (a .order .now) (l .i) 0) .datum in
+    let e = c .count-number .ensures in
+    (omega arith, omega (arith, number-most d), omega (arith, length-more (numberAt (a .t1)) (a .order .now) (l .i)))
+
+returns : tie.Need-returns Inv-loop μ-loop
+returns c =
+    let a = c .before .before .args in
+    let l = c .before .loop in
+    let e : l .i ≡ a .count = omega arith in
+    l .inv .2 ∙ ap (λ (i : ℕ). length (numbersAlong (a .t1) (entries i (a .order .now)))) e
+
+pub count-numbers-spec : {M : Type 1} → statement M
+count-numbers-spec =
+    tie.close
+    (tie.spec
+    Inv-loop
+    μ-loop
+    loop-holds
+    mul-c
+    element-copy-out-c
+    cast-p
+    mul-node
+    array-copy-out-node
+    count-number-requires
+    add-found
+    add-i
+    loop-less
+    loop-again
+    returns)

@@ -1,0 +1,86 @@
+-- `walks::snapshot::put_node` meets its contract: three bytes, and then what `put_two` and `put_four` write, are the node's bytes. Assumes nothing.
+use mathlib.Core.Path.{ap, _∙_}
+use native.Mathlib.Omega.{arith}
+use borrow.Author.Needs.{needs}
+use lib.ListN.{length, length-set}
+use lib.Seq.{length-sets}
+use Rattle.walks.proofs.NodeBytes.{node-stored}
+use Rattle.walks.proofs.snapshot.put_node.Statement.{statement}
+use Rattle.walks.proofs.snapshot.put_node.Tie as tie
+
+slice-write-out : tie.Need-slice-write-out
+slice-write-out c = search needs
+
+kind-no-requires : tie.Need-kind-no-requires
+kind-no-requires c κs = search needs
+
+add-out : tie.Need-add-out
+add-out c = search needs
+
+slice-write-out-2 : tie.Need-slice-write-out-2
+slice-write-out-2 c = simp length-set (omega arith)
+
+cut-no-requires : tie.Need-cut-no-requires
+cut-no-requires c κs = search needs
+
+add-out-2 : tie.Need-add-out-2
+add-out-2 c = search needs
+
+slice-write-out-3 : tie.Need-slice-write-out-3
+slice-write-out-3 c = simp length-set (omega arith)
+
+add-put-two : tie.Need-add-put-two
+add-put-two c = search needs
+
+put-two-requires : tie.Need-put-two-requires
+put-two-requires c κs = simp length-set (omega arith)
+
+add-put-four : tie.Need-add-put-four
+add-put-four c = search needs
+
+put-four-requires : tie.Need-put-four-requires
+put-four-requires c κs =
+    let e = simp (length-sets, length-set) at (ap length (c .before .before .before .put-two .ensures)) in
+    omega arith
+
+add-put-four-2 : tie.Need-add-put-four-2
+add-put-four-2 c = search needs
+
+put-four-requires-2 : tie.Need-put-four-requires-2
+put-four-requires-2 c κs =
+    let e = simp (length-sets, length-set) at (ap length (c .before .before .before .before .before .before .before .put-two .ensures)) in
+    let f = simp length-sets at (ap length (c .before .before .before .put-four .ensures)) in
+    omega arith
+
+returns : tie.Need-returns
+returns c =
+    let a = c .before .before .before .before .before .before .before .before .before .before .before .before .before .before .before .args in
+    node-stored (a .out .now) (a .at) (a .d) _ _ _ _ _
+    (c .before .before .before .before .before .before .before .before .before .before .before .before .before .kind-no .ensures)
+    (c .before .before .before .before .before .before .before .before .before .before .before .before .cut-no .ensures)
+    (c .before .before .before .before .before .before .before .before .before .before .put-two .ensures)
+    (c .before .before .before .before .before .before .put-four .ensures)
+    (c .before .before .put-four2 .ensures)
+
+same-length : tie.Need-same-length
+same-length c = ap length (returns c) ∙ simp length-sets
+
+pub put-node-spec : {M : Type 1} → statement M
+put-node-spec =
+    tie.close
+    (tie.spec
+    slice-write-out
+    kind-no-requires
+    add-out
+    slice-write-out-2
+    cut-no-requires
+    add-out-2
+    slice-write-out-3
+    add-put-two
+    put-two-requires
+    add-put-four
+    put-four-requires
+    add-put-four-2
+    put-four-requires-2
+    same-length
+    returns)

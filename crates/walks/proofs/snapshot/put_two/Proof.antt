@@ -1,0 +1,34 @@
+-- `walks::snapshot::put_two` meets its contract. Assumes nothing.
+use Prim.Native.Nat.{_/_, _%_}
+use native.Mathlib.Omega.{arith}
+use borrow.Author.Needs.{needs}
+use lib.ListN.{length-set}
+use Rattle.walks.proofs.NodeBytes.{two-stored}
+use Rattle.walks.proofs.snapshot.put_two.Statement.{statement}
+use Rattle.walks.proofs.snapshot.put_two.Tie as tie
+
+cast-high : tie.Need-cast-high
+cast-high c = search needs
+
+cast-low : tie.Need-cast-low
+cast-low c = search needs
+
+slice-write-out : tie.Need-slice-write-out
+slice-write-out c = search needs
+
+add-out : tie.Need-add-out
+add-out c = search needs
+
+slice-write-out-2 : tie.Need-slice-write-out-2
+slice-write-out-2 c = simp length-set (omega arith)
+
+same-length : tie.Need-same-length
+same-length c = search needs
+
+returns : tie.Need-returns
+returns c = let a = c .args in two-stored (a .out .now) (a .at) (a .v / 256 % 256) (a .v % 256)
+
+pub put-two-spec : {M : Type 1} → statement M
+put-two-spec =
+    tie.close
+    (tie.spec cast-high cast-low slice-write-out add-out slice-write-out-2 same-length returns)

@@ -1,0 +1,68 @@
+-- What is written of the nodes along an order of places: a snapshot's bytes, and the numbers of parts. Document 01, "Tree snapshot": "13 bytes
+-- each"; "Removal": "Part numbers of the subtree come out in tree order"; "What the counter gets": "part numbers held".
+-- An order is lent as an array, of which the first entries count. A check does not know how long the list of a lent array is, so `entries`
+-- says something of lists of every length; on a list that is long enough it is `take` (proofs/Entries.antt).
+use mathlib.Core.Path.{_≡_}
+use mathlib.Core.List.{List, [], _∷_, _++_}
+use mathlib.Core.Bool.{cond}
+use Prim.Native.Nat.{ℕ, zero, suc, _+_, _<_}
+use lib.Dec.{eqb}
+use lib.ListN.{getD}
+use Rattle.piece.specs.declared.node.Datum.{Datum}
+use Rattle.piece.specs.declared.node.Kind.the-variants.{Part}
+use Rattle.piece.specs.Row.{nil, grow}
+use Rattle.tree.specs.Tree.{Tree, isPart}
+use Rattle.tree.specs.Snapshot.{nodeBytes}
+use Rattle.table.specs.declared.Node.{Node}
+use Rattle.table.specs.Table.{at}
+use Rattle.walks.specs.Order.{gathered}
+
+-- the first n entries of a list, where 0 stands for what is not there
+unfoldable pub entries : ℕ → List ℕ → List ℕ
+entries zero l = []
+entries (suc n) l = entries n l ++ (getD l n 0 ∷ [])
+
+-- the numbers below n in order: of a table with n places, every place
+unfoldable pub below : ℕ → List ℕ
+below zero = []
+below (suc n) = below n ++ (n ∷ [])
+
+-- the first n entries are places
+abbrev pub Placed : ℕ → ℕ → List ℕ → Type 0
+Placed limit n l = (i : ℕ) → i < n → getD l i 0 < limit
+
+-- the bytes of the node at a place, and of those at the places of an order, one after the other
+abbrev pub bytesAt : List Node → ℕ → List ℕ
+bytesAt t p = nodeBytes (at t p .datum) []
+
+abbrev pub bytesAlong : List Node → List ℕ → List ℕ
+bytesAlong t order = gathered (bytesAt t) order
+
+-- the number of a part; another piece has none
+abbrev pub partNumber : Datum → List ℕ
+partNumber d = cond (isPart (d .kind)) (d .number ∷ []) []
+
+abbrev pub numberAt : List Node → ℕ → List ℕ
+numberAt t p = partNumber (at t p .datum)
+
+abbrev pub numbersAlong : List Node → List ℕ → List ℕ
+numbersAlong t order = gathered (numberAt t) order
+
+-- how often a number stands in a list
+abbrev pub occurrences : ℕ → List ℕ → ℕ
+occurrences v [] = 0
+occurrences v (x ∷ l) = cond (eqb x v) 1 0 + occurrences v l
+
+-- how many parts a row has, with those below it
+abbrev pub parts : Tree → ℕ
+parts nil = 0
+parts (grow p d k r) = cond (isPart (d .kind)) 1 0 + (parts k + parts r)
+
+-- this holds of each piece of a row, and of those below: of its place, its datum and its children
+abbrev pub Each : (ℕ → Datum → Tree → Type 0) → Tree → Type 0
+Each P nil = Unit {0}
+Each P (grow p d k r) = P p d k × Each P k × Each P r
+
+-- no part has children
+abbrev pub PartsEnd : Tree → Type 0
+PartsEnd w = Each (λ p d k. d .kind ≡ Part → k ≡ nil) w
