@@ -16,7 +16,9 @@ use Rattle.layout.specs.declared.replies.LightAnswer.{LightAnswer}
 use Rattle.layout.specs.declared.replies.MarkAnswer.{MarkAnswer}
 use Rattle.layout.specs.declared.replies.Sought.{Sought}
 use Rattle.layout.specs.declared.replies.OffersAnswer.{OffersAnswer}
+use Rattle.layout.specs.declared.restore.Restored.{Restored}
 use Rattle.layout.specs.Open.{openOf}
+use Rattle.layout.specs.Restore.{restoreOf}
 use Rattle.layout.specs.Answers.{usedAreaOf, freeAreaOf, nodesHeldOf, sheetUsageOf, treeUsageOf, isEmptyOf, freeMarkOf, removableMarkOf, soughtOf, lightOf, offersCall}
 use Rattle.layout.specs.Written.{answerTo, leftIn, snapshotBytes, heldNumbers}
 
@@ -77,3 +79,6 @@ module _ (l : Layout) where
 pub open-is-one : (number : ℕ) (size : Size) (cut : Orientation) (stages : ℕ) (r s : Opened)
     → r ≡ openOf number size cut stages → s ≡ openOf number size cut stages → r ≡ s
 open-is-one number size cut stages = only
+
+pub restore-is-one : (l m : Layout) (r s : Restored) → r ≡ restoreOf l m → s ≡ restoreOf l m → r ≡ s
+restore-is-one l m = only

@@ -4,3 +4,4 @@ pub mod Zero
 pub mod Open
 pub mod Answers
 pub mod Written
+pub mod Restore

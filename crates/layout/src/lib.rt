@@ -7,4 +7,5 @@ pub mod layout;
 pub mod looks;
 pub mod open;
 pub mod replies;
+pub mod restore;
 pub mod written;
