@@ -15,3 +15,5 @@ pub mod Lent
 pub mod Snapshots
 pub mod Determined
 pub mod Restored
+pub mod HoldingSteps
+pub mod FreeSteps
