@@ -1,5 +1,6 @@
 -- The contract of each call determines its answer, and the lent buffer where there is one: two answers that meet it are the same.
 use mathlib.Core.Path.{_≡_, sym, _∙_}
+use mathlib.Core.Bool.{Bool}
 use mathlib.Core.List.{List}
 use Prim.Native.Nat.{ℕ}
 use lib.ListN.{length}
@@ -17,6 +18,8 @@ use Rattle.layout.specs.declared.replies.MarkAnswer.{MarkAnswer}
 use Rattle.layout.specs.declared.replies.Sought.{Sought}
 use Rattle.layout.specs.declared.replies.OffersAnswer.{OffersAnswer}
 use Rattle.layout.specs.declared.restore.Restored.{Restored}
+use Rattle.layout.specs.Check.{soundB}
+use Rattle.layout.specs.Zero.{zeroLayout}
 use Rattle.layout.specs.Open.{openOf}
 use Rattle.layout.specs.Restore.{restoreOf}
 use Rattle.layout.specs.Answers.{usedAreaOf, freeAreaOf, nodesHeldOf, sheetUsageOf, treeUsageOf, isEmptyOf, freeMarkOf, removableMarkOf, soughtOf, lightOf, offersCall}
@@ -27,6 +30,9 @@ only : {A : Type 0} {x : A} (r s : A) → r ≡ x → s ≡ x → r ≡ s
 only r s p q = p ∙ sym q
 
 module _ (l : Layout) where
+  pub sound-is-one : (r s : Bool) → r ≡ soundB l → s ≡ soundB l → r ≡ s
+  sound-is-one = only
+
   pub used-area-is-one : (r s : AreaAnswer) → r ≡ usedAreaOf l → s ≡ usedAreaOf l → r ≡ s
   used-area-is-one = only
 
@@ -82,3 +88,6 @@ open-is-one number size cut stages = only
 
 pub restore-is-one : (l m : Layout) (r s : Restored) → r ≡ restoreOf l m → s ≡ restoreOf l m → r ≡ s
 restore-is-one l m = only
+
+pub zero-is-one : (r s : Layout) → r ≡ zeroLayout → s ≡ zeroLayout → r ≡ s
+zero-is-one = only

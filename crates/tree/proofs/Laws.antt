@@ -4,7 +4,9 @@ pub mod SameTree
 pub mod OpenSound
 pub mod BookingSound
 pub mod RemovalSound
-pub mod Untouched
+pub mod UntouchedByBooking
+pub mod UntouchedByRemoval
+pub mod SolidUntouched
 pub mod BookThenRemove
 pub mod BookingsCommute
 pub mod RemovalsCommute
