@@ -8,16 +8,16 @@ use lib.ListN.{getD, length, take}
 use lib.Seq.{getD-take}
 use Rattle.piece.specs.declared.node.Datum.{Datum}
 use Rattle.piece.specs.declared.node.Kind.the-variants.{Free}
-use Rattle.tree.specs.Tree.{Tree, At, isFree}
+use Rattle.tree.specs.Tree.{At, isFree}
 use Rattle.layout.specs.declared.layout.Layout.{Layout}
 use Rattle.layout.specs.Check.{limit, tree, soundB}
-use Rattle.layout.specs.SoundLayout.{Holding, SoundLayout, Sized}
+use Rattle.layout.specs.SoundLayout.{Pieces, Holding, SoundLayout, Sized}
 use Rattle.layout.proofs.Listed.{entries, piece-low}
 use Rattle.layout.proofs.Exactly.{sound-says}
 
 -- an entry that counts, in the list with its tail
-pub entry-at : {P : Datum → Type 0} {w : Tree} (l : List ℕ) (n : ℕ) → n ≤ length l → Holding P w (take n l) → (k : ℕ) → k < n
-    → (d : Datum) × At (getD l k 0) d w × P d
+pub entry-at : {P : Datum → Type 0} {A : Pieces} (l : List ℕ) (n : ℕ) → n ≤ length l → Holding P A (take n l) → (k : ℕ) → k < n
+    → (d : Datum) × A (getD l k 0) d × P d
 entry-at l n fits h k b = rw (getD-take n l k 0 b) at (h .each k (rw (entries l n fits) b))
 
 module _ (l : Layout) (sized : Sized l) (s : SoundLayout l) where

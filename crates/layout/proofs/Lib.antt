@@ -15,5 +15,4 @@ pub mod Lent
 pub mod Snapshots
 pub mod Determined
 pub mod Restored
-pub mod HoldingSteps
-pub mod FreeSteps
+pub mod Changed

@@ -33,7 +33,7 @@ use Rattle.sound.proofs.Serials.{shown-at}
 use Rattle.sound.proofs.Lists.{covers-says, covers-shown, sorted-all, sorted-shown}
 use Rattle.sound.proofs.Lists.{Before as Ordered}
 use Rattle.layout.specs.Check.{limit, coveredB}
-use Rattle.layout.specs.SoundLayout.{Before, Holding, FreeList, Counted}
+use Rattle.layout.specs.SoundLayout.{piecesOf, Before, Holding, FreeList, Counted}
 
 -- ---- tests
 
@@ -110,7 +110,8 @@ module _ (t : List Node) (w : Tree) (h : Holds limit t w) (marked : Marked w) (f
     flag-says ok p b =
         worded (eq-says (getD (flagsOf limit l n) p 0) 1) (flag-one limit l n ok p b) (λ y. flag-named limit l n ok p (y .0) b (y .1) (y .2))
 
-    covered-listed : okB limit l n ≡ true → coversB limit free (serialsOf t) (kindsOf t) (flagsOf limit l n) ≡ true → Holding P w (take n l)
+    covered-listed : okB limit l n ≡ true → coversB limit free (serialsOf t) (kindsOf t) (flagsOf limit l n) ≡ true
+        → Holding P (piecesOf w) (take n l)
     covered-listed ok e = record { each = each; all = all; once = once }
       where
         fits : n ≤ length l
@@ -140,7 +141,7 @@ module _ (t : List Node) (w : Tree) (h : Holds limit t w) (marked : Marked w) (f
             let d = entry l n fits k b in
             ok-differ limit l n ok j k (c .0) (d .0) (sym (c .1) ∙ z ∙ d .1)
 
-    module _ (room : n ≤ limit) (holding : Holding P w (take n l)) where
+    module _ (room : n ≤ limit) (holding : Holding P (piecesOf w) (take n l)) where
       fits : n ≤ length l
       fits = omega arith
 
@@ -182,7 +183,7 @@ module _ (t : List Node) (w : Tree) (h : Holds limit t w) (marked : Marked w) (f
           passes = λ c. drop-zero-tail limit l n len (c .tail);
         }
 
-    pub covered-says : Says (coveredB free l n (serialsOf t) (kindsOf t)) (Holding P w (take n l) × Counted l n)
+    pub covered-says : Says (coveredB free l n (serialsOf t) (kindsOf t)) (Holding P (piecesOf w) (take n l) × Counted l n)
     unfolding coveredB
     covered-says =
         let ok = okB limit l n in
@@ -204,7 +205,7 @@ module _ (t : List Node) (w : Tree) (h : Holds limit t w) (l : List ℕ) (n : �
   is-ordered p q d e y z o =
       rw (area-of t w h p d y, area-of t w h q e z, serial-of t w h p d y, serial-of t w h q e z) o
 
-  pub free-list-says : Holding (λ (d : Datum). d .kind ≡ Free) w (take n l)
+  pub free-list-says : Holding (λ (d : Datum). d .kind ≡ Free) (piecesOf w) (take n l)
       → Says (sortedB (areasOf t) (serialsOf t) l n) (FreeList w (take n l))
   free-list-says holding = record { says = λ e. record { holding = holding; order = order e }; passes = sorted }
     where

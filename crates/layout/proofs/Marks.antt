@@ -20,7 +20,7 @@ use Rattle.layout.specs.declared.replies.MarkAnswer.the-variants as mark
 use Rattle.layout.specs.declared.replies.Sought.the-variants as sought
 use Rattle.layout.specs.Check.{limit, tree}
 use Rattle.layout.specs.Answers.{markOf, markAt, goneB, soughtOf, freeMarkOf, removableMarkOf}
-use Rattle.layout.specs.SoundLayout.{Holding, SoundLayout, Sized}
+use Rattle.layout.specs.SoundLayout.{piecesOf, Holding, SoundLayout, Sized}
 use Rattle.layout.proofs.Listed.{entry, piece-low, piece-is, piece-held}
 use Rattle.layout.proofs.Exactly.{sound-shown}
 use Rattle.layout.proofs.Ways.{onward, ended, or-else}
@@ -106,7 +106,7 @@ module _ (l : Layout) (s : SoundLayout l) where
 
   module _ (sized : Sized l) where
     -- a list that holds the pieces of which P holds
-    module _ (P : Datum → Type 0) (list : List ℕ) (n : ℕ) (fits : n ≤ length list) (h : Holding P (tree l) (take n list)) where
+    module _ (P : Datum → Type 0) (list : List ℕ) (n : ℕ) (fits : n ≤ length list) (h : Holding P (piecesOf (tree l)) (take n list)) where
       mark-at : (k : ℕ) → k < n → markAt l list n k ≡ marks.Found (markOf l (getD list k 0))
       mark-at k b = sym (onward _ (sound-shown l sized s) (onward _ (lt-ltb k n b) refl))
 

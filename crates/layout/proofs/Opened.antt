@@ -23,7 +23,7 @@ use Rattle.lists.specs.Lists.{padded}
 use Rattle.lists.proofs.Scan.{and-left, and-right}
 use Rattle.lists.proofs.Padded.{length-padded, take-padded, drop-padded}
 use Rattle.layout.specs.Check.{limit, tree, sideB, domainB}
-use Rattle.layout.specs.SoundLayout.{Holding, FreeList, RemovableList, Serials, Counted, SoundLayout, Sized}
+use Rattle.layout.specs.SoundLayout.{piecesOf, Holding, FreeList, RemovableList, Serials, Counted, SoundLayout, Sized}
 use Rattle.layout.specs.Open.{freshNodes, freshLayout}
 
 -- ---- the domain: what the test says
@@ -71,7 +71,7 @@ module _ (size : Size) (cut : Orientation) where
 
   -- a list of one place, of the only piece that belongs there
   one : (P : Datum → Type 0) (p : ℕ) (d : Datum) → At p d (opened cut size) → P d
-      → ((q : ℕ) (e : Datum) → At q e (opened cut size) → P e → q ≡ p) → Holding P (opened cut size) (p ∷ [])
+      → ((q : ℕ) (e : Datum) → At q e (opened cut size) → P e → q ≡ p) → Holding P (piecesOf (opened cut size)) (p ∷ [])
   one P p d g h only =
       record { each = each; all = λ q e y z. (0, omega arith, sym (only q e y z)); once = λ j k a b e. omega arith }
     where

@@ -8,8 +8,11 @@ use Rattle.tree.specs.Tree.{Tree}
 use Rattle.tree.specs.Sound.{maxSide, maxStages}
 use Rattle.table.specs.Table.{at}
 use Rattle.table.specs.Build.{treeOf}
+-- the most nodes that a layout holds is the number of entries of a list
+pub use Rattle.lists.specs.Lists.{limit}
 use Rattle.lists.specs.Search.{differ, zeroTail}
 use Rattle.lists.specs.Flags.{okB, flagsOf}
+pub use Rattle.register.specs.Pieces.{maxSerial}
 use Rattle.sound.specs.declared.columns.Columns.{Columns}
 use Rattle.sound.specs.Columns.{columnsOf}
 use Rattle.sound.specs.Places.{placesB, topB}
@@ -17,13 +20,6 @@ use Rattle.sound.specs.Rows.{rowsB}
 use Rattle.sound.specs.Hung.{hungB}
 use Rattle.sound.specs.Listed.{areaIn, coversB, heldIn, noneAboveB, sortedB}
 use Rattle.layout.specs.declared.layout.Layout.{Layout}
-
--- the most nodes that a layout holds, and the greatest serial
-abbrev pub limit : ℕ
-limit = 255
-
-abbrev pub maxSerial : ℕ
-maxSerial = 1000000
 
 -- the tree that a layout holds
 abbrev pub tree : Layout → Tree

@@ -5,3 +5,6 @@ pub mod Open
 pub mod Answers
 pub mod Written
 pub mod Restore
+pub mod Next
+pub mod Refusing
+pub mod Parts

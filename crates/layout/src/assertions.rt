@@ -18,6 +18,7 @@ use sound::listed::used_ok;
 use sound::places::places_ok;
 use sound::places::top_ok;
 use sound::rows::rows_ok;
+use table::LIMIT;
 
 pub const MAX_SIDE: u32 = 67108863;
 
@@ -51,10 +52,10 @@ pub fn domain_ok(stages: u8, sheet: Size) -> bool
 // A list names exactly the pieces that it should, each once, and has a zero tail.
 fn covered<'a>(
     free: bool,
-    list: &'a [u16; 255],
+    list: &'a [u16; LIMIT],
     count: usize,
-    serial: &'a [u32; 255],
-    kind: &'a [u8; 255],
+    serial: &'a [u32; LIMIT],
+    kind: &'a [u8; LIMIT],
 ) -> bool
     ensures { λ r. ⌜ r ≡ coveredB free (now (list .entry)) count (now (serial .entry)) (now (kind .entry)) ⌝ }
 {
@@ -70,7 +71,7 @@ fn covered<'a>(
 }
 
 // The serials of held places differ and are at most the last one issued, which is at most the greatest.
-fn serials_ok(serial: &[u32; 255], last: u32) -> bool
+fn serials_ok(serial: &[u32; LIMIT], last: u32) -> bool
     ensures { λ r. ⌜ r ≡ serialsB (now (serial .entry)) last ⌝ }
 {
     if MAX_SERIAL < last {

@@ -6,6 +6,7 @@ pub mod figures;
 pub mod layout;
 pub mod looks;
 pub mod open;
+pub mod parts;
 pub mod replies;
 pub mod restore;
 pub mod written;

@@ -1,6 +1,7 @@
 // The calls that look at a list, a mark or a part: the marks of the two lists, the room light, and the offers of a free piece.
 ghost use mathlib.Core.Path.{_≡_};
 ghost use Prim.Native.Nat.{_<_};
+ghost use Rattle.lists.specs.Lists.{limit};
 ghost use Rattle.layout.specs.Answers.{fitsIn, fitsSome, freeMarkOf, lightOf, markOf, offersCall, partB, refusedOffers, removableMarkOf, soughtOf};
 use crate::assertions::side_ok;
 use crate::layout::Layout;
@@ -18,6 +19,7 @@ use piece::parttype::PartType;
 use piece::rotation::Rotation;
 use piece::size::Size;
 use sound::places::is_free;
+use table::NONE;
 
 // Whether the part's sides are in the domain.
 pub fn part_ok(part: PartType) -> bool
@@ -64,7 +66,7 @@ fn refused_offers(refusal: Refusal) -> OffersAnswer
 impl Layout {
     // The mark of the piece at a place.
     fn mark_of(self, place: u16) -> Mark
-        requires { ⌜ place < 255 ⌝ }
+        requires { ⌜ place < limit ⌝ }
         ensures { λ r. ⌜ r ≡ markOf self place ⌝ }
     {
         let at = place as usize;
@@ -112,7 +114,7 @@ impl Layout {
             return Sought::Refused(Refusal::OtherLayout);
         }
         let place = mark.place;
-        if 255 <= place {
+        if NONE <= place {
             return Sought::Refused(Refusal::Gone);
         }
         let at = place as usize;

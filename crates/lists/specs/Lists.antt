@@ -6,7 +6,7 @@ use Prim.Native.Nat.{ℕ, _+_, _-_}
 use lib.ListN.{getD, set, length, take, drop, replicate}
 use lib.Seq.{sets}
 
--- the number of entries of a list: `LIMIT` of the source
+-- the number of entries of a list, and so of places of a table and of nodes of a layout: `LIMIT` of src/lib.rt, and the one limit of all contracts
 abbrev pub limit : ℕ
 limit = 255
 

@@ -5,5 +5,6 @@ pub mod search;
 pub mod serials;
 pub mod shift;
 
-// The number of entries of a list or a column. The number that the contracts cite is `limit` of specs/Lists.antt.
+// The number of entries of a list or a column, and so of places of a table and of nodes of a layout. No other file writes it out: the crates
+// above take it from here, and all contracts and proofs take `limit` from specs/Lists.antt. Change the two together; the proofs hold them equal.
 pub const LIMIT: usize = 255;

@@ -3,14 +3,15 @@ ghost use mathlib.Core.Path.{_≡_};
 ghost use Rattle.sound.specs.Columns.{columnsOf};
 ghost use Rattle.tree.specs.Snapshot.{kindNo};
 use piece::node::Kind;
+use table::LIMIT;
 use table::Node;
 
 pub struct Columns {
-    pub area: [u64; 255],
-    pub serial: [u32; 255],
-    pub first: [u16; 255],
-    pub next: [u16; 255],
-    pub kind: [u8; 255],
+    pub area: [u64; LIMIT],
+    pub serial: [u32; LIMIT],
+    pub first: [u16; LIMIT],
+    pub next: [u16; LIMIT],
+    pub kind: [u8; LIMIT],
 }
 
 // 0 free, 1 part, 2 structure, as in snapshots.
@@ -24,16 +25,16 @@ pub fn kind_number(kind: Kind) -> u8
     }
 }
 
-pub fn columns_of(nodes: [Node; 255]) -> Columns
+pub fn columns_of(nodes: [Node; LIMIT]) -> Columns
     ensures { λ r. ⌜ r ≡ columnsOf nodes ⌝ }
 {
-    let mut area = [0u64; 255];
-    let mut serial = [0u32; 255];
-    let mut first = [0u16; 255];
-    let mut next = [0u16; 255];
-    let mut kind = [0u8; 255];
+    let mut area = [0u64; LIMIT];
+    let mut serial = [0u32; LIMIT];
+    let mut first = [0u16; LIMIT];
+    let mut next = [0u16; LIMIT];
+    let mut kind = [0u8; LIMIT];
     let mut i: usize = 0;
-    while i < 255 {
+    while i < LIMIT {
         let n = nodes[i];
         let d = n.datum;
         let size = d.size;

@@ -3,11 +3,13 @@ ghost use mathlib.Core.Path.{_≡_};
 ghost use Prim.Native.Nat.{ℕ, _<_, _≤_, _^_};
 ghost use lib.Dec.{eqb};
 ghost use lib.ListN.{getD};
+ghost use Rattle.lists.specs.Lists.{limit};
 ghost use Rattle.sound.specs.Listed.{noneAboveB, areaIn, before, coversB, heldIn, sortedB, wanted};
+use table::LIMIT;
 
 // Whether the node at a place belongs in the free list, or where `free` is false in the removable list.
-fn is_wanted<'a>(free: bool, serial: &'a [u32; 255], kind: &'a [u8; 255], i: usize) -> bool
-    requires { ⌜ i < 255 ⌝ }
+fn is_wanted<'a>(free: bool, serial: &'a [u32; LIMIT], kind: &'a [u8; LIMIT], i: usize) -> bool
+    requires { ⌜ i < limit ⌝ }
     ensures { λ r. ⌜ r ≡ wanted free (now (serial .entry)) (now (kind .entry)) i ⌝ }
 {
     if serial[i] == 0 {
@@ -22,14 +24,14 @@ fn is_wanted<'a>(free: bool, serial: &'a [u32; 255], kind: &'a [u8; 255], i: usi
 // Whether the flags stand exactly at the free pieces, or exactly at the parts and structures.
 pub fn covers<'a>(
     free: bool,
-    serial: &'a [u32; 255],
-    kind: &'a [u8; 255],
-    flag: &'a [u8; 255],
+    serial: &'a [u32; LIMIT],
+    kind: &'a [u8; LIMIT],
+    flag: &'a [u8; LIMIT],
 ) -> bool
-    ensures { λ r. ⌜ r ≡ coversB 255 free (now (serial .entry)) (now (kind .entry)) (now (flag .entry)) ⌝ }
+    ensures { λ r. ⌜ r ≡ coversB limit free (now (serial .entry)) (now (kind .entry)) (now (flag .entry)) ⌝ }
 {
     let mut i: usize = 0;
-    while i < 255 {
+    while i < LIMIT {
         if is_wanted(free, serial, kind, i) {
             if flag[i] != 1 {
                 return false;
@@ -45,8 +47,8 @@ pub fn covers<'a>(
 }
 
 // Whether the piece at p comes before the one at q: greatest area first, equal areas by rising serial.
-fn is_before<'a>(area: &'a [u64; 255], serial: &'a [u32; 255], p: u16, q: u16) -> bool
-    requires { ⌜ (p < 255) × (q < 255) ⌝ }
+fn is_before<'a>(area: &'a [u64; LIMIT], serial: &'a [u32; LIMIT], p: u16, q: u16) -> bool
+    requires { ⌜ (p < limit) × (q < limit) ⌝ }
     ensures { λ r. ⌜ r ≡ before (now (area .entry)) (now (serial .entry)) p q ⌝ }
 {
     let i = p as usize;
@@ -64,12 +66,12 @@ fn is_before<'a>(area: &'a [u64; 255], serial: &'a [u32; 255], p: u16, q: u16) -
 
 // Whether each of the first count entries comes before the next.
 pub fn is_sorted<'a>(
-    area: &'a [u64; 255],
-    serial: &'a [u32; 255],
-    list: &'a [u16; 255],
+    area: &'a [u64; LIMIT],
+    serial: &'a [u32; LIMIT],
+    list: &'a [u16; LIMIT],
     count: usize,
 ) -> bool
-    requires { ⌜ (count ≤ 255) × ((k : ℕ) → k < count → getD (now list) k 0 < 255) ⌝ }
+    requires { ⌜ (count ≤ limit) × ((k : ℕ) → k < count → getD (now list) k 0 < limit) ⌝ }
     ensures { λ r. ⌜ r ≡ sortedB (now (area .entry)) (now (serial .entry)) (now (list .entry)) count ⌝ }
 {
     let mut k: usize = 0;
@@ -83,12 +85,12 @@ pub fn is_sorted<'a>(
 }
 
 // The number of held places.
-pub fn held_count(serial: &[u32; 255]) -> usize
-    ensures { λ r. ⌜ r ≡ heldIn (now (serial .entry)) 255 ⌝ }
+pub fn held_count(serial: &[u32; LIMIT]) -> usize
+    ensures { λ r. ⌜ r ≡ heldIn (now (serial .entry)) limit ⌝ }
 {
     let mut n: usize = 0;
     let mut i: usize = 0;
-    while i < 255 {
+    while i < LIMIT {
         if serial[i] != 0 {
             n += 1;
         }
@@ -98,12 +100,12 @@ pub fn held_count(serial: &[u32; 255]) -> usize
 }
 
 // Whether the areas of the parts add to `used`. The sum is taken away from it, so that nothing overflows on any record.
-pub fn used_ok<'a>(kind: &'a [u8; 255], area: &'a [u64; 255], used: u64) -> bool
-    ensures { λ r. ⌜ r ≡ eqb (areaIn 1 (now (kind .entry)) (now (area .entry)) 255) used ⌝ }
+pub fn used_ok<'a>(kind: &'a [u8; LIMIT], area: &'a [u64; LIMIT], used: u64) -> bool
+    ensures { λ r. ⌜ r ≡ eqb (areaIn 1 (now (kind .entry)) (now (area .entry)) limit) used ⌝ }
 {
     let mut left = used;
     let mut i: usize = 0;
-    while i < 255 {
+    while i < LIMIT {
         if kind[i] == 1 {
             let a = area[i];
             if left < a {
@@ -117,13 +119,13 @@ pub fn used_ok<'a>(kind: &'a [u8; 255], area: &'a [u64; 255], used: u64) -> bool
 }
 
 // The area of the free pieces, where it is known to be small.
-pub fn free_sum<'a>(kind: &'a [u8; 255], area: &'a [u64; 255]) -> u64
-    requires { ⌜ areaIn 0 (now kind) (now area) 255 < 2 ^ 52 ⌝ }
-    ensures { λ r. ⌜ r ≡ areaIn 0 (now (kind .entry)) (now (area .entry)) 255 ⌝ }
+pub fn free_sum<'a>(kind: &'a [u8; LIMIT], area: &'a [u64; LIMIT]) -> u64
+    requires { ⌜ areaIn 0 (now kind) (now area) limit < 2 ^ 52 ⌝ }
+    ensures { λ r. ⌜ r ≡ areaIn 0 (now (kind .entry)) (now (area .entry)) limit ⌝ }
 {
     let mut sum: u64 = 0;
     let mut i: usize = 0;
-    while i < 255 {
+    while i < LIMIT {
         if kind[i] == 0 {
             sum += area[i];
         }
@@ -133,11 +135,11 @@ pub fn free_sum<'a>(kind: &'a [u8; 255], area: &'a [u64; 255]) -> u64
 }
 
 // Whether no serial is above the last one issued.
-pub fn none_above(serial: &[u32; 255], last: u32) -> bool
-    ensures { λ r. ⌜ r ≡ noneAboveB 255 (now (serial .entry)) last ⌝ }
+pub fn none_above(serial: &[u32; LIMIT], last: u32) -> bool
+    ensures { λ r. ⌜ r ≡ noneAboveB limit (now (serial .entry)) last ⌝ }
 {
     let mut i: usize = 0;
-    while i < 255 {
+    while i < LIMIT {
         if last < serial[i] {
             return false;
         }

@@ -1,11 +1,13 @@
 // The clauses that speak of one place at a time.
 ghost use mathlib.Core.Path.{_≡_};
 ghost use Rattle.tree.specs.Tree.{isFree, isStructure};
+ghost use Rattle.lists.specs.Lists.{limit};
 ghost use Rattle.sound.specs.Places.{isHorizontal, kindB, leafB, placeB, placesB, sidedB, topB, zeroB, zeroDatumB, zeroLinksB};
 use piece::node::Datum;
 use piece::node::Kind;
 use piece::orientation::Orientation;
 use piece::size::Size;
+use table::LIMIT;
 use table::NONE;
 use table::Node;
 
@@ -51,7 +53,7 @@ fn is_sided(size: Size) -> bool
 
 // Whether there is no child.
 fn is_leaf(n: Node) -> bool
-    ensures { λ r. ⌜ r ≡ leafB 255 n ⌝ }
+    ensures { λ r. ⌜ r ≡ leafB limit n ⌝ }
 {
     if n.first == NONE {
         n.last == NONE
@@ -114,7 +116,7 @@ fn is_zero(n: Node) -> bool
 
 // Whether a held node's links, number and sides suit its kind.
 fn kind_ok(n: Node) -> bool
-    ensures { λ r. ⌜ r ≡ kindB 255 (n .datum .kind) n ⌝ }
+    ensures { λ r. ⌜ r ≡ kindB limit (n .datum .kind) n ⌝ }
 {
     let d = n.datum;
     let kind = d.kind;
@@ -150,7 +152,7 @@ fn kind_ok(n: Node) -> bool
 
 // A place is all zero where its serial is.
 pub fn place_ok(n: Node) -> bool
-    ensures { λ r. ⌜ r ≡ placeB 255 n ⌝ }
+    ensures { λ r. ⌜ r ≡ placeB limit n ⌝ }
 {
     if n.datum.serial == 0 {
         is_zero(n)
@@ -159,11 +161,11 @@ pub fn place_ok(n: Node) -> bool
     }
 }
 
-pub fn places_ok(nodes: [Node; 255]) -> bool
-    ensures { λ r. ⌜ r ≡ placesB 255 nodes ⌝ }
+pub fn places_ok(nodes: [Node; LIMIT]) -> bool
+    ensures { λ r. ⌜ r ≡ placesB limit nodes ⌝ }
 {
     let mut i: usize = 0;
-    while i < 255 {
+    while i < LIMIT {
         let n = nodes[i];
         if place_ok(n) {} else {
             return false;
@@ -175,7 +177,7 @@ pub fn places_ok(nodes: [Node; 255]) -> bool
 
 // Whether the node at place 0 is a top with the sheet's size.
 pub fn top_ok(n: Node, sheet: Size) -> bool
-    ensures { λ r. ⌜ r ≡ topB 255 sheet n ⌝ }
+    ensures { λ r. ⌜ r ≡ topB limit sheet n ⌝ }
 {
     let d = n.datum;
     if d.serial == 0 {

@@ -1,8 +1,10 @@
 // The clauses that speak of a parent and its children: each row is walked by its links, within as many steps as there are places.
 ghost use mathlib.Core.Path.{_≡_};
+ghost use Rattle.lists.specs.Lists.{limit};
 ghost use Rattle.sound.specs.Rows.{childB, endB, parentB, room, rowsB, sameCut, step};
 use crate::places::is_structure;
 use piece::orientation::Orientation;
+use table::LIMIT;
 use table::NONE;
 use table::Node;
 
@@ -89,7 +91,7 @@ fn is_parent(n: Node) -> bool
 
 // Whether a row ends as it should: at no place, at its parent's last child, with its parent's side filled.
 fn ends_ok(up: Node, pv: u16, p: u16, sum: u64) -> bool
-    ensures { λ r. ⌜ r ≡ endB 255 up pv p sum ⌝ }
+    ensures { λ r. ⌜ r ≡ endB limit up pv p sum ⌝ }
 {
     if p != NONE {
         return false;
@@ -101,20 +103,20 @@ fn ends_ok(up: Node, pv: u16, p: u16, sum: u64) -> bool
 }
 
 // Every row of a held structure is linked and filled.
-pub fn rows_ok(nodes: [Node; 255], stages: u8) -> bool
-    ensures { λ r. ⌜ r ≡ rowsB 255 stages nodes ⌝ }
+pub fn rows_ok(nodes: [Node; LIMIT], stages: u8) -> bool
+    ensures { λ r. ⌜ r ≡ rowsB limit stages nodes ⌝ }
 {
     let mut ok = true;
     let mut q: usize = 0;
-    'all: while q < 255 {
+    'all: while q < LIMIT {
         let up = nodes[q];
         if is_parent(up) {
             let above = q as u16;
             let mut pv = NONE;
             let mut p = up.first;
-            // A side is below 2^32 and there are at most 255 steps, so the sum fits.
+            // A side is below 2^32 and there are at most LIMIT steps, so the sum fits.
             let mut sum: u64 = 0;
-            let mut left: usize = 255;
+            let mut left: usize = LIMIT;
             while p < NONE && 0 < left {
                 let here = p as usize;
                 let n = nodes[here];

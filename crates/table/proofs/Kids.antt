@@ -3,7 +3,7 @@
 use mathlib.Core.Path.{_≡_, refl, sym, ap, _∙_, subst}
 use mathlib.Core.Bool.{Bool, true, false, cond}
 use mathlib.Core.Logic.{_⊎_, inl, inr, ⊎-elim}
-use Prim.Native.Nat.{ℕ, _<_}
+use Prim.Native.Nat.{ℕ, _+_, _<_}
 use native.Mathlib.Omega.{arith}
 use lib.Dec.{eqb}
 use borrow.Author.Tests.{eq-eqb, ne-eqb}
@@ -243,6 +243,15 @@ module _ (q : ℕ) (k : Tree) where
           dis .3,
           put-distinct r (dis .4) h dk (λ i y z. n i y (inr (inr z))),
         )
+
+    -- the new children are counted for the old ones
+    pub put-count : (w : Tree) → Distinct w → Kids q m w → count (put q k w) + count m ≡ count w + count k
+    put-count nil dis h = absurd h
+    put-count (grow p d l r) dis (inl e) = rw (put-here p d l r (e .0), e .1) (omega arith)
+    put-count (grow p d l r) dis (inr (inl h)) =
+        let ih = put-count l (dis .3) h in rw (put-left p d l r dis (kids-in q m l h)) (omega arith)
+    put-count (grow p d l r) dis (inr (inr h)) =
+        let ih = put-count r (dis .4) h in rw (put-right p d l r dis (kids-in q m r h)) (omega arith)
 
     pub put-put : (w : Tree) → put q k (put q m w) ≡ put q k w
     put-put nil = refl

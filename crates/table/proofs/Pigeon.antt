@@ -1,4 +1,4 @@
--- A row with fewer than n pieces leaves one of the places below n free. Assumes nothing.
+-- A row of so many pieces does not fill more places than that. Assumes nothing.
 use mathlib.Core.Path.{_≡_, refl}
 use mathlib.Core.Bool.{Bool, true, false, cond}
 use mathlib.Core.Logic.{_⊎_, inl, inr}
@@ -8,7 +8,7 @@ use lib.Dec.{ltb}
 use borrow.Author.Tests.{ltb-true, lt-ltb, le-ltb}
 use Rattle.piece.specs.Row.{Row, nil, grow}
 use Rattle.tree.specs.Tree.{In, count}
-use Rattle.tree.proofs.Rows.{in?}
+use Rattle.tree.proofs.Rows.{same?}
 
 -- 1 for a place below n
 abbrev one : ℕ → ℕ → ℕ
@@ -33,15 +33,15 @@ one-here n p e = rw (le-ltb p n (omega arith), lt-ltb p (suc n) (omega arith)) (
 
 module _ {A : Type 0} where
   -- how many pieces have a place below n
-  abbrev low : ℕ → Row A → ℕ
+  abbrev pub low : ℕ → Row A → ℕ
   low n nil = 0
   low n (grow p d k r) = one n p + (low n k + low n r)
 
-  low-most : (n : ℕ) (w : Row A) → low n w ≤ count w
+  pub low-most : (n : ℕ) (w : Row A) → low n w ≤ count w
   low-most n nil = omega arith
   low-most n (grow p d k r) = omega (arith, one-most n p, low-most n k, low-most n r)
 
-  low-more : (n : ℕ) (w : Row A) → low n w ≤ low (suc n) w
+  pub low-more : (n : ℕ) (w : Row A) → low n w ≤ low (suc n) w
   low-more n nil = omega arith
   low-more n (grow p d k r) = omega (arith, one-more n p, low-more n k, low-more n r)
 
@@ -51,13 +51,15 @@ module _ {A : Type 0} where
   low-here n (grow p d k r) (inr (inl h)) = omega (arith, one-more n p, low-here n k h, low-more n r)
   low-here n (grow p d k r) (inr (inr h)) = omega (arith, one-more n p, low-more n k, low-here n r h)
 
-  gap : (n : ℕ) (w : Row A) → low n w < n → (i : ℕ) × (i < n) × (In i w → ⊥)
-  gap zero w h = let no-place : ⊥ = omega arith in absurd no-place
-  gap (suc n) w h = go (in? n w) (gap n w)
+  -- each place from n up to m is one of the row's: so many pieces more are below m than below n
+  pub low-filled : (n m : ℕ) (w : Row A) → n ≤ m → ((j : ℕ) → n ≤ j → j < m → In j w) → low n w + m ≤ low m w + n
+  low-filled n zero w l f = let e : n ≡ 0 = omega arith in rw e (omega arith)
+  low-filled n (suc m) w l f = go (same? n (suc m)) (low-filled n m w)
     where
-      go : In n w ⊎ (In n w → ⊥) → (low n w < n → (i : ℕ) × (i < n) × (In i w → ⊥)) → (i : ℕ) × (i < suc n) × (In i w → ⊥)
-      go (inl y) ih = let g = ih (omega (arith, low-here n w y)) in (g .0, omega arith, g .2)
-      go (inr m) ih = (n, omega arith, m)
-
-  pub spare : (n : ℕ) (w : Row A) → count w < n → (i : ℕ) × (i < n) × (In i w → ⊥)
-  spare n w h = gap n w (omega (arith, low-most n w))
+      go : (n ≡ suc m) ⊎ (n ≡ suc m → ⊥)
+          → (n ≤ m → ((j : ℕ) → n ≤ j → j < m → In j w) → low n w + m ≤ low m w + n) → low n w + suc m ≤ low (suc m) w + n
+      go (inl e) ih = rw e (omega arith)
+      go (inr o) ih =
+          let a = ih (omega arith) (λ j b c. f j b (omega arith)) in
+          let b = low-here m w (f m (omega arith) (omega arith)) in
+          omega arith

@@ -79,7 +79,7 @@ module _ (x : ℕ) (P : Datum → Tree → Tree → Type 0) where
   where-kids q m (grow p e k r) h (inr (inl g)) = where-kids q m k (h .1) g
   where-kids q m (grow p e k r) h (inr (inr g)) = where-kids q m r (h .2) g
 
-  where-spot : (w : Tree) (s : Spot x w) → Where x P w → P (s .datum) (s .below) (s .behind)
+  pub where-spot : (w : Tree) (s : Spot x w) → Where x P w → P (s .datum) (s .below) (s .behind)
   where-spot w s h =
       where-row (s .before) (s .datum) (s .below) (s .behind)
       (where-kids (s .parent) (after (s .before) (grow x (s .datum) (s .below) (s .behind))) w h (s .kids))
@@ -102,7 +102,7 @@ module _ (limit stages : ℕ) (sheet : Size) (t : List Node) (w : Tree) (sound :
   sound-linkage marked = holds-linkage limit t w rooted h deep marked
 
   -- the parent that the table shows
-  parent-is : (x : ℕ) (s : Spot x w) → at t x .parent ≡ s .parent
+  pub parent-is : (x : ℕ) (s : Spot x w) → at t x .parent ≡ s .parent
   parent-is x s =
       let m = after (s .before) (grow x (s .datum) (s .below) (s .behind)) in
       let o = shows limit t limit limit (s .parent) m w (h .rep) (s .kids) in
@@ -172,30 +172,33 @@ module _ (limit stages : ℕ) (sheet : Size) (t : List Node) (w : Tree) (sound :
 
   -- a removal of the piece z at x
   module _ (x : ℕ) (z : Removable x w) where
-    s : Spot x w
-    s = spot-in x w rooted (at-in x (z .piece) w (z .there)) (z .below)
+    -- where it stands
+    pub spot : Spot x w
+    spot = spot-in x w rooted (at-in x (z .piece) w (z .there)) (z .below)
 
-    kids : Kids (s .parent) (after (s .before) (grow x (z .piece) (s .below) (s .behind))) w
-    kids = rw (where-spot x (This (z .piece)) w s (only x (z .piece) w (h .distinct) (z .there))) at (s .kids)
+    -- the row that it stands in
+    pub row : Kids (spot .parent) (after (spot .before) (grow x (z .piece) (spot .below) (spot .behind))) w
+    row = rw (where-spot x (This (z .piece)) w spot (only x (z .piece) w (h .distinct) (z .there))) at (spot .kids)
 
-    leaves : FreeLeaves (s .behind)
+    pub leaves : FreeLeaves (spot .behind)
     leaves =
-        leaves-from (s .before) (grow x (z .piece) (s .below) (s .behind))
-        (topped-leaves stages sheet (s .parent) (after (s .before) (grow x (z .piece) (s .below) (s .behind))) w (sound .topped) kids) .1
+        leaves-from (spot .before) (grow x (z .piece) (spot .below) (spot .behind))
+        (topped-leaves stages sheet (spot .parent) (after (spot .before) (grow x (z .piece) (spot .below) (spot .behind))) w (sound .topped) row) .1
 
-    going-is : going t x w ≡ leaving (grow x (z .piece) (s .below) nil) ++ freeEnd (s .behind)
-    going-is =
+    -- the places that go, by that row
+    pub going-row : going t x w ≡ leaving (grow x (z .piece) (spot .below) nil) ++ freeEnd (spot .behind)
+    going-row =
         rw (
-          subtree-is (s .parent) x (s .before) (z .piece) (s .below) (s .behind) w (h .distinct) kids,
-          parent-is x s,
-          end-is limit t (s .parent) x (s .before) (z .piece) (s .below) (s .behind) w h kids (z .solid) .0,
+          subtree-is (spot .parent) x (spot .before) (z .piece) (spot .below) (spot .behind) w (h .distinct) row,
+          parent-is x spot,
+          end-is limit t (spot .parent) x (spot .before) (z .piece) (spot .below) (spot .behind) w h row (z .solid) .0,
         )
         refl
 
     -- when all that goes has gone
     pub clear-sound : Holds limit (unlinkAll limit t (going t x w)) (cleared x w)
     clear-sound =
-        rw going-is (clear-holds limit t (s .parent) x (s .before) (z .piece) (s .below) (s .behind) w h kids leaves)
+        rw going-row (clear-holds limit t (spot .parent) x (spot .before) (z .piece) (spot .below) (spot .behind) w h row leaves)
 
     -- a place that is unheld then is none of what is left
     pub clear-unheld : Marked w → (n : ℕ) → at (unlinkAll limit t (going t x w)) n .datum .serial ≡ 0 → In n (cleared x w) → ⊥
@@ -213,8 +216,8 @@ module _ (limit stages : ℕ) (sheet : Size) (t : List Node) (w : Tree) (sound :
         (remove x n m w)
     remove-sound n m hn new =
         rw (
-          going-is,
-          parent-is x s,
-          sym (end-is limit t (s .parent) x (s .before) (z .piece) (s .below) (s .behind) w h kids (z .solid) .1),
+          going-row,
+          parent-is x spot,
+          sym (end-is limit t (spot .parent) x (spot .before) (z .piece) (spot .below) (spot .behind) w h row (z .solid) .1),
         )
-        (remove-holds limit t (s .parent) x (s .before) (z .piece) (s .below) (s .behind) w h kids n m leaves hn new)
+        (remove-holds limit t (spot .parent) x (spot .before) (z .piece) (spot .below) (spot .behind) w h row n m leaves hn new)

@@ -1,64 +1,85 @@
--- What the lowest unheld place is: unheld, with each lower place held; and in a table that holds a tree with room left, the lowest place that
--- is none of the tree's. Assumes nothing.
-use mathlib.Core.Path.{_≡_, ap}
+-- What the lowest unheld place from n on is: unheld, with each place before it held; and in a table that holds a tree with room left, the lowest
+-- place from n on that is none of the tree's. Assumes nothing.
+use mathlib.Core.Path.{_≡_, refl, ap}
+use mathlib.Core.Bool.{true, false}
 use mathlib.Core.List.{List}
 use mathlib.Core.Logic.{⊎-elim}
-use Prim.Native.Nat.{ℕ, _<_, _≤_}
+use Prim.Native.Nat.{ℕ, suc, _+_, _-_, _<_, _≤_}
 use native.Mathlib.Omega.{arith}
 use borrow.Author.Tests.{eqb-true, eqb-false}
-use Rattle.lists.proofs.Scan.{first-most, first-holds, first-before}
+use Rattle.lists.specs.Search.{firstFrom}
+use Rattle.lists.proofs.Scan.{first-from, first-most, first-holds, first-before}
 use Rattle.tree.specs.Tree.{Tree, In, count}
 use Rattle.tree.proofs.Rows.{in?}
 use Rattle.table.specs.declared.Node.{Node}
 use Rattle.table.specs.Table.{at, Held, Holds}
 use Rattle.table.specs.Steps.{Marked}
-use Rattle.table.specs.Unheld.{isUnheld, lowest}
+use Rattle.table.specs.Unheld.{isUnheld, lowestFrom}
 use Rattle.table.proofs.Links.{holds-held}
-use Rattle.table.proofs.Pigeon.{spare}
+use Rattle.table.proofs.Pigeon.{low-most, low-filled}
 
-module _ (limit : ℕ) (t : List Node) where
-  pub lowest-most : lowest limit t ≤ limit
-  unfolding lowest
-  lowest-most = omega (arith, first-most (isUnheld t) limit 0)
+module _ (limit : ℕ) (t : List Node) (n : ℕ) where
+  -- how the search goes: it ends past the places and at an unheld one, and goes on from a held one
+  pub lowest-past : limit ≤ n → lowestFrom limit t n ≡ n
+  unfolding lowestFrom firstFrom
+  lowest-past h = let e : limit - n ≡ 0 = omega arith in rw e refl
 
-  pub lowest-unheld : lowest limit t < limit → at t (lowest limit t) .datum .serial ≡ 0
-  unfolding lowest
-  lowest-unheld h = eqb-true _ _ (first-holds (isUnheld t) limit 0 (omega arith))
+  pub lowest-here : n < limit → isUnheld t n ≡ true → lowestFrom limit t n ≡ n
+  unfolding lowestFrom firstFrom
+  lowest-here h f = let e : limit - n ≡ suc (limit - (n + 1)) = omega arith in rw (e, f) refl
 
-  pub lowest-first : (j : ℕ) → j < lowest limit t → Held t j
-  unfolding lowest
-  lowest-first j h =
-      let no = eqb-false (at t j .datum .serial) 0 (first-before (isUnheld t) limit 0 j (omega arith) h) in omega arith
+  pub lowest-on : n < limit → isUnheld t n ≡ false → lowestFrom limit t n ≡ lowestFrom limit t (n + 1)
+  unfolding lowestFrom firstFrom
+  lowest-on h f = let e : limit - n ≡ suc (limit - (n + 1)) = omega arith in rw (e, f) refl
 
-  -- an unheld place is no lower
-  pub lowest-least : (i : ℕ) → at t i .datum .serial ≡ 0 → lowest limit t ≤ i
-  lowest-least i e = let no : i < lowest limit t → ⊥ = λ h. omega (arith, lowest-first i h) in omega arith
+  pub lowest-from : n ≤ lowestFrom limit t n
+  unfolding lowestFrom
+  lowest-from = first-from (isUnheld t) (limit - n) n
+
+  pub lowest-most : n ≤ limit → lowestFrom limit t n ≤ limit
+  unfolding lowestFrom
+  lowest-most h = omega (arith, first-most (isUnheld t) (limit - n) n)
+
+  pub lowest-unheld : lowestFrom limit t n < limit → at t (lowestFrom limit t n) .datum .serial ≡ 0
+  unfolding lowestFrom
+  lowest-unheld h =
+      eqb-true _ _ (first-holds (isUnheld t) (limit - n) n (omega (arith, first-from (isUnheld t) (limit - n) n)))
+
+  pub lowest-first : (j : ℕ) → n ≤ j → j < lowestFrom limit t n → Held t j
+  unfolding lowestFrom
+  lowest-first j l h =
+      let no = eqb-false (at t j .datum .serial) 0 (first-before (isUnheld t) (limit - n) n j l h) in omega arith
+
+  -- an unheld place from n on is no lower
+  pub lowest-least : (i : ℕ) → n ≤ i → at t i .datum .serial ≡ 0 → lowestFrom limit t n ≤ i
+  lowest-least i l e = let no : i < lowestFrom limit t n → ⊥ = λ h. omega (arith, lowest-first i l h) in omega arith
 
   -- it is a place if one is unheld
-  pub lowest-some : (i : ℕ) → i < limit → at t i .datum .serial ≡ 0 → lowest limit t < limit
-  lowest-some i h e = omega (arith, lowest-least i e)
+  pub lowest-some : (i : ℕ) → n ≤ i → i < limit → at t i .datum .serial ≡ 0 → lowestFrom limit t n < limit
+  lowest-some i l h e = omega (arith, lowest-least i l e)
 
   -- and the limit says that all are held
-  pub lowest-none : lowest limit t ≡ limit → (i : ℕ) → i < limit → Held t i
-  lowest-none e i h = lowest-first i (omega arith)
+  pub lowest-none : lowestFrom limit t n ≡ limit → (i : ℕ) → n ≤ i → i < limit → Held t i
+  lowest-none e i l h = lowest-first i l (omega arith)
 
   module _ (w : Tree) (h : Holds limit t w) where
-    -- each lower place is one of the tree's
-    pub lowest-under : (j : ℕ) → j < lowest limit t → In j w
-    lowest-under j l = ⊎-elim (λ y. y) (λ n. absurd (gone n)) (in? j w)
+    -- each lower place from n on is one of the tree's
+    pub lowest-under : n ≤ limit → (j : ℕ) → n ≤ j → j < lowestFrom limit t n → In j w
+    lowest-under b j l o = ⊎-elim (λ y. y) (λ m. absurd (gone m)) (in? j w)
       where
         gone : (In j w → ⊥) → ⊥
-        gone n =
-            let z = ap (λ (m : Node). m .datum .serial) (h .rest j (omega (arith, lowest-most)) n) in
-            omega (arith, lowest-first j l)
+        gone m =
+            let z = ap (λ (e : Node). e .datum .serial) (h .rest j (omega (arith, lowest-most b)) m) in
+            omega (arith, lowest-first j l o)
 
     module _ (marked : Marked w) where
       -- the place itself is not
-      pub lowest-new : lowest limit t < limit → In (lowest limit t) w → ⊥
-      lowest-new l y = omega (arith, lowest-unheld l, holds-held limit t w h marked (lowest limit t) y)
+      pub lowest-new : lowestFrom limit t n < limit → In (lowestFrom limit t n) w → ⊥
+      lowest-new l y = omega (arith, lowest-unheld l, holds-held limit t w h marked (lowestFrom limit t n) y)
 
-    -- and it is a place if the tree leaves room
-    pub lowest-room : count w < limit → lowest limit t < limit
+    -- and it is a place if the tree leaves room from n on
+    pub lowest-room : n + count w < limit → lowestFrom limit t n < limit
     lowest-room l =
-        let g = spare limit w l in
-        lowest-some (g .0) (g .1) (ap (λ (m : Node). m .datum .serial) (h .rest (g .0) (g .1) (g .2)))
+        let m = lowestFrom limit t n in
+        let f = low-filled n m w lowest-from (lowest-under (omega arith)) in
+        omega (arith, low-most m w)

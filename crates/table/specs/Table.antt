@@ -1,5 +1,5 @@
 -- The linked table: what it means that a table holds a row, and the steps on it. `limit`, the number of places, is also the number that says
--- that there is no such place; it is 255 in the code and a parameter here.
+-- that there is no such place; it is `LIMIT` in the code and a parameter here.
 use mathlib.Core.Path.{_≡_}
 use mathlib.Core.List.{List}
 use mathlib.Core.Bool.{Bool, cond}

@@ -1,6 +1,7 @@
 // Nodes one by one: the node of an unheld place, a leaf, and a node with another link; and the table in which no place is held.
 ghost use mathlib.Core.Path.{_≡_};
 ghost use lib.ListN.{replicate};
+ghost use Rattle.lists.specs.Lists.{limit};
 ghost use Rattle.table.specs.Table.{mk, zeroNode, withFirst, withLast, withNext, withPrev};
 use crate::LIMIT;
 use crate::NONE;
@@ -37,7 +38,7 @@ pub fn no_node() -> Node
 
 // The table in which no place is held.
 pub fn empty_table() -> [Node; LIMIT]
-    ensures { λ r. ⌜ r ≡ replicate 255 zeroNode ⌝ }
+    ensures { λ r. ⌜ r ≡ replicate limit zeroNode ⌝ }
 {
     let zero = no_node();
     [zero; LIMIT]
@@ -45,7 +46,7 @@ pub fn empty_table() -> [Node; LIMIT]
 
 // A node with no children and no next sibling.
 pub fn leaf(d: Datum, parent: u16, prev: u16) -> Node
-    ensures { λ r. ⌜ r ≡ mk d parent prev 255 255 255 ⌝ }
+    ensures { λ r. ⌜ r ≡ mk d parent prev limit limit limit ⌝ }
 {
     Node {
         datum: d,

@@ -1,9 +1,10 @@
 // The steps on the table: the search for an unheld place, a leaf that comes in, and one that goes out.
 ghost use mathlib.Core.Path.{_≡_};
 ghost use Prim.Native.Nat.{_<_};
+ghost use Rattle.lists.specs.Lists.{limit};
 ghost use Rattle.table.specs.Table as spec;
 ghost use Rattle.table.specs.Table.{at};
-ghost use Rattle.table.specs.Unheld.{lowest};
+ghost use Rattle.table.specs.Unheld.{lowestFrom};
 use crate::LIMIT;
 use crate::NONE;
 use crate::Node;
@@ -15,14 +16,14 @@ use crate::nodes::with_next;
 use crate::nodes::with_prev;
 use piece::node::Datum;
 
-// The lowest place that is not held; NONE where all are.
-pub fn unheld(nodes: [Node; LIMIT]) -> u16
-    ensures { λ r. ⌜ r ≡ lowest 255 nodes ⌝ }
+// The lowest place from `from` on that is not held; NONE where all are. What is past NONE comes back as it is.
+pub fn unheld(nodes: [Node; LIMIT], from: u16) -> u16
+    ensures { λ r. ⌜ r ≡ lowestFrom limit nodes from ⌝ }
 {
-    let mut i: u16 = 0;
+    let mut i = from;
     let place = loop {
         if NONE <= i {
-            break NONE;
+            break i;
         }
         let at = i as usize;
         let n = nodes[at];
@@ -36,8 +37,8 @@ pub fn unheld(nodes: [Node; LIMIT]) -> u16
 
 // A leaf at the place a becomes the last child of q.
 pub fn append(nodes: [Node; LIMIT], q: u16, a: u16, d: Datum) -> [Node; LIMIT]
-    requires { ⌜ (q < 255) × (a < 255) ⌝ }
-    ensures { λ r. ⌜ r ≡ spec.append 255 nodes q a d ⌝ }
+    requires { ⌜ (q < limit) × (a < limit) ⌝ }
+    ensures { λ r. ⌜ r ≡ spec.append limit nodes q a d ⌝ }
 {
     let mut t = nodes;
     let qi = q as usize;
@@ -64,8 +65,8 @@ pub fn append(nodes: [Node; LIMIT], q: u16, a: u16, d: Datum) -> [Node; LIMIT]
 
 // The leaf at x is taken out of its row, and its place is zero.
 pub fn unlink(nodes: [Node; LIMIT], x: u16) -> [Node; LIMIT]
-    requires { ⌜ (x < 255) × (at nodes x .parent < 255) ⌝ }
-    ensures { λ r. ⌜ r ≡ spec.unlink 255 nodes x ⌝ }
+    requires { ⌜ (x < limit) × (at nodes x .parent < limit) ⌝ }
+    ensures { λ r. ⌜ r ≡ spec.unlink limit nodes x ⌝ }
 {
     let mut t = nodes;
     let xi = x as usize;

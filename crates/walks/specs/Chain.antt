@@ -1,5 +1,5 @@
 -- A row of siblings, read from the column of the next ones. `limit`, the number of places, is also the number that says that there is no such
--- place, as in the table; it is 255 in the code and a parameter here.
+-- place, as in the table; it is `LIMIT` in the code and a parameter here.
 use mathlib.Core.List.{List, [], _∷_}
 use mathlib.Core.Bool.{cond}
 use Prim.Native.Nat.{ℕ, zero, suc}

@@ -9,6 +9,7 @@ ghost use Prim.Native.Nat.{_+_, _≤_};
 ghost use lib.ListN.{length};
 ghost use lib.Seq.{sets};
 ghost use Rattle.tree.specs.Tree.{isPart};
+ghost use Rattle.lists.specs.Lists.{limit};
 ghost use Rattle.walks.specs.Along.{entries, below, Placed, partNumber, numbersAlong};
 
 fn is_part(kind: Kind) -> bool
@@ -46,7 +47,7 @@ fn put_number(d: Datum, out: &mut [u16], n: usize) -> usize
 
 // How many parts there are among the nodes at the first `count` places of the order: the room that `put_numbers` asks.
 pub fn count_numbers(nodes: [Node; LIMIT], order: &[u16; LIMIT], count: usize) -> usize
-    requires { ⌜ (count ≤ 255) × Placed 255 count (now order) ⌝ }
+    requires { ⌜ (count ≤ limit) × Placed limit count (now order) ⌝ }
     ensures { λ r. ⌜ r ≡ length (numbersAlong nodes (entries count (now (order .entry)))) ⌝ }
 {
     let mut found: usize = 0;
@@ -68,8 +69,8 @@ pub fn put_numbers(
     count: usize,
     out: &mut [u16],
 ) -> usize
-    requires { ⌜ (count ≤ 255) × (length (numbersAlong nodes (entries count (now order))) ≤ length (now out))
-        × Placed 255 count (now order) ⌝ }
+    requires { ⌜ (count ≤ limit) × (length (numbersAlong nodes (entries count (now order))) ≤ length (now out))
+        × Placed limit count (now order) ⌝ }
     ensures written { λ r. ⌜ now (out .exit) ≡ sets (now (out .entry)) 0 (numbersAlong nodes (entries count (now (order .entry)))) ⌝ }
     ensures counted { λ r. ⌜ r ≡ length (numbersAlong nodes (entries count (now (order .entry)))) ⌝ }
 {
@@ -87,7 +88,7 @@ pub fn put_numbers(
 
 // Every place, in order.
 pub fn every_place() -> [u16; LIMIT]
-    ensures { λ r. ⌜ r ≡ below 255 ⌝ }
+    ensures { λ r. ⌜ r ≡ below limit ⌝ }
 {
     let mut order = [0u16; LIMIT];
     let mut i: usize = 0;

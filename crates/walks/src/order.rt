@@ -6,6 +6,7 @@ ghost use mathlib.Core.Path.{_≡_};
 ghost use Prim.Native.Nat.{_+_, _≤_, _<_};
 ghost use lib.ListN.{length};
 ghost use lib.Seq.{sets};
+ghost use Rattle.lists.specs.Lists.{limit};
 ghost use Rattle.walks.specs.Order.{own, orderOf};
 
 // Writes x at n where `when` says so, and gives the next index.
@@ -34,10 +35,10 @@ pub fn order_out<'a>(
     order: &mut [u16],
     n: usize,
 ) -> usize
-    requires { ⌜ (x < 255) × (n + length (orderOf 255 «own_first» (now first) (now next) left x) ≤ length (now order)) ⌝ }
+    requires { ⌜ (x < limit) × (n + length (orderOf limit «own_first» (now first) (now next) left x) ≤ length (now order)) ⌝ }
     ensures written { λ r. ⌜ now (order .exit)
-        ≡ sets (now (order .entry)) n (orderOf 255 «own_first» (now (first .entry)) (now (next .entry)) left x) ⌝ }
-    ensures counted { λ r. ⌜ r ≡ n + length (orderOf 255 «own_first» (now (first .entry)) (now (next .entry)) left x) ⌝ }
+        ≡ sets (now (order .entry)) n (orderOf limit «own_first» (now (first .entry)) (now (next .entry)) left x) ⌝ }
+    ensures counted { λ r. ⌜ r ≡ n + length (orderOf limit «own_first» (now (first .entry)) (now (next .entry)) left x) ⌝ }
 {
     if left == 0 {
         return n;

@@ -11,6 +11,7 @@ ghost use Prim.Native.Nat.{_+_, _*_, _≤_};
 ghost use lib.ListN.{length};
 ghost use lib.Seq.{sets};
 ghost use Rattle.tree.specs.Snapshot.{kindNo, cutNo, two, four, nodeBytes};
+ghost use Rattle.lists.specs.Lists.{limit};
 ghost use Rattle.walks.specs.Along.{entries, Placed, bytesAlong};
 
 // "kind (0 free, 1 part, 2 structure)"
@@ -75,7 +76,7 @@ pub fn put_node(d: Datum, out: &mut [u8], at: usize)
 
 // The nodes at the first `count` places of the order, one after the other from the start of `out`. What is behind them stays.
 pub fn put_nodes(nodes: [Node; LIMIT], order: &[u16; LIMIT], count: usize, out: &mut [u8])
-    requires { ⌜ (count ≤ 255) × (13 * count ≤ length (now out)) × Placed 255 count (now order) ⌝ }
+    requires { ⌜ (count ≤ limit) × (13 * count ≤ length (now out)) × Placed limit count (now order) ⌝ }
     ensures { λ _. ⌜ now (out .exit) ≡ sets (now (out .entry)) 0 (bytesAlong nodes (entries count (now (order .entry)))) ⌝ }
 {
     let mut i: usize = 0;

@@ -3,6 +3,7 @@ use table::LIMIT;
 use table::NONE;
 ghost use mathlib.Core.Path.{_≡_};
 ghost use Prim.Native.Nat.{_<_};
+ghost use Rattle.lists.specs.Lists.{limit};
 ghost use Rattle.walks.specs.Usage.{Small, usageOf};
 
 // The usage of the subtree of x: 0 for a free piece (kind 0), 1 for a part (kind 1), else its children's area times usage added in order
@@ -15,8 +16,8 @@ pub fn usage_of<'a>(
     x: u16,
     left: usize,
 ) -> f64
-    requires { ⌜ (x < 255) × Small (now area) ⌝ }
-    ensures { λ r. ⌜ r ≡ usageOf 255 (now (first .entry)) (now (next .entry)) (now (kind .entry)) (now (area .entry)) left x ⌝ }
+    requires { ⌜ (x < limit) × Small (now area) ⌝ }
+    ensures { λ r. ⌜ r ≡ usageOf limit (now (first .entry)) (now (next .entry)) (now (kind .entry)) (now (area .entry)) left x ⌝ }
 {
     if left == 0 {
         return 0.0;

@@ -6,6 +6,7 @@ use lib.ListN.{length, length-map}
 use borrow.Author.Needs.{needs}
 use Rattle.piece.specs.Sides.{area}
 use Rattle.tree.specs.Snapshot.{kindNo}
+use Rattle.lists.specs.Lists.{limit}
 use Rattle.table.specs.declared.Node.{Node}
 use Rattle.sound.specs.Columns.{areasOf, serialsOf, firstsOf, nextsOf, kindsOf}
 use Rattle.sound.proofs.Filled.{filled, fill-more, fill-all, columns-are}
@@ -30,7 +31,7 @@ kindOf n = kindNo (n .datum .kind)
 
 abbrev Inv-loop : tie.InvT-loop
 Inv-loop nodes area₀ serial₀ first₀ next₀ kind₀ i₀ area serial first next kind i =
-    (i ≤ 255)
+    (i ≤ limit)
     × (area ≡ filled (areasOf nodes) i)
     × (serial ≡ filled (serialsOf nodes) i)
     × (first ≡ filled (firstsOf nodes) i)
@@ -38,7 +39,7 @@ Inv-loop nodes area₀ serial₀ first₀ next₀ kind₀ i₀ area serial first
     × (kind ≡ filled (kindsOf nodes) i)
 
 abbrev μ-loop : tie.MeasureT-loop
-μ-loop nodes area₀ serial₀ first₀ next₀ kind₀ i₀ area serial first next kind i = 255 - i
+μ-loop nodes area₀ serial₀ first₀ next₀ kind₀ i₀ area serial first next kind i = limit - i
 
 loop-holds : tie.Need-loop-holds Inv-loop μ-loop
 loop-holds c = (omega arith, refl, refl, refl, refl, refl)
@@ -93,8 +94,8 @@ loop-again c =
     let l = c .before .before .before .before .before .before .loop in
     let s = c .before .before .before .before .before .before .before in
     let t = s .args .t1 in
-    let len : length t ≡ 255 = s .good .0 .1 .0 .1 in
-    let h : l .i < 255 = omega arith in (
+    let len : length t ≡ limit = s .good .0 .1 .0 .1 in
+    let h : l .i < limit = omega arith in (
       omega arith,
       fill-more areaOf t len (l .area) (l .i) _ (l .inv .1) h (c .before .area .ensures),
       fill-more serialOf t len (l .serial) (l .i) _ (l .inv .2) h refl,
@@ -107,8 +108,8 @@ returns : tie.Need-returns Inv-loop μ-loop
 returns c =
     let l = c .before .loop in
     let t = c .before .before .args .t1 in
-    let len : length t ≡ 255 = c .before .before .good .0 .1 .0 .1 in
-    let h : 255 ≤ l .i = omega arith in
+    let len : length t ≡ limit = c .before .before .good .0 .1 .0 .1 in
+    let h : limit ≤ l .i = omega arith in
     columns-are t _ _ _ _ _
     (fill-all areaOf t len (l .area) (l .i) (l .inv .1) h)
     (fill-all serialOf t len (l .serial) (l .i) (l .inv .2) h)

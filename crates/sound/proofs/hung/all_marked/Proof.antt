@@ -7,6 +7,7 @@ use native.Mathlib.Omega.{arith}
 use borrow.Author.Needs.{needs}
 use borrow.Author.Tests.{eq-eqb, ne-eqb}
 use lib.ListN.{getD}
+use Rattle.lists.specs.Lists.{limit}
 use Rattle.lists.specs.Search.{every}
 use Rattle.sound.specs.Hung.{markedAt, markedB}
 use Rattle.lists.proofs.Scan.{every-none, every-more, every-fails}
@@ -14,10 +15,10 @@ use Rattle.sound.proofs.hung.all_marked.Statement.{statement}
 use Rattle.sound.proofs.hung.all_marked.Tie as tie
 
 abbrev Inv-loop : tie.InvT-loop
-Inv-loop serial flag i₀ i = (i ≤ 255) × (every (markedAt serial flag) i ≡ true)
+Inv-loop serial flag i₀ i = (i ≤ limit) × (every (markedAt serial flag) i ≡ true)
 
 abbrev μ-loop : tie.MeasureT-loop
-μ-loop serial flag i₀ i = 255 - i
+μ-loop serial flag i₀ i = limit - i
 
 loop-holds : tie.Need-loop-holds Inv-loop μ-loop
 loop-holds c = (omega arith, every-none (markedAt (c .args .serial .now) (c .args .flag .now)))
@@ -43,7 +44,7 @@ returns c =
       ne-eqb _ _ (c .before .before .if2 .taken),
       ne-eqb (getD (a .flag .now) (l .i) 0) 1 (λ e. omega arith),
     ) refl in
-    sym (every-fails f 255 (l .i) (omega arith) here)
+    sym (every-fails f limit (l .i) (omega arith) here)
 
 add-i : tie.Need-add-i Inv-loop μ-loop
 add-i c = search needs
@@ -68,7 +69,7 @@ returns-2 : tie.Need-returns-2 Inv-loop μ-loop
 unfolding markedB
 returns-2 c =
     let l = c .before .loop in
-    let full : l .i ≡ 255 = omega arith in
+    let full : l .i ≡ limit = omega arith in
     sym (rw full at (l .inv .1))
 
 pub all-marked-spec : {M : Type 1} → statement M

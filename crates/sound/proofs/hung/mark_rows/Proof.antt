@@ -3,19 +3,20 @@ use mathlib.Core.Path.{_≡_, sym, _∙_}
 use Prim.Native.Nat.{_-_, _≤_}
 use native.Mathlib.Omega.{arith}
 use borrow.Author.Needs.{needs}
+use Rattle.lists.specs.Lists.{limit}
 use Rattle.sound.specs.Hung.{markRows}
 use Rattle.sound.proofs.Marks.{rows-none, rows-more}
 use Rattle.sound.proofs.hung.mark_rows.Statement.{statement}
 use Rattle.sound.proofs.hung.mark_rows.Tie as tie
 
 abbrev Inv-loop : tie.InvT-loop
-Inv-loop first next flag₀ q₀ flag q = (q ≤ 255) × (flag ≡ markRows 255 first next q flag₀)
+Inv-loop first next flag₀ q₀ flag q = (q ≤ limit) × (flag ≡ markRows limit first next q flag₀)
 
 abbrev μ-loop : tie.MeasureT-loop
-μ-loop first next flag₀ q₀ flag q = 255 - q
+μ-loop first next flag₀ q₀ flag q = limit - q
 
 loop-holds : tie.Need-loop-holds Inv-loop μ-loop
-loop-holds c = (omega arith, sym (rows-none 255 (c .args .next .now) (c .args .first .now) (c .args .flag .now)))
+loop-holds c = (omega arith, sym (rows-none limit (c .args .next .now) (c .args .first .now) (c .args .flag .now)))
 
 mul-mark-row : tie.Need-mul-mark-row Inv-loop μ-loop
 mul-mark-row c = search needs
@@ -36,12 +37,12 @@ loop-again : tie.Need-loop-again Inv-loop μ-loop
 loop-again c =
     let l = c .before .before .before .before .loop in
     let a = c .before .before .before .before .before .args in
-    (omega arith, c .mark-row .ensures ∙ rw (l .inv .1) (sym (rows-more 255 (a .next .now) (a .first .now) (a .flag .now) (l .q))))
+    (omega arith, c .mark-row .ensures ∙ rw (l .inv .1) (sym (rows-more limit (a .next .now) (a .first .now) (a .flag .now) (l .q))))
 
 returns : tie.Need-returns Inv-loop μ-loop
 returns c =
     let l = c .before .loop in
-    let full : l .q ≡ 255 = omega arith in
+    let full : l .q ≡ limit = omega arith in
     rw full at (l .inv .1)
 
 pub mark-rows-spec : {M : Type 1} → statement M

@@ -7,6 +7,7 @@ use native.Mathlib.Omega.{arith}
 use borrow.Author.Needs.{needs}
 use borrow.Author.Tests.{eq-eqb, ne-eqb}
 use lib.ListN.{getD}
+use Rattle.lists.specs.Lists.{limit}
 use Rattle.lists.specs.Search.{every}
 use Rattle.sound.specs.Listed.{coversB}
 use Rattle.lists.proofs.Scan.{every-none, every-more, every-fails}
@@ -15,10 +16,10 @@ use Rattle.sound.proofs.listed.covers.Statement.{statement}
 use Rattle.sound.proofs.listed.covers.Tie as tie
 
 abbrev Inv-loop : tie.InvT-loop
-Inv-loop free serial kind flag i₀ i = (i ≤ 255) × (every (coveredAt free serial kind flag) i ≡ true)
+Inv-loop free serial kind flag i₀ i = (i ≤ limit) × (every (coveredAt free serial kind flag) i ≡ true)
 
 abbrev μ-loop : tie.MeasureT-loop
-μ-loop free serial kind flag i₀ i = 255 - i
+μ-loop free serial kind flag i₀ i = limit - i
 
 loop-holds : tie.Need-loop-holds Inv-loop μ-loop
 loop-holds c = (omega arith, every-none (coveredAt (c .args .free) (c .args .serial .now) (c .args .kind .now) (c .args .flag .now)))
@@ -39,7 +40,7 @@ returns c =
     let here : f (l .i) ≡ false =
     covered-yes (a .free) (a .serial .now) (a .kind .now) (a .flag .now) (l .i) (w .result) (w .ensures) (c .before .before .if1 .taken)
     ∙ ne-eqb (getD (a .flag .now) (l .i) 0) 1 (λ e. omega arith) in
-    sym (every-fails f 255 (l .i) (omega arith) here)
+    sym (every-fails f limit (l .i) (omega arith) here)
 
 element-copy-out-if3 : tie.Need-element-copy-out-if3 Inv-loop μ-loop
 element-copy-out-if3 c = search needs
@@ -54,7 +55,7 @@ returns-2 c =
     let here : f (l .i) ≡ false =
     covered-no (a .free) (a .serial .now) (a .kind .now) (a .flag .now) (l .i) (w .result) (w .ensures) (c .before .before .if1 .left)
     ∙ ap not (eq-eqb (getD (a .flag .now) (l .i) 0) 1 (omega arith)) in
-    sym (every-fails f 255 (l .i) (omega arith) here)
+    sym (every-fails f limit (l .i) (omega arith) here)
 
 add-i : tie.Need-add-i Inv-loop μ-loop
 add-i c = search needs
@@ -84,7 +85,7 @@ returns-3 : tie.Need-returns-3 Inv-loop μ-loop
 unfolding coversB
 returns-3 c =
     let l = c .before .loop in
-    let full : l .i ≡ 255 = omega arith in
+    let full : l .i ≡ limit = omega arith in
     sym (rw full at (l .inv .1))
 
 pub covers-spec : {M : Type 1} → statement M

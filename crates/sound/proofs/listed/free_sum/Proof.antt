@@ -4,16 +4,17 @@ use mathlib.Core.Logic.{⊎-elim}
 use Prim.Native.Nat.{_+_, _-_, _≤_}
 use native.Mathlib.Omega.{arith}
 use borrow.Author.Needs.{needs}
+use Rattle.lists.specs.Lists.{limit}
 use Rattle.sound.specs.Listed.{areaIn}
 use Rattle.sound.proofs.Sums.{area-none, area-here, area-pass, area-grows}
 use Rattle.sound.proofs.listed.free_sum.Statement.{statement}
 use Rattle.sound.proofs.listed.free_sum.Tie as tie
 
 abbrev Inv-loop : tie.InvT-loop
-Inv-loop kind area sum₀ i₀ sum i = (i ≤ 255) × (sum ≡ areaIn 0 kind area i)
+Inv-loop kind area sum₀ i₀ sum i = (i ≤ limit) × (sum ≡ areaIn 0 kind area i)
 
 abbrev μ-loop : tie.MeasureT-loop
-μ-loop kind area sum₀ i₀ sum i = 255 - i
+μ-loop kind area sum₀ i₀ sum i = limit - i
 
 loop-holds : tie.Need-loop-holds Inv-loop μ-loop
 loop-holds c = (omega arith, sym (area-none 0 (c .args .kind .now) (c .args .area .now)))
@@ -33,7 +34,7 @@ add-sum c =
     let s = c .before .before .before .before .before in
     let k = s .args .kind .now in
     let a = s .args .area .now in
-    omega (arith, s .pre, area-grows 0 k a 255 (l .i + 1) (omega arith), area-here 0 k a (l .i) (c .before .if1 .taken))
+    omega (arith, s .pre, area-grows 0 k a limit (l .i + 1) (omega arith), area-here 0 k a (l .i) (c .before .if1 .taken))
 
 add-i : tie.Need-add-i Inv-loop μ-loop
 add-i c = search needs
@@ -56,7 +57,7 @@ loop-again c =
 returns : tie.Need-returns Inv-loop μ-loop
 returns c =
     let l = c .before .loop in
-    let full : l .i ≡ 255 = omega arith in
+    let full : l .i ≡ limit = omega arith in
     rw full at (l .inv .1)
 
 pub free-sum-spec : {M : Type 1} → statement M

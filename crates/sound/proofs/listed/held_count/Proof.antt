@@ -4,16 +4,17 @@ use mathlib.Core.Logic.{⊎-elim}
 use Prim.Native.Nat.{_+_, _-_, _≤_}
 use native.Mathlib.Omega.{arith}
 use borrow.Author.Needs.{needs}
+use Rattle.lists.specs.Lists.{limit}
 use Rattle.sound.specs.Listed.{heldIn}
 use Rattle.sound.proofs.Sums.{held-none, held-here, held-pass, held-most}
 use Rattle.sound.proofs.listed.held_count.Statement.{statement}
 use Rattle.sound.proofs.listed.held_count.Tie as tie
 
 abbrev Inv-loop : tie.InvT-loop
-Inv-loop serial n₀ i₀ n i = (i ≤ 255) × (n ≡ heldIn serial i)
+Inv-loop serial n₀ i₀ n i = (i ≤ limit) × (n ≡ heldIn serial i)
 
 abbrev μ-loop : tie.MeasureT-loop
-μ-loop serial n₀ i₀ n i = 255 - i
+μ-loop serial n₀ i₀ n i = limit - i
 
 loop-holds : tie.Need-loop-holds Inv-loop μ-loop
 loop-holds c = (omega arith, sym (held-none (c .args .serial .now)))
@@ -47,7 +48,7 @@ loop-again c =
 returns : tie.Need-returns Inv-loop μ-loop
 returns c =
     let l = c .before .loop in
-    let full : l .i ≡ 255 = omega arith in
+    let full : l .i ≡ limit = omega arith in
     rw full at (l .inv .1)
 
 pub held-count-spec : {M : Type 1} → statement M

@@ -8,6 +8,7 @@ use borrow.Author.Tests.{le-leb, lt-leb}
 use lib.Dec.{leb}
 use lib.ListN.{getD}
 use mathlib.Core.List.{List}
+use Rattle.lists.specs.Lists.{limit}
 use Rattle.lists.specs.Search.{every}
 use Rattle.sound.specs.Listed.{noneAboveB}
 use Rattle.lists.proofs.Scan.{every-none, every-more, every-fails}
@@ -18,10 +19,10 @@ abbrev atMost : List ℕ → ℕ → ℕ → Bool
 atMost serial last i = leb (getD serial i 0) last
 
 abbrev Inv-loop : tie.InvT-loop
-Inv-loop serial last i₀ i = (i ≤ 255) × (every (atMost serial last) i ≡ true)
+Inv-loop serial last i₀ i = (i ≤ limit) × (every (atMost serial last) i ≡ true)
 
 abbrev μ-loop : tie.MeasureT-loop
-μ-loop serial last i₀ i = 255 - i
+μ-loop serial last i₀ i = limit - i
 
 loop-holds : tie.Need-loop-holds Inv-loop μ-loop
 loop-holds c = (omega arith, every-none (atMost (c .args .serial .now) (c .args .last)))
@@ -37,7 +38,7 @@ unfolding noneAboveB
 returns c =
     let l = c .before .before .before .loop in
     let a = c .before .before .before .before .args in
-    sym (every-fails (atMost (a .serial .now) (a .last)) 255 (l .i) (omega arith) (lt-leb _ _ (c .if1 .taken)))
+    sym (every-fails (atMost (a .serial .now) (a .last)) limit (l .i) (omega arith) (lt-leb _ _ (c .if1 .taken)))
 
 add-i : tie.Need-add-i Inv-loop μ-loop
 add-i c = search needs
@@ -55,7 +56,7 @@ returns-2 : tie.Need-returns-2 Inv-loop μ-loop
 unfolding noneAboveB
 returns-2 c =
     let l = c .before .loop in
-    let full : l .i ≡ 255 = omega arith in
+    let full : l .i ≡ limit = omega arith in
     sym (rw full at (l .inv .1))
 
 pub none-above-spec : {M : Type 1} → statement M

@@ -4,16 +4,17 @@ use mathlib.Core.Logic.{⊎-elim}
 use Prim.Native.Nat.{_+_, _-_, _≤_}
 use native.Mathlib.Omega.{arith}
 use borrow.Author.Needs.{needs}
+use Rattle.lists.specs.Lists.{limit}
 use Rattle.sound.specs.Listed.{areaIn}
 use Rattle.sound.proofs.Sums.{area-none, area-here, area-pass, area-passes, none-left}
 use Rattle.sound.proofs.listed.used_ok.Statement.{statement}
 use Rattle.sound.proofs.listed.used_ok.Tie as tie
 
 abbrev Inv-loop : tie.InvT-loop
-Inv-loop kind area used left₀ i₀ left i = (i ≤ 255) × (left + areaIn 1 kind area i ≡ used)
+Inv-loop kind area used left₀ i₀ left i = (i ≤ limit) × (left + areaIn 1 kind area i ≡ used)
 
 abbrev μ-loop : tie.MeasureT-loop
-μ-loop kind area used left₀ i₀ left i = 255 - i
+μ-loop kind area used left₀ i₀ left i = limit - i
 
 loop-holds : tie.Need-loop-holds Inv-loop μ-loop
 loop-holds c = (omega arith, omega (arith, area-none 1 (c .args .kind .now) (c .args .area .now)))
@@ -31,7 +32,7 @@ returns : tie.Need-returns Inv-loop μ-loop
 returns c =
     let l = c .before .before .before .before .before .loop in
     let s = c .before .before .before .before .before .before .args in
-    sym (area-passes 1 (s .kind .now) (s .area .now) 255 (l .i) (l .left) (s .used) (omega arith) (l .inv .1)
+    sym (area-passes 1 (s .kind .now) (s .area .now) limit (l .i) (l .left) (s .used) (omega arith) (l .inv .1)
     (c .before .before .if1 .taken) (c .if2 .taken))
 
 add-i : tie.Need-add-i Inv-loop μ-loop
@@ -56,9 +57,9 @@ loop-again c =
 returns-2 : tie.Need-returns-2 Inv-loop μ-loop
 returns-2 c =
     let l = c .before .loop in
-    let full : l .i ≡ 255 = omega arith in
+    let full : l .i ≡ limit = omega arith in
     let s = c .before .before .args in
-    none-left (l .left) (areaIn 1 (s .kind .now) (s .area .now) 255) (s .used) (rw full at (l .inv .1))
+    none-left (l .left) (areaIn 1 (s .kind .now) (s .area .now) limit) (s .used) (rw full at (l .inv .1))
 
 pub used-ok-spec : {M : Type 1} → statement M
 used-ok-spec =

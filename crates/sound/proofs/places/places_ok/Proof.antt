@@ -5,6 +5,7 @@ use mathlib.Core.List.{List}
 use Prim.Native.Nat.{ℕ, _-_, _≤_}
 use native.Mathlib.Omega.{arith}
 use borrow.Author.Needs.{needs}
+use Rattle.lists.specs.Lists.{limit}
 use Rattle.table.specs.declared.Node.{Node}
 use Rattle.table.specs.Table.{at}
 use Rattle.sound.specs.Places.{placeB, placesB}
@@ -15,13 +16,13 @@ use Rattle.sound.proofs.places.places_ok.Tie as tie
 
 -- the test of a place
 abbrev okAt : List Node → ℕ → Bool
-okAt t i = placeB 255 (at t i)
+okAt t i = placeB limit (at t i)
 
 abbrev Inv-loop : tie.InvT-loop
-Inv-loop nodes i₀ i = (i ≤ 255) × (every (okAt nodes) i ≡ true)
+Inv-loop nodes i₀ i = (i ≤ limit) × (every (okAt nodes) i ≡ true)
 
 abbrev μ-loop : tie.MeasureT-loop
-μ-loop nodes i₀ i = 255 - i
+μ-loop nodes i₀ i = limit - i
 
 loop-holds : tie.Need-loop-holds Inv-loop μ-loop
 loop-holds c = (omega arith, every-none _)
@@ -40,7 +41,7 @@ unfolding placesB
 returns c =
     let l = c .before .before .before .before .loop in
     let t = c .before .before .before .before .before .args .t1 in
-    sym (every-fails (okAt t) 255 (l .i) (omega arith) (sym (c .before .place-ok .ensures) ∙ c .if1 .left))
+    sym (every-fails (okAt t) limit (l .i) (omega arith) (sym (c .before .place-ok .ensures) ∙ c .if1 .left))
 
 add-i : tie.Need-add-i Inv-loop μ-loop
 add-i c = search needs
@@ -58,7 +59,7 @@ returns-2 : tie.Need-returns-2 Inv-loop μ-loop
 unfolding placesB
 returns-2 c =
     let l = c .before .loop in
-    let full : l .i ≡ 255 = omega arith in
+    let full : l .i ≡ limit = omega arith in
     sym (rw full at (l .inv .1))
 
 pub places-ok-spec : {M : Type 1} → statement M

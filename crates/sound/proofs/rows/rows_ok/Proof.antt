@@ -1,5 +1,5 @@
 -- `rows_ok` meets its contract: the rows that the outer loop has passed are linked and filled, and what the rest of a walk says is what
--- the whole row says. A side is below 2^32 and a walk has at most 255 steps, so the sum fits.
+-- the whole row says. A side is below 2^32 and a walk has at most `limit` steps, so the sum fits.
 use mathlib.Core.Path.{_≡_, refl, sym, ap, _∙_}
 use mathlib.Core.Bool.{true, false}
 use mathlib.Core.Logic.{_⊎_, inl, inr, ⊎-elim}
@@ -7,6 +7,7 @@ use Prim.Native.Nat.{ℕ, _+_, _*_, _-_, _≤_, _<_}
 use native.Mathlib.Omega.{arith}
 use borrow.Author.Needs.{needs}
 use borrow.Author.Tests.{ltb-true, ltb-false}
+use Rattle.lists.specs.Lists.{limit}
 use Rattle.table.specs.Table.{at}
 use Rattle.lists.specs.Search.{every}
 use Rattle.sound.specs.Rows.{chainB, rowB, rowsB}
@@ -17,19 +18,19 @@ use Rattle.sound.proofs.rows.rows_ok.Tie as tie
 
 abbrev Inv-loop : tie.InvT-loop
 Inv-loop stages nodes ok₀ q up above pv₀ p₀ sum₀ left₀ ok pv p sum left =
-    (left ≤ 255)
+    (left ≤ limit)
     × (ok ≡ true)
-    × (sum + left * 4294967296 ≤ 1095216660480)
-    × (chainB 255 stages nodes q left pv p sum ≡ chainB 255 stages nodes q 255 255 (at nodes q .first) 0)
+    × (sum + left * 4294967296 ≤ limit * 4294967296)
+    × (chainB limit stages nodes q left pv p sum ≡ chainB limit stages nodes q limit limit (at nodes q .first) 0)
 
 abbrev μ-loop : tie.MeasureT-loop
 μ-loop stages nodes ok₀ q up above pv₀ p₀ sum₀ left₀ ok pv p sum left = left
 
 abbrev Inv-all : tie.InvT-all
-Inv-all stages nodes ok₀ q₀ ok q = (q ≤ 255) × (ok ≡ true) × (every (rowB 255 stages nodes) q ≡ true)
+Inv-all stages nodes ok₀ q₀ ok q = (q ≤ limit) × (ok ≡ true) × (every (rowB limit stages nodes) q ≡ true)
 
 abbrev μ-all : tie.MeasureT-all
-μ-all stages nodes ok₀ q₀ ok q = 255 - q
+μ-all stages nodes ok₀ q₀ ok q = limit - q
 
 all-holds : tie.Need-all-holds Inv-loop μ-loop Inv-all μ-all
 all-holds c = (omega arith, refl, every-none _)
@@ -89,11 +90,11 @@ loop-again c =
     let h : 0 < l .left = some c in
     let in-row = t2 .before .loop-test .taken in
     let child = c .before .before .child-ok .ensures in
-    let on = chain-on 255 (a .stages) (a .t1) (o .q) (l .left) (l .pv) (l .p) (l .sum) h in-row child (c .before .if3 .taken) in (
+    let on = chain-on limit (a .stages) (a .t1) (o .q) (l .left) (l .pv) (l .p) (l .sum) h in-row child (c .before .if3 .taken) in (
       omega arith,
       l .inv .1,
       omega (arith, c .step-of .ok),
-      ap (λ (s : ℕ). chainB 255 (a .stages) (a .t1) (o .q) (l .left - 1) (l .p) (at (a .t1) (l .p) .next) (l .sum + s)) (c .step-of .ensures)
+      ap (λ (s : ℕ). chainB limit (a .stages) (a .t1) (o .q) (l .left - 1) (l .p) (at (a .t1) (l .p) .next) (l .sum + s)) (c .step-of .ensures)
           ∙ sym on
           ∙ l .inv .3,
     )
@@ -111,25 +112,25 @@ all-again : tie.Need-all-again Inv-loop μ-loop Inv-all μ-all
 all-again c =
     let o = c .before .before .before .before .all in
     let a = c .before .before .before .before .before .args in
-    let more = every-more (rowB 255 (a .stages) (a .t1)) (o .q) (o .inv .2) in
+    let more = every-more (rowB limit (a .stages) (a .t1)) (o .q) (o .inv .2) in
     let parent = c .before .is-parent .ensures in
     ⊎-elim
     (λ w.
     let l = w .1 in
-    let stopped : (255 ≤ l .p) ⊎ (l .left ≤ 0) =
+    let stopped : (limit ≤ l .p) ⊎ (l .left ≤ 0) =
     ⊎-elim (λ v. inr (ltb-false 0 (l .left) (v .1 .left))) (λ v. inl (v .left)) (w .2 .came)
     in
-    let ends = chain-ends 255 (a .stages) (a .t1) (o .q) (l .left) (l .pv) (l .p) (l .sum) stopped in
+    let ends = chain-ends limit (a .stages) (a .t1) (o .q) (l .left) (l .pv) (l .p) (l .sum) stopped in
     let row = sym (l .inv .3) ∙ ends (w .3 .ensures) (w .4 .taken) (ltb-true 0 (l .left) (w .5 .taken)) in
-    (omega arith, w .6 ∙ l .inv .1, more (row-is 255 (a .stages) (a .t1) (o .q) parent (w .0 .taken) row)))
-    (λ w. (omega arith, w .1 ∙ o .inv .1, more (row-none 255 (a .stages) (a .t1) (o .q) parent (w .0 .left))))
+    (omega arith, w .6 ∙ l .inv .1, more (row-is limit (a .stages) (a .t1) (o .q) parent (w .0 .taken) row)))
+    (λ w. (omega arith, w .1 ∙ o .inv .1, more (row-none limit (a .stages) (a .t1) (o .q) parent (w .0 .left))))
     (c .if1 .came)
 
 returns : tie.Need-returns Inv-loop μ-loop Inv-all μ-all
 unfolding rowsB
 returns c =
     let o = c .before .all in
-    let full : o .q ≡ 255 = omega arith in
+    let full : o .q ≡ limit = omega arith in
     o .inv .1 ∙ sym (rw full at (o .inv .2))
 
 returns-2 : tie.Need-returns-2 Inv-loop μ-loop Inv-all μ-all
@@ -140,11 +141,11 @@ returns-2 c =
     let t1 = t2 .before .before .before in
     let o = t1 .before .before .before .before .all in
     let a = t1 .before .before .before .before .before .args in
-    let bad = chain-bad 255 (a .stages) (a .t1) (o .q) (l .left) (l .pv) (l .p) (l .sum) (t2 .before .loop-test .taken) in
+    let bad = chain-bad limit (a .stages) (a .t1) (o .q) (l .left) (l .pv) (l .p) (l .sum) (t2 .before .loop-test .taken) in
     let row = sym (l .inv .3) ∙ bad (c .before .child-ok .ensures) (c .if3 .left) in
     sym
-    (every-fails (rowB 255 (a .stages) (a .t1)) 255 (o .q) (omega arith)
-    (row-is 255 (a .stages) (a .t1) (o .q) (t1 .before .is-parent .ensures) (t1 .if1 .taken) row))
+    (every-fails (rowB limit (a .stages) (a .t1)) limit (o .q) (omega arith)
+    (row-is limit (a .stages) (a .t1) (o .q) (t1 .before .is-parent .ensures) (t1 .if1 .taken) row))
 
 returns-3 : tie.Need-returns-3 Inv-loop μ-loop Inv-all μ-all
 unfolding rowsB
@@ -153,16 +154,16 @@ returns-3 c =
     let t1 = c .before .before .before .before in
     let o = t1 .before .before .before .before .all in
     let a = t1 .before .before .before .before .before .args in
-    let stopped : (255 ≤ l .p) ⊎ (l .left ≤ 0) =
+    let stopped : (limit ≤ l .p) ⊎ (l .left ≤ 0) =
     ⊎-elim (λ v. inr (ltb-false 0 (l .left) (v .1 .left))) (λ v. inl (v .left)) (c .before .before .loop-test .came)
     in
     let failed : (c .before .ends-ok .result ≡ false) ⊎ (l .left ≤ 0) =
     ⊎-elim (λ w. inr (ltb-false 0 (l .left) (w .1 .left))) (λ w. inl (w .left)) (c .if4 .came)
     in
-    let fails = chain-fails 255 (a .stages) (a .t1) (o .q) (l .left) (l .pv) (l .p) (l .sum) stopped (c .before .ends-ok .ensures) failed in
+    let fails = chain-fails limit (a .stages) (a .t1) (o .q) (l .left) (l .pv) (l .p) (l .sum) stopped (c .before .ends-ok .ensures) failed in
     sym
-    (every-fails (rowB 255 (a .stages) (a .t1)) 255 (o .q) (omega arith)
-    (row-is 255 (a .stages) (a .t1) (o .q) (t1 .before .is-parent .ensures) (t1 .if1 .taken) (sym (l .inv .3) ∙ fails)))
+    (every-fails (rowB limit (a .stages) (a .t1)) limit (o .q) (omega arith)
+    (row-is limit (a .stages) (a .t1) (o .q) (t1 .before .is-parent .ensures) (t1 .if1 .taken) (sym (l .inv .3) ∙ fails)))
 
 pub rows-ok-spec : {M : Type 1} → statement M
 rows-ok-spec =

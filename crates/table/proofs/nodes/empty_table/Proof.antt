@@ -2,6 +2,7 @@
 use mathlib.Core.Path.{ap}
 use borrow.Author.Needs.{needs}
 use lib.ListN.{replicate}
+use Rattle.lists.specs.Lists.{limit}
 use Rattle.table.specs.declared.Node.{Node}
 use Rattle.table.proofs.nodes.empty_table.Statement.{statement}
 use Rattle.table.proofs.nodes.empty_table.Tie as tie
@@ -10,7 +11,7 @@ no-node-requires : tie.Need-no-node-requires
 no-node-requires c κs = search needs
 
 returns : tie.Need-returns
-returns c = ap (λ (n : Node). replicate 255 n) (c .no-node .ensures)
+returns c = ap (λ (n : Node). replicate limit n) (c .no-node .ensures)
 
 pub empty-table-spec : {M : Type 1} → statement M
 empty-table-spec = tie.close (tie.spec no-node-requires returns)

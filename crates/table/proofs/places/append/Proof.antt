@@ -4,6 +4,7 @@ use mathlib.Core.List.{List}
 use mathlib.Core.Logic.{⊎-elim}
 use borrow.Author.Tests.{le-leb, lt-leb}
 use lib.ListN.{set}
+use Rattle.lists.specs.Lists.{limit}
 use Rattle.table.specs.declared.Node.{Node}
 use Rattle.table.specs.Table.{at, enter, tie, close, append}
 use borrow.Author.Needs.{needs}
@@ -81,15 +82,15 @@ returns c =
     let leaf = c .before .before .before .leaf in
     let e = set (s .nodes) (s .a) (leaf .result) in
     let t = c .before .before .if1 .t in
-    let entered : e ≡ enter 255 (s .nodes) (s .q) (s .a) (s .d) = ap (λ (n : Node). set (s .nodes) (s .a) n) (leaf .ensures) in
-    let tied : t ≡ tie 255 e (s .q) l (s .a) =
+    let entered : e ≡ enter limit (s .nodes) (s .q) (s .a) (s .d) = ap (λ (n : Node). set (s .nodes) (s .a) n) (leaf .ensures) in
+    let tied : t ≡ tie limit e (s .q) l (s .a) =
     ⊎-elim
-    (λ w. w .3 ∙ ap (λ (n : Node). set e (s .q) n) (w .2 .ensures) ∙ rw (le-leb 255 l (w .0 .taken)) refl)
-    (λ w. w .3 ∙ ap (λ (n : Node). set e l n) (w .2 .ensures) ∙ rw (lt-leb 255 l (w .0 .left)) refl)
+    (λ w. w .3 ∙ ap (λ (n : Node). set e (s .q) n) (w .2 .ensures) ∙ rw (le-leb limit l (w .0 .taken)) refl)
+    (λ w. w .3 ∙ ap (λ (n : Node). set e l n) (w .2 .ensures) ∙ rw (lt-leb limit l (w .0 .left)) refl)
     (c .before .before .if1 .came)
     in
     ap (λ (n : Node). set t (s .q) n) (c .with-last .ensures)
-    ∙ ap (λ (u : List Node). close u (s .q) (s .a)) (tied ∙ ap (λ (u : List Node). tie 255 u (s .q) l (s .a)) entered)
+    ∙ ap (λ (u : List Node). close u (s .q) (s .a)) (tied ∙ ap (λ (u : List Node). tie limit u (s .q) l (s .a)) entered)
 
 pub append-spec : {M : Type 1} → statement M
 append-spec =

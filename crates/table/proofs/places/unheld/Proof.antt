@@ -1,21 +1,23 @@
--- `table::places::unheld` meets its contract. The loop's invariant: none before i is the answer. The measure is what is left of the places.
--- Assumes nothing.
+-- `table::places::unheld` meets its contract. The loop's invariant: the answer from i on is the answer. The measure is what is left of the
+-- places. Assumes nothing.
+use mathlib.Core.Path.{_≡_, refl, sym, _∙_}
 use Prim.Native.Nat.{_-_}
 use borrow.Author.Needs.{needs}
 use borrow.Author.Tests.{eq-eqb, ne-eqb}
-use Rattle.lists.proofs.Scan.{Searching, search-start, search-on, search-found, search-end}
-use Rattle.table.specs.Unheld.{isUnheld, lowest}
+use Rattle.lists.specs.Lists.{limit}
+use Rattle.table.specs.Unheld.{lowestFrom}
+use Rattle.table.proofs.Unheld.{lowest-past, lowest-here, lowest-on}
 use Rattle.table.proofs.places.unheld.Statement.{statement}
 use Rattle.table.proofs.places.unheld.Tie as tie
 
 abbrev Inv-loop : tie.InvT-loop
-Inv-loop nodes i₀ i = Searching (isUnheld nodes) 255 i
+Inv-loop from nodes i₀ i = lowestFrom limit nodes i ≡ lowestFrom limit nodes from
 
 abbrev μ-loop : tie.MeasureT-loop
-μ-loop nodes i₀ i = 255 - i
+μ-loop from nodes i₀ i = limit - i
 
 loop-holds : tie.Need-loop-holds Inv-loop μ-loop
-loop-holds c = search-start (isUnheld (c .args .t1)) 255
+loop-holds c = refl
 
 cast-at : tie.Need-cast-at Inv-loop μ-loop
 cast-at c = search needs
@@ -36,21 +38,19 @@ loop-again : tie.Need-loop-again Inv-loop μ-loop
 loop-again c =
     let l = c .before .before .before .before .loop in
     let t = c .before .before .before .before .before .args .t1 in
-    search-on (isUnheld t) 255 (l .i) (l .inv) (search needs) (ne-eqb _ _ (c .if2 .left))
+    sym (lowest-on limit t (l .i) (search needs) (ne-eqb _ _ (c .if2 .left))) ∙ l .inv
 
 returns : tie.Need-returns Inv-loop μ-loop
-unfolding lowest
 returns c =
     let l = c .before .loop in
     let t = c .before .before .args .t1 in
-    search-end (isUnheld t) 255 (l .i) (l .inv) (search needs)
+    sym (lowest-past limit t (l .i) (search needs)) ∙ l .inv
 
 returns-2 : tie.Need-returns-2 Inv-loop μ-loop
-unfolding lowest
 returns-2 c =
     let l = c .before .before .before .before .loop in
     let t = c .before .before .before .before .before .args .t1 in
-    search-found (isUnheld t) 255 (l .i) (l .inv) (search needs) (eq-eqb _ _ (c .if2 .taken))
+    sym (lowest-here limit t (l .i) (search needs) (eq-eqb _ _ (c .if2 .taken))) ∙ l .inv
 
 pub unheld-spec : {M : Type 1} → statement M
 unheld-spec =

@@ -4,6 +4,7 @@ use mathlib.Core.List.{List}
 use mathlib.Core.Logic.{⊎-elim}
 use borrow.Author.Tests.{le-leb, lt-leb}
 use lib.ListN.{set}
+use Rattle.lists.specs.Lists.{limit}
 use Rattle.table.specs.declared.Node.{Node}
 use Rattle.table.specs.Table.{at, zeroNode, joinBefore, joinAfter, unlink}
 use borrow.Author.Needs.{needs}
@@ -101,21 +102,21 @@ returns c =
     let n = at (s .nodes) (s .x) in
     let t = c .before .before .if1 .t in
     let u = c .before .if2 .t in
-    let first : t ≡ joinBefore 255 (s .nodes) (n .parent) (n .prev) (n .next) =
+    let first : t ≡ joinBefore limit (s .nodes) (n .parent) (n .prev) (n .next) =
     ⊎-elim
-    (λ w. w .3 ∙ ap (λ (m : Node). set (s .nodes) (n .parent) m) (w .2 .ensures) ∙ rw (le-leb 255 (n .prev) (w .0 .taken)) refl)
-    (λ w. w .3 ∙ ap (λ (m : Node). set (s .nodes) (n .prev) m) (w .2 .ensures) ∙ rw (lt-leb 255 (n .prev) (w .0 .left)) refl)
+    (λ w. w .3 ∙ ap (λ (m : Node). set (s .nodes) (n .parent) m) (w .2 .ensures) ∙ rw (le-leb limit (n .prev) (w .0 .taken)) refl)
+    (λ w. w .3 ∙ ap (λ (m : Node). set (s .nodes) (n .prev) m) (w .2 .ensures) ∙ rw (lt-leb limit (n .prev) (w .0 .left)) refl)
     (c .before .before .if1 .came)
     in
-    let second : u ≡ joinAfter 255 t (n .parent) (n .prev) (n .next) =
+    let second : u ≡ joinAfter limit t (n .parent) (n .prev) (n .next) =
     ⊎-elim
-    (λ w. w .3 ∙ ap (λ (m : Node). set t (n .parent) m) (w .2 .ensures) ∙ rw (le-leb 255 (n .next) (w .0 .taken)) refl)
-    (λ w. w .3 ∙ ap (λ (m : Node). set t (n .next) m) (w .2 .ensures) ∙ rw (lt-leb 255 (n .next) (w .0 .left)) refl)
+    (λ w. w .3 ∙ ap (λ (m : Node). set t (n .parent) m) (w .2 .ensures) ∙ rw (le-leb limit (n .next) (w .0 .taken)) refl)
+    (λ w. w .3 ∙ ap (λ (m : Node). set t (n .next) m) (w .2 .ensures) ∙ rw (lt-leb limit (n .next) (w .0 .left)) refl)
     (c .before .if2 .came)
     in
     ap (λ (m : Node). set u (s .x) m) (c .no-node .ensures)
     ∙ ap (λ (v : List Node). set v (s .x) zeroNode)
-    (second ∙ ap (λ (v : List Node). joinAfter 255 v (n .parent) (n .prev) (n .next)) first)
+    (second ∙ ap (λ (v : List Node). joinAfter limit v (n .parent) (n .prev) (n .next)) first)
 
 pub unlink-spec : {M : Type 1} → statement M
 unlink-spec =

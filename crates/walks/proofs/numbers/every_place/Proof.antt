@@ -7,16 +7,17 @@ use native.Mathlib.Omega.{arith}
 use borrow.Author.Needs.{needs}
 use lib.ListN.{length, take, length-set}
 use lib.Seq.{take-suc-set, take-all}
+use Rattle.lists.specs.Lists.{limit}
 use Rattle.walks.specs.Along.{below}
 use Rattle.walks.proofs.Entries.{below-more}
 use Rattle.walks.proofs.numbers.every_place.Statement.{statement}
 use Rattle.walks.proofs.numbers.every_place.Tie as tie
 
 abbrev Inv-loop : tie.InvT-loop
-Inv-loop order₀ i₀ order i = (i ≤ 255) × (length order ≡ 255) × (take i order ≡ below i)
+Inv-loop order₀ i₀ order i = (i ≤ limit) × (length order ≡ limit) × (take i order ≡ below i)
 
 abbrev μ-loop : tie.MeasureT-loop
-μ-loop order₀ i₀ order i = 255 - i
+μ-loop order₀ i₀ order i = limit - i
 
 loop-holds : tie.Need-loop-holds Inv-loop μ-loop
 unfolding below
@@ -49,8 +50,8 @@ loop-again c =
 returns : tie.Need-returns Inv-loop μ-loop
 returns c =
     let l = c .before .loop in
-    let e : l .i ≡ 255 = omega arith in
-    sym (take-all 255 (l .order) (omega arith)) ∙ (rw e at (l .inv .2))
+    let e : l .i ≡ limit = omega arith in
+    sym (take-all limit (l .order) (omega arith)) ∙ (rw e at (l .inv .2))
 
 pub every-place-spec : {M : Type 1} → statement M
 every-place-spec =

@@ -8,6 +8,7 @@ use borrow.Author.Needs.{needs}
 use Prim.Native.Nat.{ℕ, _-_, _<_}
 use lib.ListN.{length, getD}
 use lib.Seq.{sets, length-sets}
+use Rattle.lists.specs.Lists.{limit}
 use Rattle.walks.specs.Order.{own, orderOf}
 use Rattle.walks.proofs.Chain.{siblings-over, siblings-zero}
 use Rattle.walks.proofs.Written.{Left, begin, piece, piece-room, end}
@@ -33,7 +34,7 @@ order-out-below t =
 
 abbrev order-out-Inv-loop : order-out-lts.InvT-loop
 order-out-Inv-loop first next x left own-first order₀ n k₀ at c₀ turns₀ order k c turns =
-    Left (below 255 own-first first next left x) order₀ k₀ (yet 255 own-first first next left x turns c) order k
+    Left (below limit own-first first next left x) order₀ k₀ (yet limit own-first first next left x turns c) order k
 
 abbrev order-out-μ-loop : order-out-lts.MeasureT-loop
 order-out-μ-loop first next x left own-first order₀ n k₀ at c₀ turns₀ order k c turns = turns
@@ -46,7 +47,7 @@ order-out-returns : (t : ℕ) → order-out-lts.Need-returns (
 ) (order-out-at t) order-out.Post order-out-Inv-loop order-out-μ-loop
 order-out-returns t c =
     let a = c .before .before .args in
-    let e = order-none 255 (a .own-first) (a .first .now) (a .next .now) (a .left) (a .x) (c .if1 .taken) in
+    let e = order-none limit (a .own-first) (a .first .now) (a .next .now) (a .left) (a .x) (c .if1 .taken) in
     (ap (sets (a .order .now) (a .n)) (sym e), omega (arith, ap length e))
 
 order-out-put-own-requires : (t : ℕ) → order-out-lts.Need-put-own-requires (
@@ -60,8 +61,8 @@ order-out-put-own-requires t c κs =
     let a = s .args in
     let f = a .first .now in
     let g = a .next .now in
-    piece-room (own (a .own-first) (a .x)) (below 255 (a .own-first) f g (a .left) (a .x))
-    (start 255 (a .own-first) f g (a .left) (a .x) (a .n) (a .order .now) (c .before .if1 .left) (s .pre .1 .1))
+    piece-room (own (a .own-first) (a .x)) (below limit (a .own-first) f g (a .left) (a .x))
+    (start limit (a .own-first) f g (a .left) (a .x) (a .n) (a .order .now) (c .before .if1 .left) (s .pre .1 .1))
 
 order-out-mul-c : (t : ℕ) → order-out-lts.Need-mul-c (
   put-own-reads.Asked,
@@ -93,8 +94,8 @@ entered :
     (c : order-out-lts.After-put-own (put-own-reads.Asked, put-own-reads.Learnt, order-out-below t, order-out.Post)
     (order-out-at t) order-out.Post order-out-Inv-loop order-out-μ-loop)
     → let a = c .before .before .before .before .args in
-    Left (orderOf 255 (a .own-first) (a .first .now) (a .next .now) (a .left) (a .x)) (a .order .now) (a .n)
-    (below 255 (a .own-first) (a .first .now) (a .next .now) (a .left) (a .x))
+    Left (orderOf limit (a .own-first) (a .first .now) (a .next .now) (a .left) (a .x)) (a .order .now) (a .n)
+    (below limit (a .own-first) (a .first .now) (a .next .now) (a .left) (a .x))
     (c .put-own .last .1 .1 .0)
     (c .put-own .result)
 entered t c =
@@ -102,8 +103,8 @@ entered t c =
     let a = s .args in
     let f = a .first .now in
     let g = a .next .now in
-    piece (own (a .own-first) (a .x)) (below 255 (a .own-first) f g (a .left) (a .x))
-    (start 255 (a .own-first) f g (a .left) (a .x) (a .n) (a .order .now) (c .before .before .if1 .left) (s .pre .1 .1))
+    piece (own (a .own-first) (a .x)) (below limit (a .own-first) f g (a .left) (a .x))
+    (start limit (a .own-first) f g (a .left) (a .x) (a .n) (a .order .now) (c .before .before .if1 .left) (s .pre .1 .1))
     (c .put-own .ensures .0) (c .put-own .ensures .1)
 
 order-out-loop-holds : (t : ℕ) → order-out-lts.Need-loop-holds (
@@ -137,9 +138,9 @@ order-out-order-out-requires t c κs =
       omega (arith, s .pre .0, c .before .before .before .before .before .before .before .before .before .if1 .left),
       (
         c .before .if2 .left,
-        piece-room (orderOf 255 (a .own-first) f g (a .left - 1) (l .c))
-            (yet 255 (a .own-first) f g (a .left) (a .x) (l .turns - 1) (getD g (l .c) 0))
-            (turn 255 (a .own-first) f g (a .left) (a .x) (l .turns) (l .c) (c .before .before .loop-test .taken) (c .before .if2 .left) (l .inv)),
+        piece-room (orderOf limit (a .own-first) f g (a .left - 1) (l .c))
+            (yet limit (a .own-first) f g (a .left) (a .x) (l .turns - 1) (getD g (l .c) 0))
+            (turn limit (a .own-first) f g (a .left) (a .x) (l .turns) (l .c) (c .before .before .loop-test .taken) (c .before .if2 .left) (l .inv)),
       ),
     )
 
@@ -196,8 +197,8 @@ order-out-loop-again t c =
     let g = a .next .now in
     let l = c .before .before .before .before .before .before .before .loop in
     let e = c .before .before .before .order-out .ensures in
-    piece (orderOf 255 (a .own-first) f g (a .left - 1) (l .c)) (yet 255 (a .own-first) f g (a .left) (a .x) (l .turns - 1) (getD g (l .c) 0))
-    (turn 255 (a .own-first) f g (a .left) (a .x) (l .turns) (l .c) (c .before .before .before .before .before .before .loop-test .taken)
+    piece (orderOf limit (a .own-first) f g (a .left - 1) (l .c)) (yet limit (a .own-first) f g (a .left) (a .x) (l .turns - 1) (getD g (l .c) 0))
+    (turn limit (a .own-first) f g (a .left) (a .x) (l .turns) (l .c) (c .before .before .before .before .before .before .loop-test .taken)
     (c .before .before .before .before .before .if2 .left) (l .inv))
     (e .0) (e .1)
 
@@ -208,16 +209,16 @@ last-own :
     (order-out-at t) order-out.Post order-out-Inv-loop order-out-μ-loop)
     → let a = c .before .before .before .before .before .before .before .before .before .args in
     let l = c .before .loop in
-    Left (below 255 (a .own-first) (a .first .now) (a .next .now) (a .left) (a .x))
+    Left (below limit (a .own-first) (a .first .now) (a .next .now) (a .left) (a .x))
     (c .before .before .before .before .before .put-own .last .1 .1 .0)
     (c .before .before .before .before .before .put-own .result)
     (own (not (a .own-first)) (a .x)) (l .order) (l .k)
 last-own t c =
     let a = c .before .before .before .before .before .before .before .before .before .args in
     let l = c .before .loop in
-    over 255 (a .own-first) (a .first .now) (a .next .now) (a .left) (a .x) (l .turns) (l .c)
-    (⊎-elim (λ w. siblings-zero 255 (a .next .now) (l .c) (l .turns) (w .left))
-    (λ w. siblings-over 255 (a .next .now) (l .c) (l .turns) (w .1 .taken)) (c .loop-test .came))
+    over limit (a .own-first) (a .first .now) (a .next .now) (a .left) (a .x) (l .turns) (l .c)
+    (⊎-elim (λ w. siblings-zero limit (a .next .now) (l .c) (l .turns) (w .left))
+    (λ w. siblings-over limit (a .next .now) (l .c) (l .turns) (w .1 .taken)) (c .loop-test .came))
     (l .inv)
 
 order-out-put-own-requires-2 : (t : ℕ) → order-out-lts.Need-put-own-requires-2 (
@@ -239,7 +240,7 @@ order-out-returns-2 t c =
     let a = c .before .before .before .before .before .before .before .before .before .before .before .before .before .args in
     let e = c .before .before .put-own2 .ensures in
     let h = end (own (not (a .own-first)) (a .x)) (last-own t (c .before .before .before .before)) (e .0) (e .1) in
-    end (below 255 (a .own-first) (a .first .now) (a .next .now) (a .left) (a .x))
+    end (below limit (a .own-first) (a .first .now) (a .next .now) (a .left) (a .x))
     (entered t (c .before .before .before .before .before .before .before .before .before))
     (h .0)
     (h .1)

@@ -8,6 +8,7 @@ use Prim.Native.Nat.{ℕ, _-_, _<_}
 use lib.ListN.{getD}
 use lib.Ieee.{Float, binary64, div}
 use Rattle.tree.specs.Figures.{nought}
+use Rattle.lists.specs.Lists.{limit}
 use Rattle.walks.specs.Usage.{weight}
 use Rattle.walks.proofs.Chain.{siblings-over, siblings-zero}
 use Rattle.walks.proofs.UsageSteps.{in-float, sum, sum-more, sum-over, usage-none, usage-free, usage-part, usage-more}
@@ -31,7 +32,7 @@ usage-of-below t =
 
 abbrev usage-of-Inv-loop : usage-of-lts.InvT-loop
 usage-of-Inv-loop first next kind area x left at k sum₀ c₀ turns₀ s c turns =
-    sum 255 first next kind area left turns c s ≡ sum 255 first next kind area left (left - 1) (getD first x 0) nought
+    sum limit first next kind area left turns c s ≡ sum limit first next kind area left (left - 1) (getD first x 0) nought
 
 abbrev usage-of-μ-loop : usage-of-lts.MeasureT-loop
 usage-of-μ-loop first next kind area x left at k sum₀ c₀ turns₀ s c turns = turns
@@ -46,7 +47,7 @@ usage-of-returns :
     usage-of-μ-loop
 usage-of-returns t c =
     let a = c .before .args in
-    sym (usage-none 255 (a .first .now) (a .next .now) (a .kind .now) (a .area .now) (a .left) (a .x) (c .if1 .taken))
+    sym (usage-none limit (a .first .now) (a .next .now) (a .kind .now) (a .area .now) (a .left) (a .x) (c .if1 .taken))
 
 usage-of-element-copy-out-k : (t : ℕ) → usage-of-lts.Need-element-copy-out-k (
   usage-of-below t,
@@ -64,7 +65,7 @@ usage-of-returns-2 :
     usage-of-μ-loop
 usage-of-returns-2 t c =
     let a = c .before .before .before .args in
-    sym (usage-free 255 (a .first .now) (a .next .now) (a .kind .now) (a .area .now) (a .left) (a .x)
+    sym (usage-free limit (a .first .now) (a .next .now) (a .kind .now) (a .area .now) (a .left) (a .x)
     (c .before .before .if1 .left) (c .if2 .taken))
 
 usage-of-returns-3 :
@@ -77,7 +78,7 @@ usage-of-returns-3 :
     usage-of-μ-loop
 usage-of-returns-3 t c =
     let a = c .before .before .before .before .args in
-    sym (usage-part 255 (a .first .now) (a .next .now) (a .kind .now) (a .area .now) (a .left) (a .x)
+    sym (usage-part limit (a .first .now) (a .next .now) (a .kind .now) (a .area .now) (a .left) (a .x)
     (c .before .before .before .if1 .left) (c .if3 .taken))
 
 usage-of-mul-c :
@@ -214,7 +215,7 @@ usage-of-loop-again :
 usage-of-loop-again t c =
     let a = c .before .before .before .before .before .before .before .before .before .before .before .before .args in
     let l = c .before .before .before .before .before .before .loop in
-    sum-more 255 (a .first .now) (a .next .now) (a .kind .now) (a .area .now) (a .left) (l .turns) (l .c) (l .sum) _
+    sum-more limit (a .first .now) (a .next .now) (a .kind .now) (a .area .now) (a .left) (l .turns) (l .c) (l .sum) _
     (c .before .before .before .before .before .loop-test .taken)
     (c .before .before .before .before .if4 .left)
     (c .before .before .before .usage-of .ensures)
@@ -257,14 +258,14 @@ usage-of-returns-4 t c =
     let l = c .before .before .before .loop in
     let f = a .first .now in
     let g = a .next .now in
-    let all : l .sum ≡ sum 255 f g (a .kind .now) (a .area .now) (a .left) (a .left - 1) (getD f (a .x) 0) nought =
-    sym (sum-over 255 f g (a .kind .now) (a .area .now) (a .left) (l .turns) (l .c) (l .sum)
-    (⊎-elim (λ w. siblings-zero 255 g (l .c) (l .turns) (w .left)) (λ w. siblings-over 255 g (l .c) (l .turns) (w .1 .taken))
+    let all : l .sum ≡ sum limit f g (a .kind .now) (a .area .now) (a .left) (a .left - 1) (getD f (a .x) 0) nought =
+    sym (sum-over limit f g (a .kind .now) (a .area .now) (a .left) (l .turns) (l .c) (l .sum)
+    (⊎-elim (λ w. siblings-zero limit g (l .c) (l .turns) (w .left)) (λ w. siblings-over limit g (l .c) (l .turns) (w .1 .taken))
     (c .before .before .loop-test .came)))
     ∙ l .inv
     in
     ap (λ (u : Float). div binary64 u (weight (a .area .now) (a .x))) all
-    ∙ sym (usage-more 255 f g (a .kind .now) (a .area .now) (a .left) (a .x)
+    ∙ sym (usage-more limit f g (a .kind .now) (a .area .now) (a .left) (a .x)
     (c .before .before .before .before .before .before .before .before .if1 .left)
     (c .before .before .before .before .before .before .if2 .left)
     (c .before .before .before .before .before .if3 .left))

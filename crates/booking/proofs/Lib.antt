@@ -1,0 +1,17 @@
+pub mod Runs
+pub mod Typed
+pub mod Made
+pub mod Marked
+pub mod Growing
+pub mod Together
+pub mod Planted
+pub mod Pieces
+pub mod Issued
+pub mod Sums
+pub mod Enrolled
+pub mod RemovableList
+pub mod FreeList
+pub mod Rooms
+pub mod Offering
+pub mod Stands
+pub mod BlockMarks

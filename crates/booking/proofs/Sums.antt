@@ -1,0 +1,209 @@
+-- What a booking does to sums over the tree: how many pieces there are, and the areas of parts and of free pieces. The block has one part, and
+-- that has the booked size.
+use mathlib.Core.Path.{_≡_, refl, sym, ap, _∙_}
+use mathlib.Core.Bool.{Bool, true, false, cond, _&&_, and-eq-true-iff}
+use mathlib.Core.Logic.{_⊎_, inl, inr, ⊎-elim}
+use mathlib.Core.List.{List, [], _∷_, _++_, List·Memᴰ, List·Memᴰ·append-cases, List·Memᴰ·eq-of-singleton, List·Memᴰ·not-nil}
+use Prim.Native.Nat.{ℕ, _+_}
+use native.Mathlib.Omega.{arith}
+use lib.Dec.{ltb}
+use borrow.Author.Tests.{ne-eqb, eq-eqb, eqb-true}
+use Rattle.piece.specs.declared.orientation.Orientation.{Orientation}
+use Rattle.piece.specs.declared.size.Size.{Size}
+use Rattle.piece.specs.declared.node.Datum.{Datum}
+use Rattle.piece.specs.declared.node.Kind.{Kind}
+use Rattle.piece.specs.declared.node.Kind.the-variants.{Free, Part, Structure}
+use Rattle.piece.specs.declared.insertion_blueprint.InsertionShape.{InsertionShape}
+use Rattle.piece.specs.declared.insertion_blueprint.InsertionShape.the-variants.{AlongCurrentCut, AcrossCurrentCut, AlongThenAcross, AcrossThenAlong}
+use Rattle.piece.specs.Sides.{other, sized, laid, area}
+use Rattle.piece.specs.Row.{Row, nil, grow}
+use Rattle.piece.specs.Insertion.{Made, blockOf, table, newNodes, ownArea, covered}
+use Rattle.piece.specs.Offers.{along, across, only, shapes}
+use Rattle.piece.proofs.Sizes.{laid-twice}
+use Rattle.piece.proofs.Blocks.{block-fills}
+use Rattle.tree.specs.Tree.{Tree, In, At, Distinct, count, isFree, isPart}
+use Rattle.tree.specs.Sound.{Sound}
+use Rattle.tree.specs.Booking.{Booking, planted, block, book}
+use Rattle.tree.specs.Accepted.{Fitting}
+use Rattle.tree.specs.Figures.{areaOf, partArea, freeArea}
+use Rattle.tree.proofs.Rows.{same?, at-in, after-nil}
+use Rattle.tree.proofs.Kept.{Where, Alone, free-alone}
+use Rattle.tree.proofs.Counts.{count-book}
+use Rattle.table.specs.Steps.{less}
+use Rattle.table.proofs.Kids.{pass-absent}
+
+-- ---- a sum over the pieces
+
+-- h changes the tree at x alone, where d stands without children and last of its row; and what it puts there has the sum n
+module _ (m : Tree → ℕ) (g : Datum → ℕ) (none : m nil ≡ 0)
+    (some : (p : ℕ) (d : Datum) (k r : Tree) → m (grow p d k r) ≡ g d + (m k + m r)) (x : ℕ) (d : Datum) (h : Tree → Tree) (end : h nil ≡ nil)
+    (pass : (p : ℕ) (e : Datum) (k r : Tree) → (p ≡ x → ⊥) → h (grow p e k r) ≡ grow p e (h k) (h r)) (n : ℕ)
+    (here : m (h (grow x d nil nil)) ≡ n) where
+  sum-change : (w : Tree) → Where x (Alone d) w → Distinct w → In x w → m (h w) + g d ≡ m w + n
+  sum-change nil a u o = absurd o
+  sum-change (grow y c k r) a u o = go (same? y x) o (sum-change k (a .1) (u .3)) (sum-change r (a .2) (u .4))
+    where
+      go : (y ≡ x) ⊎ (y ≡ x → ⊥) → In x (grow y c k r) → (In x k → m (h k) + g d ≡ m k + n) → (In x r → m (h r) + g d ≡ m r + n)
+          → m (h (grow y c k r)) + g d ≡ m (grow y c k r) + n
+      go (inl z) v ik ir =
+          let s = a .0 z in rw (z, s .0, s .1, s .2, here, some x d nil nil, none) (omega arith)
+      go (inr e) (inl v) ik ir = absurd (e (sym v))
+      go (inr e) (inr (inl v)) ik ir =
+          let z = ik v in
+          rw (pass y c k r e, some y c (h k) (h r), some y c k r, pass-absent x h end pass r (u .2 x v)) (omega arith)
+      go (inr e) (inr (inr v)) ik ir =
+          let z = ir v in
+          rw (pass y c k r e, some y c (h k) (h r), some y c k r, pass-absent x h end pass k (λ i. u .2 x i v)) (omega arith)
+
+-- ---- the block's part
+
+-- which fits a shape asks for
+abbrev Suits : Bool → Bool → InsertionShape → Type 0
+Suits al ac AlongCurrentCut = al ≡ true
+Suits al ac AcrossCurrentCut = ac ≡ true
+Suits al ac AlongThenAcross = Unit {0}
+Suits al ac AcrossThenAlong = Unit {0}
+
+module _ (al ac : Bool) where
+  suits-cond : (c : Bool) (a s : InsertionShape) (l : List InsertionShape) → (c ≡ true → Suits al ac a) → (List·Memᴰ s l → Suits al ac s)
+      → List·Memᴰ s (cond c (a ∷ []) l) → Suits al ac s
+  suits-cond true a s l f g i = rw (List·Memᴰ·eq-of-singleton i) (f refl)
+  suits-cond false a s l f g i = g i
+
+  offered-suits : (level stages : ℕ) (s : InsertionShape) → List·Memᴰ s (shapes al ac level stages) → Suits al ac s
+  unfolding shapes
+  offered-suits level stages s i = suits-cond al AlongCurrentCut s _ (λ e. e) second i
+    where
+      none : List·Memᴰ s [] → Suits al ac s
+      none z = absurd (List·Memᴰ·not-nil z)
+
+      third : List·Memᴰ s (only (ltb level stages) AlongThenAcross ++ only (ltb (level + 1) stages) AcrossThenAlong) → Suits al ac s
+      third z =
+          ⊎-elim (suits-cond (ltb level stages) AlongThenAcross s [] (λ e. tt) none)
+          (suits-cond (ltb (level + 1) stages) AcrossThenAlong s [] (λ e. tt) none) (List·Memᴰ·append-cases _ z)
+
+      second : List·Memᴰ s
+          (cond (ac && ltb level stages) (AcrossCurrentCut ∷ [])
+          (only (ltb level stages) AlongThenAcross ++ only (ltb (level + 1) stages) AcrossThenAlong)) → Suits al ac s
+      second = suits-cond (ac && ltb level stages) AcrossCurrentCut s _ (λ e. and-eq-true-iff ac (ltb level stages) .0 e .0) third
+
+-- every part of the block has this size
+abbrev PartSized : Size → Row Made → Type 0
+PartSized s nil = Unit {0}
+PartSized s (grow i m k r) = (m .kind ≡ Part → m .size ≡ s) × PartSized s k × PartSized s r
+
+not-part : {A : Type 0} (κ : Kind) → isPart κ ≡ false → κ ≡ Part → A
+not-part κ n e = let z : _≡_ {A = ℕ} 0 1 = cc (n, ap isPart e) in absurd (omega arith)
+
+-- the part is as wide as the table writes it, and as high
+same-sides : (c : Orientation) (part : Size) (w h : ℕ) → w ≡ laid c part .width → h ≡ laid c part .height → laid c (sized w h) ≡ part
+same-sides c part w h e f = rw (e, f) (laid-twice c part)
+
+module _ (c : Orientation) (piece part : Size) where
+  -- the size of the part in the table of a shape that suits
+  abbrev partSide : InsertionShape → Size
+  partSide AlongCurrentCut = sized (laid c part .width) (laid c piece .height)
+  partSide AcrossCurrentCut = sized (laid c piece .width) (laid c part .height)
+  partSide AlongThenAcross = laid c part
+  partSide AcrossThenAlong = laid c part
+
+  part-side : (s : InsertionShape) → Suits (along c piece part) (across c piece part) s → laid c (partSide s) ≡ part
+  part-side AlongCurrentCut e = same-sides c part _ _ refl (eqb-true _ _ e)
+  part-side AcrossCurrentCut e = same-sides c part _ _ (eqb-true _ _ e) refl
+  part-side AlongThenAcross e = laid-twice c part
+  part-side AcrossThenAlong e = laid-twice c part
+
+  table-sized : (s : InsertionShape) → laid c (partSide s) ≡ part → PartSized part (blockOf s c piece part)
+  unfolding blockOf table
+  table-sized AlongCurrentCut e = ((λ z. e), tt, (not-part Free refl, tt, tt))
+  table-sized AcrossCurrentCut e = (not-part Structure refl, ((λ z. e), tt, (not-part Free refl, tt, tt)), tt)
+  table-sized AlongThenAcross e =
+      (not-part Structure refl, ((λ z. e), tt, (not-part Free refl, tt, tt)), (not-part Free refl, tt, tt))
+  table-sized AcrossThenAlong e =
+      (not-part Structure refl, (not-part Structure refl, ((λ z. e), tt, (not-part Free refl, tt, tt)), (not-part Free refl, tt, tt)), tt)
+
+  table-part : (b : Booking) (l : ℕ) (s : InsertionShape) → partArea (planted b l c (blockOf s c piece part)) ≡ area (laid c (partSide s))
+  unfolding blockOf table
+  table-part b l AlongCurrentCut = omega arith
+  table-part b l AcrossCurrentCut = omega arith
+  table-part b l AlongThenAcross = omega arith
+  table-part b l AcrossThenAlong = omega arith
+
+planted-sized : (b : Booking) (s : Size) (l : ℕ) (c : Orientation) (i : ℕ) (e : Datum) (w : Row Made) → PartSized s w
+    → At i e (planted b l c w) → e .kind ≡ Part → e .size ≡ s
+planted-sized b s l c i e nil h g z = absurd g
+planted-sized b s l c i e (grow j m k r) h (inl g) z =
+    ap (λ (n : Datum). n .size) (g .1) ∙ h .0 (sym (ap (λ (n : Datum). n .kind) (g .1)) ∙ z)
+planted-sized b s l c i e (grow j m k r) h (inr (inl g)) z = planted-sized b s (l + 1) (other c) i e k (h .1) g z
+planted-sized b s l c i e (grow j m k r) h (inr (inr g)) z = planted-sized b s l c i e r (h .2) g z
+
+own-areas : (κ : Kind) (s : Size) → cond (isPart κ) (area s) 0 + cond (isFree κ) (area s) 0 ≡ ownArea κ s
+own-areas Free s = omega arith
+own-areas Part s = omega arith
+own-areas Structure s = omega arith
+
+planted-areas : (b : Booking) (l : ℕ) (c : Orientation) (w : Row Made) → partArea (planted b l c w) + freeArea (planted b l c w) ≡ covered w
+planted-areas b l c nil = refl
+planted-areas b l c (grow i m k r) =
+    let f = planted-areas b (l + 1) (other c) k in let g = planted-areas b l c r in omega (arith, own-areas (m .kind) (m .size))
+
+module _ (stages : ℕ) (d : Datum) (b : Booking) (fit : Fitting stages d b) where
+  side : laid (d .cut) (partSide (d .cut) (d .size) (b .size) (b .shape)) ≡ b .size
+  side = part-side (d .cut) (d .size) (b .size) (b .shape) (offered-suits _ _ (d .level) stages (b .shape) (fit .offered))
+
+  -- the block's part has the booked size
+  pub block-part : (i : ℕ) (e : Datum) → At i e (block b d) → e .kind ≡ Part → e .size ≡ b .size
+  unfolding block
+  block-part i e h z =
+      planted-sized b (b .size) (d .level) (d .cut) i e (blockOf (b .shape) (d .cut) (d .size) (b .size))
+      (table-sized (d .cut) (d .size) (b .size) (b .shape) side) h z
+
+  -- and it is the only one
+  pub block-part-area : partArea (block b d) ≡ area (b .size)
+  unfolding block
+  block-part-area = table-part (d .cut) (d .size) (b .size) b (d .level) (b .shape) ∙ ap area side
+
+  -- and the rest of the free piece is free
+  pub block-areas : partArea (block b d) + freeArea (block b d) ≡ area (d .size)
+  unfolding block
+  block-areas =
+      planted-areas b (d .level) (d .cut) (blockOf (b .shape) (d .cut) (d .size) (b .size))
+      ∙ block-fills (b .shape) (d .cut) (d .size) (b .size) (fit .inside)
+
+-- ---- the sums of a booked tree
+
+module _ (limit stages : ℕ) (sheet : Size) (w : Tree) (sound : Sound limit stages sheet w) (x : ℕ) (d : Datum) (there : At x d w)
+    (free : d .kind ≡ Free) where
+  alone : Where x (Alone d) w
+  alone = free-alone stages sheet x d w (sound .topped) (sound .distinct) there free
+
+  pub less-count : count (less x w) + 1 ≡ count w
+  less-count =
+      let z = sum-change count (λ e. 1) refl (λ p e k r. refl) x d (less x) refl (λ p e k r n. rw (ne-eqb p x n)) 0 (rw (eq-eqb x x refl)) w
+      alone (sound .distinct) (at-in x d w there)
+      in
+      omega arith
+
+  module _ (b : Booking) where
+    pub book-count : count (book x b w) + 1 ≡ count w + newNodes (b .shape)
+    book-count = count-book limit stages sheet w x d b sound there free
+
+    -- the areas of the pieces of a kind
+    book-area : (f : Kind → Bool) → areaOf f (book x b w) + cond (f (d .kind)) (area (d .size)) 0 ≡ areaOf f w + areaOf f (block b d)
+    book-area f =
+        sum-change (areaOf f) (λ e. cond (f (e .kind)) (area (e .size)) 0) refl (λ p e k r. refl) x d (book x b) refl
+        (λ p e k r n. rw (ne-eqb p x n)) (areaOf f (block b d)) (rw (eq-eqb x x refl, after-nil (block b d))) w alone (sound .distinct)
+        (at-in x d w there)
+
+    module _ (fit : Fitting stages d b) where
+      pub book-part-area : partArea (book x b w) ≡ partArea w + area (b .size)
+      book-part-area =
+          let z = book-area isPart in
+          let y : cond (isPart (d .kind)) (area (d .size)) 0 ≡ 0 = rw free in
+          omega (arith, block-part-area stages d b fit)
+
+      pub book-free-area : freeArea (book x b w) + area (b .size) ≡ freeArea w
+      book-free-area =
+          let z = book-area isFree in
+          let y : cond (isFree (d .kind)) (area (d .size)) 0 ≡ area (d .size) = rw free in
+          omega (arith, block-areas stages d b fit, block-part-area stages d b fit)

@@ -1,0 +1,85 @@
+-- The steps of `book` together: each step's needs follow from `Bookable`, and what they leave is the booking of specs/Book.antt.
+-- Assumes nothing.
+use mathlib.Core.Path.{_≡_, refl}
+use mathlib.Core.List.{List, _++_}
+use Prim.Native.Nat.{ℕ, _+_, _≤_, _<_}
+use native.Mathlib.Omega.{arith}
+use lib.ListN.{getD, length, length-append}
+use Rattle.lists.specs.Lists.{limit}
+use Rattle.piece.specs.declared.size.Size.{Size}
+use Rattle.piece.specs.declared.insertion_blueprint.InsertionShape.{InsertionShape}
+use Rattle.piece.proofs.Blocks.{new-nodes-few}
+use Rattle.table.specs.declared.Node.{Node}
+use Rattle.table.specs.Table.{at, unlink}
+use Rattle.register.specs.declared.listing.Listing.{Listing}
+use Rattle.register.specs.declared.LayoutNodes.{LayoutNodes}
+use Rattle.register.specs.Listings.{Kept, areaIn, cut, entriesOf, listing, putAll}
+use Rattle.register.proofs.Listed.{entries-are, kept-as}
+use Rattle.booking.specs.declared.new_nodes.NewNodes.{NewNodes}
+use Rattle.booking.specs.NewNodes.{appendEach, enrolments, freesOf, noNew, those}
+use Rattle.booking.specs.Book.{Bookable, booked, bookedWith, lessParent, newAt}
+use Rattle.booking.proofs.Made.{new-at-count}
+
+module _ (n : LayoutNodes) (x : ℕ) (shape : InsertionShape) (size : Size) (number last : ℕ) where
+  abbrev gone : List Node
+  gone = unlink limit (n .nodes) x
+
+  abbrev made : NewNodes
+  made = newAt (n .nodes) gone x shape size number last
+
+  abbrev parent : ℕ
+  parent = at (n .nodes) x .parent
+
+  module _ (b : Bookable n x shape size number last) {left : List Node} {new : NewNodes} (l : left ≡ gone)
+      (e : new ≡ newAt (n .nodes) left x shape size number last) where
+    new-is : new ≡ made
+    new-is = rw l at e
+
+    new-few : new .count ≤ 5
+    new-few = rw (new-is, new-at-count (n .nodes) gone x shape size number last) (new-nodes-few shape)
+
+    -- the new nodes come into the table
+    pub plant-needs : (new .count ≤ 5)
+        × ((i : ℕ) → i < new .count → (getD (new .list) i noNew .under < limit) × (getD (new .list) i noNew .place < limit))
+    plant-needs = (new-few, rw (new-is, new-at-count (n .nodes) gone x shape size number last) (b .sited))
+
+    -- the free ones come into the free list that the piece has left
+    pub put-needs : {less : Listing} → less ≡ listing (cut (entriesOf (n .free)) x) →
+        Kept less × (new .count ≤ 5) × (less .count + new .count ≤ limit)
+    put-needs c = (
+      kept-as (cut (entriesOf (n .free)) x) c (omega (arith, b .freeRoom)),
+      new-few,
+      rw (c, new-is, new-at-count (n .nodes) gone x shape size number last) (b .freeRoom),
+    )
+
+    -- the new ones come into the removable list that the parent has left if it lost its last child
+    pub enrol-needs : {fewer : Listing} → fewer ≡ listing (lessParent left parent (entriesOf (n .removable))) →
+        Kept fewer × (new .count ≤ 5) × (fewer .count + length (enrolments (those new)) ≤ limit)
+    enrol-needs {fewer} f =
+        let kept = lessParent gone parent (entriesOf (n .removable)) in
+        let is : fewer ≡ listing kept = rw l at f in
+        let room : length kept + length (enrolments (those made)) ≤ limit = rw length-append at (b .removableRoom) in
+        (kept-as kept is (omega (arith, room)), new-few, rw (is, new-is) room)
+
+  module _ {left table : List Node} {new : NewNodes} {less free fewer removable : Listing}
+      (l : left ≡ gone)
+      (e : new ≡ newAt (n .nodes) left x shape size number last)
+      (t : table ≡ appendEach limit left (those new))
+      (c : less ≡ listing (cut (entriesOf (n .free)) x))
+      (p : free ≡ listing (putAll (areaIn table) (entriesOf less) (freesOf (those new))))
+      (f : fewer ≡ listing (lessParent left parent (entriesOf (n .removable))))
+      (r : removable ≡ listing (entriesOf fewer ++ enrolments (those new))) where
+    pub booked-by : record { nodes = record { nodes = table; free = free; removable = removable }; new = new }
+        ≡ booked n x shape size number last
+    unfolding booked bookedWith
+    booked-by =
+        rw (
+          r,
+          p,
+          entries-are (cut (entriesOf (n .free)) x) c,
+          entries-are (lessParent left parent (entriesOf (n .removable))) f,
+          t,
+          e,
+          l,
+        )
+        refl

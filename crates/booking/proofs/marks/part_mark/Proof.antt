@@ -1,0 +1,90 @@
+-- `part_mark` meets its contract. The loop's invariant: the first part is among those still to come. The measure is what is left of them.
+-- Assumes nothing.
+use mathlib.Core.Path.{_≡_, sym, _∙_}
+use Prim.Native.Nat.{_≤_, _-_}
+use lib.ListN.{length, drop, take}
+use borrow.Author.Needs.{needs}
+use Rattle.tree.specs.Tree.{isPart}
+use Rattle.booking.specs.NewNodes.{noNew}
+use Rattle.booking.specs.Marks.{headMark, marksOf}
+use Rattle.booking.proofs.Runs.{next-entry, none-left}
+use Rattle.booking.proofs.Typed.{five-new}
+use Rattle.booking.proofs.marks.part_mark.Statement.{statement}
+use Rattle.booking.proofs.marks.part_mark.Tie as tie
+
+abbrev Inv-loop : tie.InvT-loop
+Inv-loop number list count i₀ i =
+    (i ≤ count)
+    × (headMark (marksOf number isPart (drop i (take count list))) ≡ headMark (marksOf number isPart (take count list)))
+
+abbrev μ-loop : tie.MeasureT-loop
+μ-loop number list count i₀ i = count - i
+
+loop-holds : tie.Need-loop-holds Inv-loop μ-loop
+loop-holds c = search needs
+
+mul-n : tie.Need-mul-n Inv-loop μ-loop
+mul-n c = search needs
+
+array-copy-out-n : tie.Need-array-copy-out-n Inv-loop μ-loop
+array-copy-out-n c = search needs
+
+is-part-requires : tie.Need-is-part-requires Inv-loop μ-loop
+is-part-requires c κs = search needs
+
+mark-of-requires : tie.Need-mark-of-requires Inv-loop μ-loop
+mark-of-requires c κs = search needs
+
+returns : tie.Need-returns Inv-loop μ-loop
+returns c =
+    let l = c .before .before .before .before .before .loop in
+    let s = c .before .before .before .before .before .before .before in
+    let n = s .args .new in
+    let few : n .count ≤ length (n .list) = rw (five-new n _ (s .good .1 .0)) (s .pre) in
+    let part = sym (c .before .before .is-part .ensures) ∙ c .before .if1 .taken in
+    c .mark-of .ensures
+    ∙ (rw (next-entry (n .list) (n .count) noNew few (l .i) (c .before .before .before .before .loop-test .taken), part) at (l .inv .1))
+
+add-i : tie.Need-add-i Inv-loop μ-loop
+add-i c = search needs
+
+loop-less : tie.Need-loop-less Inv-loop μ-loop
+loop-less c = search needs
+
+loop-again : tie.Need-loop-again Inv-loop μ-loop
+loop-again c =
+    let l = c .before .before .before .before .loop in
+    let s = c .before .before .before .before .before .before in
+    let n = s .args .new in
+    let few : n .count ≤ length (n .list) = rw (five-new n _ (s .good .1 .0)) (s .pre) in
+    let other = sym (c .before .is-part .ensures) ∙ c .if1 .left in (
+      search needs,
+      rw (next-entry (n .list) (n .count) noNew few (l .i) (c .before .before .before .loop-test .taken), other) at (l .inv .1),
+    )
+
+no-mark-requires : tie.Need-no-mark-requires Inv-loop μ-loop
+no-mark-requires c κs = search needs
+
+returns-2 : tie.Need-returns-2 Inv-loop μ-loop
+returns-2 c =
+    let l = c .before .before .loop in
+    let n = c .before .before .before .before .args .new in
+    c .no-mark .ensures ∙ (rw (none-left (n .list) (n .count) (l .i) (c .before .loop-test .left)) at (l .inv .1))
+
+pub part-mark-spec : {M : Type 1} → statement M
+part-mark-spec =
+    tie.close
+    (tie.spec
+    Inv-loop
+    μ-loop
+    loop-holds
+    mul-n
+    array-copy-out-n
+    is-part-requires
+    mark-of-requires
+    returns
+    add-i
+    loop-less
+    loop-again
+    no-mark-requires
+    returns-2)

@@ -1,0 +1,59 @@
+-- `NewNodes::next` meets its contract: the test on the parent is that of the rule. Assumes nothing.
+use mathlib.Core.Path.{_≡_, refl, _∙_}
+use mathlib.Core.Bool.{_&&_}
+use mathlib.Core.Logic.{⊎-elim}
+use lib.Dec.{eqb}
+use borrow.Author.Needs.{needs}
+use borrow.Author.Tests.{le-leb, lt-leb}
+use Rattle.booking.specs.NewNodes.{nextNode}
+use Rattle.booking.proofs.new_nodes.NewNodes.next.Statement.{statement}
+use Rattle.booking.proofs.new_nodes.NewNodes.next.Tie as tie
+
+cast-parent : tie.Need-cast-parent
+cast-parent c = search needs
+
+site-node-requires : tie.Need-site-node-requires
+site-node-requires c κs = search needs
+
+mul-up : tie.Need-mul-up
+mul-up c = search needs
+
+element-copy-out-up : tie.Need-element-copy-out-up
+element-copy-out-up c = search needs
+
+add-site-node : tie.Need-add-site-node
+add-site-node c = search needs
+
+deeper-requires : tie.Need-deeper-requires
+deeper-requires c κs = search needs
+
+site-node-requires-2 : tie.Need-site-node-requires-2
+site-node-requires-2 c κs = search needs
+
+returns : tie.Need-returns
+unfolding nextNode
+returns c =
+    let s = c .before .before .before .before .args in
+    let first : c .before .if2 .first ≡ (s .site .alone && eqb (s .t1 .count) 0) =
+    ⊎-elim (λ w. w .1 ∙ rw (w .0 .taken) refl) (λ w. w .1 ∙ rw (w .0 .left) refl) (c .before .if2 .came)
+    in
+    rw (c .site-node .ensures) (simp (first, le-leb _ _ (c .before .before .if1 .taken)))
+
+returns-2 : tie.Need-returns-2
+unfolding nextNode
+returns-2 c =
+    c .site-node2 .ensures ∙ simp (c .before .deeper .ensures, lt-leb _ _ (c .before .before .before .before .if1 .left))
+
+pub next-spec : {M : Type 1} → statement M
+next-spec =
+    tie.close
+    (tie.spec
+    cast-parent
+    site-node-requires
+    mul-up
+    element-copy-out-up
+    add-site-node
+    deeper-requires
+    site-node-requires-2
+    returns
+    returns-2)

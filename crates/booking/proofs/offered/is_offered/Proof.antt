@@ -1,0 +1,29 @@
+-- `offered::is_offered` meets its contract. Assumes nothing.
+use mathlib.Core.Path.{_≡_, refl, sym, ap, _∙_}
+use native.Mathlib.Omega.{arith}
+use borrow.Author.Needs.{needs}
+use Rattle.piece.specs.Offers.{offersOf}
+use Rattle.piece.proofs.Offered.{offers-few, held-count, held-whole}
+use Rattle.booking.specs.Offered.{amongB, offeredB}
+use Rattle.booking.proofs.offered.is_offered.Statement.{statement}
+use Rattle.booking.proofs.offered.is_offered.Tie as tie
+
+offers-requires : tie.Need-offers-requires
+offers-requires c κs = search needs
+
+is-among-requires : tie.Need-is-among-requires
+is-among-requires c κs =
+    let a = c .before .args in
+    let os = offersOf (a .piece) (a .part) (a .stages) in
+    rw (c .offers .ensures, held-count os) (offers-few (a .piece) (a .part) (a .stages))
+
+returns : tie.Need-returns
+unfolding offeredB
+returns c =
+    let a = c .before .before .args in
+    let os = offersOf (a .piece) (a .part) (a .stages) in
+    c .is-among .ensures
+    ∙ rw (c .before .offers .ensures, held-whole os (offers-few (a .piece) (a .part) (a .stages))) refl
+
+pub is-offered-spec : {M : Type 1} → statement M
+is-offered-spec = tie.close (tie.spec offers-requires is-among-requires returns)

@@ -1,0 +1,85 @@
+-- A booking in the free piece at x, on the nodes and the lists, step by step: what the code computes. proofs/Stands.antt says that it is document
+-- 01's booking.
+use mathlib.Core.Bool.{Bool, cond}
+use mathlib.Core.List.{List, [], _∷_, _++_}
+use Prim.Native.Nat.{ℕ, zero, suc, _+_, _≤_, _<_}
+use lib.Dec.{leb}
+use lib.ListN.{getD, length, replicate}
+use Rattle.piece.specs.declared.size.Size.{Size}
+use Rattle.piece.specs.declared.insertion_blueprint.InsertionShape.{InsertionShape}
+use Rattle.piece.specs.Insertion.{blockOf, listed, newNodes, outside}
+use Rattle.table.specs.declared.Node.{Node}
+use Rattle.table.specs.Table.{at, unlink}
+use Rattle.table.specs.Unheld.{lowestFrom}
+use Rattle.lists.specs.Lists.{limit}
+use Rattle.register.specs.declared.LayoutNodes.{LayoutNodes}
+use Rattle.register.specs.Listings.{Kept, areaIn, cut, entriesOf, listing, putAll, strike}
+use Rattle.booking.specs.declared.new_nodes.NewNodes.{NewNodes}
+use Rattle.booking.specs.declared.new_nodes.Site.{Site}
+use Rattle.booking.specs.declared.book.Booked.{Booked}
+use Rattle.booking.specs.NewNodes.{addAll, appendEach, enrolments, freesOf, noNew, those}
+
+-- the places that new nodes get one after the other
+abbrev pub lowestOf : List Node → ℕ → ℕ
+lowestOf t zero = lowestFrom limit t 0
+lowestOf t (suc i) = lowestFrom limit t (lowestOf t i + 1)
+
+unfoldable pub newPlaces : List Node → List ℕ
+newPlaces t = lowestOf t 0 ∷ lowestOf t 1 ∷ lowestOf t 2 ∷ lowestOf t 3 ∷ lowestOf t 4 ∷ []
+
+-- no child hangs under q
+abbrev pub noChild : List Node → ℕ → Bool
+noChild t q = leb limit (at t q .first)
+
+-- the site that the piece at x leaves, in the table t, when it has gone, which is the table left
+unfoldable pub siteOf : (t left : List Node) → (x number last : ℕ) → Site
+siteOf t left x number last =
+    record {
+      under = at t x .parent;
+      alone = noChild left (at t x .parent);
+      level = at t x .datum .level;
+      places = newPlaces left;
+      serial = last + 1;
+      number = number;
+    }
+
+-- the nodes that a shape makes at the site
+unfoldable pub newAt : (t left : List Node) → ℕ → InsertionShape → Size → (number last : ℕ) → NewNodes
+newAt t left x shape size number last =
+    addAll (siteOf t left x number last) (record { list = replicate 5 noNew; count = 0 })
+    (listed outside (at t x .datum .cut) (blockOf shape (at t x .datum .cut) (at t x .datum .size) size))
+
+-- "a parent that loses its last child is taken out"
+abbrev pub lessParent : List Node → ℕ → List ℕ → List ℕ
+lessParent left q ys = cond (noChild left q) (strike ys q) ys
+
+unfoldable pub bookedWith : LayoutNodes → List Node → ℕ → NewNodes → Booked
+bookedWith n left x new =
+    let t = appendEach limit left (those new) in
+    record {
+      nodes = record {
+        nodes = t;
+        free = listing (putAll (areaIn t) (cut (entriesOf (n .free)) x) (freesOf (those new)));
+        removable = listing (lessParent left (at (n .nodes) x .parent) (entriesOf (n .removable)) ++ enrolments (those new));
+      };
+      new = new;
+    }
+
+unfoldable pub booked : LayoutNodes → ℕ → InsertionShape → Size → (number last : ℕ) → Booked
+booked n x shape size number last =
+    let left = unlink limit (n .nodes) x in bookedWith n left x (newAt (n .nodes) left x shape size number last)
+
+-- what the code asks: that no index is out of bounds and no number overflows
+pub record Bookable (n : LayoutNodes) (x : ℕ) (shape : InsertionShape) (size : Size) (number last : ℕ) : Type 0 where
+  pub placed : x < limit
+  pub hung : at (n .nodes) x .parent < limit
+  pub freeKept : Kept (n .free)
+  pub removableKept : Kept (n .removable)
+  pub sited : (i : ℕ) → i < newNodes shape
+      → let m = getD (newAt (n .nodes) (unlink limit (n .nodes) x) x shape size number last .list) i noNew in (m .under < limit) × (m .place < limit)
+  pub freeRoom : length (cut (entriesOf (n .free)) x) + newNodes shape ≤ limit
+  pub removableRoom : length
+      (lessParent (unlink limit (n .nodes) x) (at (n .nodes) x .parent) (entriesOf (n .removable))
+      ++ enrolments (those (newAt (n .nodes) (unlink limit (n .nodes) x) x shape size number last)))
+      ≤ limit
+  pub spent : last ≤ 1000000

@@ -1,0 +1,35 @@
+-- Document 01, refusal 7: "this rotation and shape aren't offered here".
+use mathlib.Core.Bool.{Bool, true, false, _&&_, _||_}
+use mathlib.Core.List.{List, [], _∷_}
+use Prim.Native.Nat.{ℕ}
+use lib.Dec.{eqb}
+use Rattle.piece.specs.declared.rotation.Rotation.{Rotation}
+use Rattle.piece.specs.declared.rotation.Rotation.the-variants.{Default, Rotated}
+use Rattle.piece.specs.declared.parttype.PartType.{PartType}
+use Rattle.piece.specs.declared.node.Datum.{Datum}
+use Rattle.piece.specs.declared.insertion_blueprint.InsertionShape.{InsertionShape}
+use Rattle.piece.specs.declared.insertion_option.Offer.{Offer}
+use Rattle.piece.specs.Insertion.{newNodes}
+use Rattle.piece.specs.Offers.{offersOf}
+
+abbrev pub sameRotation : Rotation → Rotation → Bool
+sameRotation Default Default = true
+sameRotation Default Rotated = false
+sameRotation Rotated Default = false
+sameRotation Rotated Rotated = true
+
+-- no two shapes make as many nodes
+abbrev pub sameShape : InsertionShape → InsertionShape → Bool
+sameShape s u = eqb (newNodes s) (newNodes u)
+
+abbrev pub sameOffer : Rotation → InsertionShape → Offer → Bool
+sameOffer r s o = sameRotation (o .rotation) r && sameShape (o .shape) s
+
+-- one of the offers is this one
+abbrev pub amongB : Rotation → InsertionShape → List Offer → Bool
+amongB r s [] = false
+amongB r s (o ∷ os) = sameOffer r s o || amongB r s os
+
+-- the free piece d offers the part in this rotation and shape
+unfoldable pub offeredB : Datum → PartType → ℕ → Rotation → InsertionShape → Bool
+offeredB d p stages r s = amongB r s (offersOf d p stages)

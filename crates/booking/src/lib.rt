@@ -1,0 +1,7 @@
+// A booking, on the nodes of a layout and its lists: the free piece goes, and the nodes of a blueprint come. Rust: `implement_insertion_blueprint`
+// and `insert_child` of core/entities/layout.rs. It rests on `piece` for the blueprint, on `table` and `register` for the steps,
+// on `answers` for marks, and on `tree` for what a booking is.
+pub mod book;
+pub mod marks;
+pub mod new_nodes;
+pub mod offered;

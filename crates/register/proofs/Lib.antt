@@ -1,0 +1,5 @@
+pub mod ListSteps
+pub mod HoldingSteps
+pub mod FreeSteps
+pub mod Listed
+pub mod Family

@@ -1,0 +1,27 @@
+-- `Listing::cut` meets its contract: the place is found and deleted, or is not there. Assumes nothing.
+use borrow.Author.Needs.{needs}
+use Rattle.register.proofs.Listed.{cut-none, cut-one}
+use Rattle.register.proofs.listing.Listing.cut.Statement.{statement}
+use Rattle.register.proofs.listing.Listing.cut.Tie as tie
+
+index-of-requires : tie.Need-index-of-requires
+index-of-requires c κs = search needs
+
+sub-last : tie.Need-sub-last
+sub-last c = search needs
+
+delete-at-requires : tie.Need-delete-at-requires
+delete-at-requires c κs = search needs
+
+returns : tie.Need-returns
+returns c =
+    let s = c .before .before .before .before .before .before in
+    cut-one (s .pre) (s .args .place) (c .before .before .before .index-of .ensures) (c .before .before .if1 .taken) (c .delete-at .ensures)
+
+returns-2 : tie.Need-returns-2
+returns-2 c =
+    let s = c .before .before .before .before in
+    cut-none (s .pre) (s .args .place) (c .before .index-of .ensures) (c .if1 .left)
+
+pub cut-spec : {M : Type 1} → statement M
+cut-spec = tie.close (tie.spec index-of-requires sub-last delete-at-requires returns returns-2)

@@ -1,0 +1,5 @@
+pub mod Pieces
+pub mod Listings
+pub mod Family
+pub mod Enrolment
+pub mod Standing

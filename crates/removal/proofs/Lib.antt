@@ -1,0 +1,13 @@
+pub mod Row
+pub mod Goes
+pub mod Pieces
+pub mod Serials
+pub mod FreeList
+pub mod RemovableList
+pub mod Sums
+pub mod Rooms
+pub mod Turns
+pub mod Joins
+pub mod Gone
+pub mod Struck
+pub mod Stands

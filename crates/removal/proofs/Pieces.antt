@@ -1,0 +1,280 @@
+-- The pieces that a removal leaves: those that are none of what goes, and the free piece that comes. It rests on the row of the piece that goes
+-- (Row), and on what `table` says of a tree that has other children at one piece (put).
+use mathlib.Core.Path.{_≡_, refl, subst}
+use mathlib.Core.List.{List, [], _∷_, _++_}
+use mathlib.Core.Bool.{Bool, true, false, cond, _&&_}
+use mathlib.Core.Logic.{_⊎_, inl, inr, ⊎-elim}
+use Prim.Native.Nat.{ℕ, _+_, _<_}
+use native.Mathlib.Omega.{arith}
+use Rattle.piece.specs.declared.size.Size.{Size}
+use Rattle.piece.specs.declared.node.Datum.{Datum}
+use Rattle.piece.specs.Row.{nil, grow}
+use Rattle.tree.specs.Tree.{Tree, In, At, Distinct, isFree, isNil, after}
+use Rattle.tree.specs.Sound.{Sound}
+use Rattle.tree.specs.Removal.{freed, board, lastFree, withoutLast, settled, remove, cleared}
+use Rattle.tree.specs.Apart.{Removable}
+use Rattle.tree.proofs.Rows.{in?, in-eq, at-in, in-after, in-first, in-second}
+use Rattle.tree.proofs.Bookings.{at-unique}
+use Rattle.tree.proofs.RemoveKept.{in-left, remove-distinct}
+use Rattle.tree.proofs.Counts.{in-remove}
+use Rattle.tree.proofs.Stays.{at-remove}
+use Rattle.table.specs.declared.Node.{Node}
+use Rattle.table.specs.Table.{at, last, Holds}
+use Rattle.table.specs.Steps.{Kids, leaving, going}
+use Rattle.table.proofs.Kids.{kids-under, kids-distinct, after-apart, after-second, put, put-in, in-put, put-new, put-kids}
+use Rattle.table.proofs.Links.{in-at}
+use Rattle.table.proofs.Rep.{last-cases, last-after, bound, shows}
+use Rattle.table.proofs.Removal.{freeEnd, FreeLeaves, cleared-at}
+use Rattle.register.specs.Listings.{Names}
+use Rattle.removal.specs.Going.{Goes}
+use Rattle.removal.specs.Remove.{newFree}
+use Rattle.removal.proofs.Row.{RowOf, whole, rest, new-is, row-of, end-alone}
+use Rattle.removal.proofs.Goes.{goes-all, row-parents}
+
+-- ---- the places that a list names
+
+module _ (i : ℕ) where
+  pub names-cases : (xs ys : List ℕ) → Names i (xs ++ ys) → Names i xs ⊎ Names i ys
+  names-cases [] ys h = inr h
+  names-cases (x ∷ xs) ys (inl e) = inl (inl e)
+  names-cases (x ∷ xs) ys (inr h) = ⊎-elim (λ y. inl (inr y)) inr (names-cases xs ys h)
+
+  pub names-first : (xs ys : List ℕ) → Names i xs → Names i (xs ++ ys)
+  names-first [] ys h = absurd h
+  names-first (x ∷ xs) ys (inl e) = inl e
+  names-first (x ∷ xs) ys (inr h) = inr (names-first xs ys h)
+
+  pub names-second : (xs ys : List ℕ) → Names i ys → Names i (xs ++ ys)
+  names-second [] ys h = h
+  names-second (x ∷ xs) ys h = inr (names-second xs ys h)
+
+  -- a row that leaves: its places are those of the row
+  pub leaving-in : (k : Tree) → Names i (leaving k) → In i k
+  leaving-in nil h = h
+  leaving-in (grow p d k r) h =
+      ⊎-elim (λ y. inr (inl (leaving-in k y))) (λ y. ⊎-elim inl (λ v. inr (inr (leaving-in r v))) y) (names-cases (leaving k) (p ∷ leaving r) h)
+
+  pub in-leaving : (k : Tree) → In i k → Names i (leaving k)
+  in-leaving nil h = h
+  in-leaving (grow p d k r) (inl e) = names-second (leaving k) (p ∷ leaving r) (inl e)
+  in-leaving (grow p d k r) (inr (inl h)) = names-first (leaving k) (p ∷ leaving r) (in-leaving k h)
+  in-leaving (grow p d k r) (inr (inr h)) = names-second (leaving k) (p ∷ leaving r) (inr (in-leaving r h))
+
+  -- the free piece at the end of a row
+  end-in : (b : Tree) → Names i (freeEnd b) → In i b
+  end-in nil h = h
+  end-in (grow p d k r) h = go (isFree (d .kind) && isNil r) h (end-in r)
+    where
+      go : (c : Bool) → Names i (cond c (p ∷ []) (freeEnd r)) → (Names i (freeEnd r) → In i r) → In i (grow p d k r)
+      go true (inl e) ih = inl e
+      go true (inr h) ih = absurd h
+      go false h ih = inr (inr (ih h))
+
+  -- it is not left
+  end-out : (b : Tree) → Distinct b → Names i (freeEnd b) → In i (withoutLast b) → ⊥
+  end-out nil dis h g = h
+  end-out (grow p d k r) dis h g = go (isFree (d .kind) && isNil r) h g (end-out r (dis .4))
+    where
+      go : (c : Bool) → Names i (cond c (p ∷ []) (freeEnd r)) → In i (cond c nil (grow p d k (withoutLast r)))
+          → (Names i (freeEnd r) → In i (withoutLast r) → ⊥) → ⊥
+      go true h g ih = g
+      go false h (inl e) ih = dis .1 (in-eq r e (end-in r h))
+      go false h (inr (inl g)) ih = dis .2 i g (end-in r h)
+      go false h (inr (inr g)) ih = ih h g
+
+  -- and all else is
+  left-or-end : (b : Tree) → FreeLeaves b → In i b → In i (withoutLast b) ⊎ Names i (freeEnd b)
+  left-or-end nil f h = inl h
+  left-or-end (grow p d k r) f h = go (isFree (d .kind) && isNil r) refl h (left-or-end r (f .1))
+    where
+      go : (c : Bool) → (isFree (d .kind) && isNil r) ≡ c → In i (grow p d k r) → (In i r → In i (withoutLast r) ⊎ Names i (freeEnd r))
+          → In i (cond c nil (grow p d k (withoutLast r))) ⊎ Names i (cond c (p ∷ []) (freeEnd r))
+      go true z (inl e) ih = inr (inl e)
+      go true z (inr (inl h)) ih = absurd (rw (end-alone p d k r f z .0) at h)
+      go true z (inr (inr h)) ih = absurd (rw (end-alone p d k r f z .1) at h)
+      go false z (inl e) ih = inl (inl e)
+      go false z (inr (inl h)) ih = inl (inr (inl h))
+      go false z (inr (inr h)) ih = ⊎-elim (λ y. inl (inr (inr y))) inr (ih h)
+
+-- ---- what is in a row is in the tree
+
+at-second : (i : ℕ) (e : Datum) (a b : Tree) → At i e b → At i e (after a b)
+at-second i e nil b h = h
+at-second i e (grow p d k r) b h = inr (inr (at-second i e r b h))
+
+kids-at : (q : ℕ) (m : Tree) (i : ℕ) (e : Datum) (w : Tree) → Kids q m w → At i e m → At i e w
+kids-at q m i e nil h y = absurd h
+kids-at q m i e (grow p d l r) (inl g) y = inr (inl (rw (g .1) at y))
+kids-at q m i e (grow p d l r) (inr (inl h)) y = inr (inl (kids-at q m i e l h y))
+kids-at q m i e (grow p d l r) (inr (inr h)) y = inr (inr (kids-at q m i e r h y))
+
+-- ---- the row
+
+module _ (t : List Node) (x : ℕ) (d : Datum) (w : Tree) (dis : Distinct w) (o : RowOf t x d w) where
+  -- the row that was, what is left of it, and the row from x on
+  abbrev m : Tree
+  m = whole t x d w o
+
+  abbrev k : Tree
+  k = rest t x d w o
+
+  abbrev row : Tree
+  row = grow x d (o .below) (o .behind)
+
+  row-dis : Distinct m
+  row-dis = kids-distinct (o .parent) m w dis (o .kids)
+
+  row-apart : Distinct row
+  row-apart = after-second (o .before) row row-dis
+
+  module _ (i : ℕ) where
+    -- what goes is x, below x, or the free piece at the end
+    goes-cases : Names i (going t x w) → In i (grow x d (o .below) nil) ⊎ Names i (freeEnd (o .behind))
+    goes-cases y =
+        ⊎-elim (λ v. inl (leaving-in i (grow x d (o .below) nil) v)) inr
+        (names-cases i (leaving (grow x d (o .below) nil)) (freeEnd (o .behind)) (rw (o .goes) at y))
+
+    goes-own : In i (grow x d (o .below) nil) → Names i (going t x w)
+    goes-own y =
+        rw (o .goes)
+        (names-first i (leaving (grow x d (o .below) nil)) (freeEnd (o .behind)) (in-leaving i (grow x d (o .below) nil) y))
+
+    goes-end : Names i (freeEnd (o .behind)) → Names i (going t x w)
+    goes-end y = rw (o .goes) (names-second i (leaving (grow x d (o .below) nil)) (freeEnd (o .behind)) y)
+
+    -- so it is of the row, from x on
+    goes-from : Names i (going t x w) → In i row
+    goes-from y =
+        ⊎-elim (λ v. ⊎-elim inl (λ u. inr (inl (⊎-elim (λ a. a) absurd u))) v) (λ v. inr (inr (end-in i (o .behind) v))) (goes-cases y)
+
+    goes-row : Names i (going t x w) → In i m
+    goes-row y = in-second i (o .before) row (goes-from y)
+
+    -- and is not left of it
+    goes-out : Names i (going t x w) → In i k → ⊥
+    goes-out y v =
+        ⊎-elim (λ a. after-apart (o .before) row row-dis i a (goes-from y)) (λ a. late a (goes-cases y))
+        (in-after i (o .before) (withoutLast (o .behind)) v)
+      where
+        late : In i (withoutLast (o .behind)) → In i (grow x d (o .below) nil) ⊎ Names i (freeEnd (o .behind)) → ⊥
+        late a (inl (inl e)) = row-apart .1 (in-eq (o .behind) e (in-left i (o .behind) a))
+        late a (inl (inr (inl u))) = row-apart .2 i u (in-left i (o .behind) a)
+        late a (inl (inr (inr u))) = u
+        late a (inr u) = end-out i (o .behind) (row-apart .4) u a
+
+    -- all else of it is
+    row-left : (Names i (going t x w) → ⊥) → In i m → In i k
+    row-left n y = ⊎-elim (λ a. in-first i (o .before) (withoutLast (o .behind)) a) from (in-after i (o .before) row y)
+      where
+        from : In i row → In i k
+        from (inl e) = absurd (n (goes-own (inl e)))
+        from (inr (inl u)) = absurd (n (goes-own (inr (inl u))))
+        from (inr (inr u)) =
+            ⊎-elim (λ a. in-second i (o .before) (withoutLast (o .behind)) a) (λ a. absurd (n (goes-end a)))
+            (left-or-end i (o .behind) (o .leaves) u)
+
+    -- ---- the tree
+
+    -- what is left is none of what goes
+    left-out : In i (cleared x w) → Names i (going t x w) → ⊥
+    left-out y v =
+        ⊎-elim (λ a. goes-out v a) (λ a. a .1 (goes-row v)) (put-in (o .parent) k m i w dis (o .kids) (rw (o .left) at y))
+
+    -- all else is left
+    left-in : In i w → (Names i (going t x w) → ⊥) → In i (cleared x w)
+    left-in y n =
+        rw (o .left)
+        (⊎-elim (λ a. put-new (o .parent) k m i w dis (o .kids) (row-left n a)) (λ a. in-put (o .parent) k m i w dis (o .kids) y a) (in? i m))
+
+  -- a piece is left exactly if it is none of what goes
+  module _ (i : ℕ) (e : Datum) where
+    left-was : At i e (cleared x w) → At i e w × (Names i (going t x w) → ⊥)
+    left-was y = (cleared-at i e x w y, left-out i (at-in i e (cleared x w) y))
+
+    left-stays : At i e w → (Names i (going t x w) → ⊥) → At i e (cleared x w)
+    left-stays y n =
+        let g = in-at i (cleared x w) (left-in i (at-in i e w y) n) in
+        subst (λ (f : Datum). At i f (cleared x w)) (at-unique i e (g .0) w dis y (cleared-at i (g .0) x w (g .1))) (g .1)
+
+  -- the new piece is there at the end
+  new-at : (n s : ℕ) → At n (freed s d (board d (lastFree (o .behind)))) (remove x n s w)
+  unfolding settled
+  new-at n s =
+      let u = after (o .before) (settled n s d (o .behind)) in
+      rw (o .comes n s)
+      (kids-at (o .parent) u n (freed s d (board d (lastFree (o .behind)))) (put (o .parent) u w) (put-kids (o .parent) u m w dis (o .kids))
+      (at-second n _ (o .before) (settled n s d (o .behind)) (at-second n _ (withoutLast (o .behind)) _ (inl (refl, refl)))))
+
+-- ---- The laws.
+
+module _ (limit stages : ℕ) (sheet : Size) (t : List Node) (w : Tree) (sound : Sound limit stages sheet w) (h : Holds limit t w)
+    (x : ℕ) (z : Removable x w) where
+  abbrev o : RowOf t x (z .piece) w
+  o = row-of limit stages sheet t w sound h x z
+
+  -- what goes is in the tree
+  pub going-in : (i : ℕ) → Names i (going t x w) → In i w
+  going-in i y =
+      kids-under (o .parent) (whole t x (z .piece) w o) i w (o .kids) (goes-row t x (z .piece) w (h .distinct) o i y)
+
+  -- x goes
+  pub going-own : Names x (going t x w)
+  going-own = goes-own t x (z .piece) w (h .distinct) o x (inl refl)
+
+  -- x hangs under a place, and so does the last piece of its row
+  pub parent-low : at t x .parent < limit
+  parent-low = rw (o .hangs) (shows limit t limit limit (o .parent) (whole t x (z .piece) w o) w (h .rep) (o .kids) .low)
+
+  pub last-low : at t (at t x .parent) .last < limit
+  last-low =
+      let row = grow x (z .piece) (o .below) (o .behind) in
+      let u = shows limit t limit limit (o .parent) (whole t x (z .piece) w o) w (h .rep) (o .kids) in
+      let end = ⊎-elim inl (λ y. inr (inr y)) (last-cases x (o .behind)) in
+      rw (o .hangs, u .last-is, last-after limit (o .before) row)
+      (bound limit t (o .parent) limit (last x (o .behind)) (whole t x (z .piece) w o) (u .rep)
+      (in-second (last x (o .behind)) (o .before) row end))
+
+  -- each place that goes can be unlinked when its turn comes
+  pub goes : Goes limit t (going t x w)
+  goes =
+      let b = sound .placed x (at-in x (z .piece) w (z .there)) in
+      let m = whole t x (z .piece) w o in
+      let u = shows limit t limit limit (o .parent) m w (h .rep) (o .kids) in
+      goes-all limit (going t x w) t (omega arith)
+      (λ i y. (
+        sound .placed i (going-in i y),
+        row-parents limit t (o .parent) limit i m (u .low) (u .rep) (goes-row t x (z .piece) w (h .distinct) o i y),
+      ))
+
+  -- a piece is left exactly if it is none of what goes
+  pub cleared-was : (i : ℕ) (e : Datum) → At i e (cleared x w) → At i e w × (Names i (going t x w) → ⊥)
+  cleared-was i e y = left-was t x (z .piece) w (h .distinct) o i e y
+
+  pub cleared-stays : (i : ℕ) (e : Datum) → At i e w → (Names i (going t x w) → ⊥) → At i e (cleared x w)
+  cleared-stays i e y n = left-stays t x (z .piece) w (h .distinct) o i e y n
+
+  -- after the removal a piece is one that is left, or the new one
+  module _ (n last : ℕ) where
+    pub new-there : At n (newFree t x last) (remove x n (last + 1) w)
+    new-there = rw (new-is t x (z .piece) w o last) (new-at t x (z .piece) w (h .distinct) o n (last + 1))
+
+    pub remove-pieces : (In n (cleared x w) → ⊥) → (i : ℕ) (e : Datum) → At i e (remove x n (last + 1) w)
+        → At i e (cleared x w) ⊎ ((i ≡ n) × (e ≡ newFree t x last))
+    remove-pieces unheld i e y = ⊎-elim new old (in-remove x n (last + 1) i w (at-in i e (remove x n (last + 1) w) y))
+      where
+        apart : Distinct (remove x n (last + 1) w)
+        apart = remove-distinct x n (last + 1) w (h .distinct) unheld
+
+        new : i ≡ n → At i e (cleared x w) ⊎ ((i ≡ n) × (e ≡ newFree t x last))
+        new q = inr (q, at-unique n (newFree t x last) e (remove x n (last + 1) w) apart new-there (rw q at y))
+
+        old : In i (cleared x w) → At i e (cleared x w) ⊎ ((i ≡ n) × (e ≡ newFree t x last))
+        old v =
+            let g = in-at i (cleared x w) v in
+            let same : g .0 ≡ e =
+            at-unique i e (g .0) (remove x n (last + 1) w) apart y (at-remove x n (last + 1) i (g .0) w (g .1))
+            in
+            inl (rw same at (g .1))
+
+    pub pieces-remove : (i : ℕ) (e : Datum) → At i e (cleared x w) ⊎ ((i ≡ n) × (e ≡ newFree t x last)) → At i e (remove x n (last + 1) w)
+    pieces-remove i e y = ⊎-elim (at-remove x n (last + 1) i e w) (λ v. rw (v .0, v .1) new-there) y

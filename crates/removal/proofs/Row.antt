@@ -1,0 +1,79 @@
+-- The row of the piece that goes: its parent, its siblings and what is below it; and, by that row, what goes, what is left and what comes. It
+-- rests on what `table` says of the row of a piece that can be removed (Steps, Removal).
+use mathlib.Core.Path.{_≡_, refl}
+use mathlib.Core.List.{List, _++_}
+use mathlib.Core.Bool.{true, _&&_, false≢true}
+use Prim.Native.Nat.{ℕ, _+_}
+use Rattle.piece.specs.declared.size.Size.{Size}
+use Rattle.piece.specs.declared.node.Datum.{Datum}
+use Rattle.piece.specs.Row.{nil, grow}
+use Rattle.lists.proofs.Scan.{and-left, and-right}
+use Rattle.tree.specs.Tree.{Tree, isFree, isNil, after}
+use Rattle.tree.specs.Sound.{Sound}
+use Rattle.tree.specs.Removal.{freed, board, lastFree, withoutLast, settled, remove, cleared}
+use Rattle.tree.specs.Apart.{Removable}
+use Rattle.table.specs.declared.Node.{Node}
+use Rattle.table.specs.Table.{at, Holds}
+use Rattle.table.specs.Steps.{Kids, leaving, going, freeLastDatum}
+use Rattle.table.proofs.Kids.{put}
+use Rattle.table.proofs.Links.{datum-is}
+use Rattle.table.proofs.Removal.{freeEnd, FreeLeaves, end-is, cleared-put, remove-put}
+use Rattle.table.proofs.Steps.{parent-is, spot, row, leaves, going-row}
+use Rattle.removal.specs.Remove.{newFree}
+
+-- the free piece at the end of a row is alone there
+pub end-alone : (p : ℕ) (d : Datum) (k r : Tree) → FreeLeaves (grow p d k r) → (isFree (d .kind) && isNil r) ≡ true → (k ≡ nil) × (r ≡ nil)
+end-alone p d k r f e = (f .0 (and-left (isFree (d .kind)) (isNil r) e), none r (and-right (isFree (d .kind)) (isNil r) e))
+  where
+    none : (u : Tree) → isNil u ≡ true → u ≡ nil
+    none nil z = refl
+    none (grow i c l v) z = absurd (false≢true z)
+
+-- the piece d at x, in the tree w of the table t
+pub record RowOf (t : List Node) (x : ℕ) (d : Datum) (w : Tree) : Type 0 where
+  pub parent : ℕ
+  pub before : Tree
+  pub below : Tree
+  pub behind : Tree
+  pub kids : Kids parent (after before (grow x d below behind)) w
+  pub leaves : FreeLeaves behind
+  pub hangs : at t x .parent ≡ parent
+  pub shown : at t x .datum ≡ d
+  pub end : lastFree behind ≡ freeLastDatum t parent
+  pub goes : going t x w ≡ leaving (grow x d below nil) ++ freeEnd behind
+  pub left : cleared x w ≡ put parent (after before (withoutLast behind)) w
+  pub comes : (n s : ℕ) → remove x n s w ≡ put parent (after before (settled n s d behind)) w
+
+module _ (t : List Node) (x : ℕ) (d : Datum) (w : Tree) (o : RowOf t x d w) where
+  -- what the row was, and what is left of it
+  abbrev pub whole : Tree
+  whole = after (o .before) (grow x d (o .below) (o .behind))
+
+  abbrev pub rest : Tree
+  rest = after (o .before) (withoutLast (o .behind))
+
+  -- the free piece that comes
+  pub new-is : (last : ℕ) → newFree t x last ≡ freed (last + 1) d (board d (lastFree (o .behind)))
+  unfolding newFree
+  new-is last = rw (o .shown, o .hangs, o .end) refl
+
+pub row-of : (limit stages : ℕ) (sheet : Size) (t : List Node) (w : Tree) → Sound limit stages sheet w → Holds limit t w
+    → (x : ℕ) (z : Removable x w) → RowOf t x (z .piece) w
+row-of limit stages sheet t w sound h x z =
+    let s = spot limit stages sheet t w sound h x z in
+    let r = row limit stages sheet t w sound h x z in
+    let d = z .piece in
+    record {
+      parent = s .parent;
+      before = s .before;
+      below = s .below;
+      behind = s .behind;
+      kids = r;
+      leaves = leaves limit stages sheet t w sound h x z;
+      hangs = parent-is limit stages sheet t w sound h x s;
+      shown = datum-is limit t limit limit x d w (h .rep) (z .there);
+      end = end-is limit t (s .parent) x (s .before) d (s .below) (s .behind) w h r (z .solid) .1;
+      goes = going-row limit stages sheet t w sound h x z;
+      left = cleared-put (s .parent) x (s .before) d (s .below) (s .behind) w (h .distinct) r;
+      comes = remove-put (s .parent) x (s .before) d (s .below) (s .behind) w (h .distinct) r;
+    }

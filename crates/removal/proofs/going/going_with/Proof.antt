@@ -1,0 +1,67 @@
+-- `going_with` meets its contract: what the two steps write is what goes. Assumes nothing.
+use native.Mathlib.Omega.{arith}
+use Rattle.removal.proofs.Gone.{walk-fits, end-fits, gone-places, gone-count, gone-placed}
+use borrow.Author.Needs.{needs}
+use Rattle.removal.proofs.going.going_with.Statement.{statement}
+use Rattle.removal.proofs.going.going_with.Tie as tie
+
+columns-of-requires : tie.Need-columns-of-requires
+columns-of-requires c κs = search needs
+
+mul-n : tie.Need-mul-n
+mul-n c = search needs
+
+array-copy-out-n : tie.Need-array-copy-out-n
+array-copy-out-n c = search needs
+
+slice-aggregate-order-out : tie.Need-slice-aggregate-order-out
+slice-aggregate-order-out c = search needs
+
+order-out-requires : tie.Need-order-out-requires
+order-out-requires c κs =
+    let s = c .before .before .before .before .before .before .before in
+    let e = c .before .before .before .before .before .before .columns-of .ensures in
+    let a = s .args in
+    (s .pre .0, omega (arith, walk-fits (a .t1) (a .x) (a .held) e, s .pre .3))
+
+slice-aggregate-put-free-last : tie.Need-slice-aggregate-put-free-last
+slice-aggregate-put-free-last c = search needs
+
+put-free-last-requires : tie.Need-put-free-last-requires
+put-free-last-requires c κs =
+    let c1 = c .before .before in
+    let c0 = c1 .before .before .before .before .before .before .before in
+    let s = c0 .before in
+    let a = s .args in
+    let o = c1 .order-out .ensures in
+    (s .pre .1, s .pre .2, end-fits (a .t1) (a .x) (a .held) (c0 .columns-of .ensures) (o .0) (o .1) (s .pre .3))
+
+returns : tie.Need-returns
+returns c =
+    let c2 = c .before in
+    let c1 = c2 .before .before .before in
+    let c0 = c1 .before .before .before .before .before .before .before in
+    let s = c0 .before in
+    let a = s .args in
+    let o = c1 .order-out .ensures in
+    let e = c2 .put-free-last .ensures in
+    let columns = c0 .columns-of .ensures in (
+      gone-places (a .t1) (a .x) (a .held) columns (o .0) (o .1) (s .pre .3) (e .0) (e .1),
+      (
+        gone-count (a .t1) (a .x) (a .held) columns (o .0) (o .1) (s .pre .3) (e .0) (e .1),
+        gone-placed (a .t1) (a .x) (a .held) columns (o .0) (o .1) (s .pre .3) (e .0) (e .1) (s .pre .0) (s .pre .2),
+      ),
+    )
+
+pub going-with-spec : {M : Type 1} → statement M
+going-with-spec =
+    tie.close
+    (tie.spec
+    columns-of-requires
+    mul-n
+    array-copy-out-n
+    slice-aggregate-order-out
+    order-out-requires
+    slice-aggregate-put-free-last
+    put-free-last-requires
+    returns)

@@ -1,0 +1,197 @@
+// The removal itself. Rust: `remove_node` of core/entities/layout.rs.
+ghost use mathlib.Core.Path.{_≡_};
+ghost use mathlib.Core.Bool.{cond};
+ghost use mathlib.Core.Option.{none, some};
+ghost use Prim.Native.Nat.{_+_, _≤_, _<_};
+ghost use Rattle.lists.specs.Lists.{limit};
+ghost use lib.ListN.{length};
+ghost use Rattle.tree.specs.Removal.{board, joined};
+ghost use Rattle.tree.specs.Tree.{isFree};
+ghost use Rattle.table.specs.Steps.{unlinkAll};
+ghost use Rattle.table.specs.Table.{at};
+ghost use Rattle.walks.specs.Along.{Placed};
+ghost use Rattle.register.specs.Listings.{Kept, areaIn, cutAll, entriesOf, listing, put, strikeAll};
+ghost use Rattle.removal.specs.Going.{Goes, areaAlong, partArea, places};
+ghost use Rattle.removal.specs.Remove.{Clearable, newFree, removed, returned};
+use crate::going::Going;
+use piece::node::Datum;
+use piece::node::Kind;
+use piece::size::Size;
+use register::LayoutNodes;
+use register::listing::Listing;
+use sound::places::is_free;
+use table::LIMIT;
+use table::NONE;
+use table::Node;
+use table::places::append;
+use table::places::unheld;
+use table::places::unlink;
+
+// The nodes and the lists without the piece; and the place of the new free piece.
+pub struct Cleared {
+    pub nodes: LayoutNodes,
+    pub place: u16,
+}
+
+// The places are unlinked one after the other.
+fn unlink_all(nodes: [Node; LIMIT], g: Going) -> [Node; LIMIT]
+    requires { ⌜ (g .count ≤ limit) × Goes limit nodes (places g) ⌝ }
+    ensures { λ r. ⌜ r ≡ unlinkAll limit nodes (places g) ⌝ }
+{
+    let order = g.order;
+    let count = g.count;
+    let mut left = nodes;
+    let mut i: usize = 0;
+    while i < count {
+        let p = order[i];
+        let less = unlink(left, p);
+        left = less;
+        i += 1;
+    }
+    left
+}
+
+// The area of a part; another piece has none.
+fn part_area(d: Datum) -> u64
+    ensures { λ r. ⌜ r ≡ partArea d ⌝ }
+{
+    let kind = d.kind;
+    let size = d.size;
+    let whole = size.area();
+    match kind {
+        Kind::Free => 0,
+        Kind::Part => whole,
+        Kind::Structure => 0,
+    }
+}
+
+// The areas of the parts that go.
+pub fn area_along(nodes: [Node; LIMIT], g: Going) -> u64
+    requires { ⌜ (g .count ≤ limit) × Placed limit (g .count) (g .order) × (areaAlong nodes (places g) ≤ 18446744073709551615) ⌝ }
+    ensures { λ r. ⌜ r ≡ areaAlong nodes (places g) ⌝ }
+{
+    let order = g.order;
+    let count = g.count;
+    let mut sum: u64 = 0;
+    let mut i: usize = 0;
+    while i < count {
+        let c = order[i];
+        let p = c as usize;
+        let node = nodes[p];
+        sum += part_area(node.datum);
+        i += 1;
+    }
+    sum
+}
+
+// Two pieces of a row as one: the sides that their parent's cut divides are added.
+fn join(d: Datum, e: Datum) -> Size
+    requires { ⌜ (joined d e .width ≤ 4294967295) × (joined d e .height ≤ 4294967295) ⌝ }
+    ensures { λ r. ⌜ r ≡ joined d e ⌝ }
+{
+    let cut = d.cut;
+    let own = d.size;
+    let more = e.size;
+    let a = own.laid(cut);
+    let b = more.laid(cut);
+    let whole = Size {
+        width: a.width + b.width,
+        height: a.height,
+    };
+    whole.laid(cut)
+}
+
+// The board of d, with the last piece of its row, if that is free.
+fn board_with(d: Datum, end: Datum) -> Size
+    requires { ⌜ (board d (cond (isFree (end .kind)) (some end) none) .width ≤ 4294967295)
+        × (board d (cond (isFree (end .kind)) (some end) none) .height ≤ 4294967295) ⌝ }
+    ensures { λ r. ⌜ r ≡ board d (cond (isFree (end .kind)) (some end) none) ⌝ }
+{
+    let kind = end.kind;
+    if is_free(kind) {
+        return join(d, end);
+    }
+    d.size
+}
+
+// The free piece that comes where x was.
+fn new_free(nodes: [Node; LIMIT], x: u16, last: u32) -> Datum
+    requires { ⌜ (x < limit) × (at nodes x .parent < limit) × (at nodes (at nodes x .parent) .last < limit)
+        × (newFree nodes x last .size .width ≤ 4294967295) × (newFree nodes x last .size .height ≤ 4294967295) × (last ≤ 1000000) ⌝ }
+    ensures { λ r. ⌜ r ≡ newFree nodes x last ⌝ }
+{
+    let xi = x as usize;
+    let n = nodes[xi];
+    let d = n.datum;
+    let qi = n.parent as usize;
+    let up = nodes[qi];
+    let li = up.last as usize;
+    let end = nodes[li];
+    let e = end.datum;
+    let size = board_with(d, e);
+    let cut = d.cut;
+    Datum {
+        serial: last + 1,
+        size,
+        number: 0,
+        level: d.level,
+        kind: Kind::Free,
+        cut,
+    }
+}
+
+// The free list without the pieces that go and with the new one, which stands at `place` of the table.
+fn free_list(free: Listing, g: Going, nodes: [Node; LIMIT], place: u16) -> Listing
+    requires { ⌜ Kept free × (g .count ≤ limit) × (length (cutAll (entriesOf free) (places g)) < limit) ⌝ }
+    ensures { λ r. ⌜ r ≡ listing (put (areaIn nodes) (cutAll (entriesOf free) (places g)) place) ⌝ }
+{
+    let order = g.order;
+    let count = g.count;
+    let shorter = free.cut_all(&order, count);
+    shorter.put(nodes, place)
+}
+
+// The removable list without the pieces that go. A parent q that has lost its last child is taken out, and returns at once.
+fn removable_list(removable: Listing, g: Going, left: [Node; LIMIT], q: u16) -> Listing
+    requires { ⌜ Kept removable × (g .count ≤ limit) × (length (strikeAll (entriesOf removable) (places g)) < limit) × (q < limit) ⌝ }
+    ensures { λ r. ⌜ r ≡ listing (returned left q (strikeAll (entriesOf removable) (places g))) ⌝ }
+{
+    let order = g.order;
+    let count = g.count;
+    let shorter = removable.strike_all(&order, count);
+    let qi = q as usize;
+    let parent = left[qi];
+    if NONE <= parent.first {
+        let without = shorter.strike(q);
+        return without.push(q);
+    }
+    shorter
+}
+
+// The piece at x goes, where g is what goes with it, and one free piece comes at the end of its row: it has the serial after `last`.
+pub fn remove(n: LayoutNodes, g: Going, x: u16, last: u32) -> Cleared
+    requires { ⌜ (g .count ≤ limit) × Clearable n (places g) x last ⌝ }
+    ensures { λ r. ⌜ r ≡ removed n (places g) x last ⌝ }
+{
+    let old = n.nodes;
+    let old_free = n.free;
+    let old_removable = n.removable;
+    let xi = x as usize;
+    let gone = old[xi];
+    let q = gone.parent;
+    let left = unlink_all(old, g);
+    let place = unheld(left, 0);
+    let d = new_free(old, x, last);
+    let nodes = append(left, q, place, d);
+    let free = free_list(old_free, g, nodes, place);
+    let removable = removable_list(old_removable, g, left, q);
+    let whole = LayoutNodes {
+        nodes,
+        free,
+        removable,
+    };
+    Cleared {
+        nodes: whole,
+        place,
+    }
+}
