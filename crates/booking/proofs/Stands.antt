@@ -1,7 +1,7 @@
 -- A booking on the nodes and the lists of a layout, as the code makes it, is document 01's: where all stands as "Sound layout" says and the part
 -- fits, all stands again, with the tree and the removable list that the rules give. Assumes nothing.
 use mathlib.Core.Path.{_≡_, refl, sym, ap, _∙_}
-use mathlib.Core.Bool.{Bool, true, false, cond}
+use mathlib.Core.Bool.{Bool, true, false}
 use mathlib.Core.List.{List, [], _∷_, _++_, append-assoc}
 use mathlib.Core.Logic.{inl, inr}
 use Prim.Native.Nat.{ℕ, zero, suc, _+_, _≤_, _<_}
@@ -31,15 +31,14 @@ use Rattle.table.proofs.Steps.{free-gone}
 use Rattle.lists.specs.Lists.{limit}
 use Rattle.register.specs.declared.LayoutNodes.{LayoutNodes}
 use Rattle.register.specs.Pieces.{piecesOf, Holding, FreeList, RemovableList, maxSerial}
-use Rattle.register.specs.Listings.{areaIn, cut, entriesOf, listing, putAll}
+use Rattle.register.specs.Listings.{areaIn, cut, entriesOf, putAll}
 use Rattle.register.specs.Family.{parentOf, childless, newPlace}
-use Rattle.register.specs.Enrolment.{when, enrolled, bereft, bookedList}
+use Rattle.register.specs.Enrolment.{when, enrolled, bookedList}
 use Rattle.register.specs.Standing.{Stands}
 use Rattle.register.proofs.Listed.{entries-listing, kept-listing}
 use Rattle.register.proofs.Family.{parent-is, parent-low, parent-solid, parent-left, no-child, lowest-is, free-below, fresh-booking}
 use Rattle.booking.specs.declared.new_nodes.NewNode.{NewNode}
 use Rattle.booking.specs.declared.new_nodes.Site.{Site}
-use Rattle.booking.specs.declared.book.Booked.{Booked}
 use Rattle.booking.specs.NewNodes.{appendEach, bookingAt, deepest, enrolments, freesOf, heldNew, leaves, noNew, those}
 use Rattle.booking.specs.Book.{lowestOf, newPlaces, noChild, siteOf, newAt, lessParent, bookedWith, booked, Bookable}
 use Rattle.booking.proofs.Made.{made-is, leaves-count, held-those}

@@ -1,9 +1,9 @@
 -- A layout that is sound stands as the steps of a booking and a removal want it; what stands is a sound layout again; and document 01's words
 -- determine the next layout. Assumes nothing.
 use mathlib.Core.Path.{_≡_, refl, sym, ap, _∙_}
-use mathlib.Core.List.{List, _++_}
-use Prim.Native.Nat.{ℕ, _-_, _≤_}
-use lib.ListN.{length, take, drop, replicate, take-append-drop}
+use mathlib.Core.List.{List}
+use Prim.Native.Nat.{ℕ, _-_}
+use lib.ListN.{length, take, take-append-drop}
 use lib.Seq.{length-take-le}
 use Rattle.tree.specs.Tree.{Tree, count}
 use Rattle.tree.specs.Figures.{partArea}

@@ -16,3 +16,10 @@ pub mod Snapshots
 pub mod Determined
 pub mod Restored
 pub mod Changed
+pub mod Admitted
+pub mod Booked
+pub mod Inserted
+pub mod TakenOut
+pub mod RemoveEnds
+pub mod Gone
+pub mod Answered

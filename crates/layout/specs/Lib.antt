@@ -8,3 +8,5 @@ pub mod Restore
 pub mod Next
 pub mod Refusing
 pub mod Parts
+pub mod Insert
+pub mod Remove

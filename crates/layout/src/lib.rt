@@ -3,10 +3,12 @@
 // soundness check. It rests on `sound`, `lists` and `walks`, which know the table, the lists and the columns, and on `tree` for what the words mean.
 pub mod assertions;
 pub mod figures;
+pub mod insert;
 pub mod layout;
 pub mod looks;
 pub mod open;
 pub mod parts;
+pub mod remove;
 pub mod replies;
 pub mod restore;
 pub mod written;

@@ -6,8 +6,8 @@ use Prim.Native.Nat.{ℕ, _≤_, _<_}
 use native.Mathlib.Omega.{arith}
 use native.Mathlib.Decide.{ℕ-discrete, decLt}
 use lib.ListN.{getD}
-use borrow.Author.Tests.{eqb-true, eqb-false, ltb-true, ltb-false}
-use Rattle.lists.specs.Search.{indexOf, standsAt, positionOf, smallerAt, areaAt, differ, apart, apartBelow}
+use borrow.Author.Tests.{eqb-true, eqb-false}
+use Rattle.lists.specs.Search.{indexOf, standsAt, differ, apart, apartBelow}
 use Rattle.lists.proofs.Scan.{clash, first-most, first-holds, first-before, every-all, every-at}
 use Rattle.lists.proofs.Look.{other, twice, unheld}
 
@@ -33,23 +33,6 @@ module _ (l : List ℕ) (n p : ℕ) where
       go : Dec (j < indexOf l n p) → indexOf l n p ≤ j
       go (yes b) = absurd (index-before j b e)
       go (no b) = omega arith
-
--- ---- where a new piece goes
-
-module _ (bound : ℕ) (l : List ℕ) (n : ℕ) (areas : List ℕ) (area : ℕ) where
-  pub position-most : positionOf bound l n areas area ≤ n
-  unfolding positionOf
-  position-most = let h = first-most (smallerAt bound l areas area) n 0 in omega arith
-
-  -- the entry there has a smaller area
-  pub position-holds : positionOf bound l n areas area < n → areaAt bound areas (getD l (positionOf bound l n areas area) 0) < area
-  unfolding positionOf
-  position-holds h = ltb-true _ area (first-holds (smallerAt bound l areas area) n 0 (omega arith))
-
-  -- and those before it have none
-  pub position-before : (j : ℕ) → j < positionOf bound l n areas area → area ≤ areaAt bound areas (getD l j 0)
-  unfolding positionOf
-  position-before j h = ltb-false _ area (first-before (smallerAt bound l areas area) n 0 j (omega arith) h)
 
 -- ---- serials
 

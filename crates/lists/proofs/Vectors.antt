@@ -4,7 +4,7 @@ use mathlib.Core.Bool.{true, false}
 use mathlib.Core.List.{List, [], _∷_}
 use Prim.Native.Nat.{ℕ}
 use Rattle.lists.specs.Lists.{padded, putIn, takeOut, swapOut, swapped}
-use Rattle.lists.specs.Search.{firstFrom, every, indexOf, positionOf, zeroTail, differ}
+use Rattle.lists.specs.Search.{firstFrom, every, indexOf, zeroTail, differ}
 use Rattle.lists.specs.Flags.{okB, column, flagsOf}
 
 three : List ℕ
@@ -43,15 +43,6 @@ index = refl
 none : indexOf (padded 5 three) 3 0 ≡ 3
 unfolding three padded indexOf firstFrom
 none = refl
-
--- behind those of the same area: the places 4, 2, 3 have the areas 60, 40, 40
-ties : positionOf 5 (padded 5 three) 3 (0 ∷ 0 ∷ 40 ∷ 40 ∷ 60 ∷ []) 40 ≡ 3
-unfolding three padded positionOf firstFrom
-ties = refl
-
-between : positionOf 5 (padded 5 three) 3 (0 ∷ 0 ∷ 40 ∷ 40 ∷ 60 ∷ []) 50 ≡ 1
-unfolding three padded positionOf firstFrom
-between = refl
 
 tail : zeroTail 5 (padded 5 three) 3 ≡ true
 unfolding three padded zeroTail every

@@ -23,18 +23,6 @@ standsAt l p i = eqb (getD l i 0) p
 unfoldable pub indexOf : List ℕ → ℕ → ℕ → ℕ
 indexOf l n p = firstFrom (standsAt l p) n 0
 
--- the area of the place p; what is past the bound is no place, and has the area 0
-abbrev pub areaAt : ℕ → List ℕ → ℕ → ℕ
-areaAt bound areas p = cond (ltb p bound) (getD areas p 0) 0
-
--- the place at i has an area below this one
-abbrev pub smallerAt : ℕ → List ℕ → List ℕ → ℕ → ℕ → Bool
-smallerAt bound l areas area i = ltb (areaAt bound areas (getD l i 0)) area
-
--- the first index of the first n entries whose place has a smaller area, or n
-unfoldable pub positionOf : ℕ → List ℕ → ℕ → List ℕ → ℕ → ℕ
-positionOf bound l n areas area = firstFrom (smallerAt bound l areas area) n 0
-
 -- i is below n, or the entry at i is 0
 abbrev pub zeroAt : List ℕ → ℕ → ℕ → Bool
 zeroAt l n i = ltb i n || eqb (getD l i 0) 0

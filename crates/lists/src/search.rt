@@ -2,7 +2,7 @@
 ghost use mathlib.Core.Path.{_≡_};
 ghost use Prim.Native.Nat.{_≤_};
 ghost use Rattle.lists.specs.Lists.{limit};
-ghost use Rattle.lists.specs.Search.{areaAt, indexOf, positionOf, zeroTail};
+ghost use Rattle.lists.specs.Search.{indexOf, zeroTail};
 use crate::LIMIT;
 
 // A place as an index.
@@ -23,39 +23,6 @@ pub fn index_of(list: &[u16; LIMIT], count: usize, place: u16) -> usize
             break count;
         }
         if list[i] == place {
-            break i;
-        }
-        i += 1;
-    };
-    found
-}
-
-// The area of a place, and 0 where there is no such place.
-fn area_at(areas: &[u64; LIMIT], place: u16) -> u64
-    ensures { λ r. ⌜ r ≡ areaAt limit (now (areas .entry)) place ⌝ }
-{
-    let p = wide(place);
-    if p < LIMIT { areas[p] } else { 0 }
-}
-
-// Where a piece of this area that is newer than all others goes in a list that has the greatest area first and the older first of equals:
-// the first index below the count with a smaller area, or the count. The list and the column have one lifetime, so that both may be fields of
-// one value.
-pub fn position<'a>(
-    list: &'a [u16; LIMIT],
-    count: usize,
-    areas: &'a [u64; LIMIT],
-    area: u64,
-) -> usize
-    requires { ⌜ count ≤ limit ⌝ }
-    ensures { λ r. ⌜ r ≡ positionOf limit (now (list .entry)) count (now (areas .entry)) area ⌝ }
-{
-    let mut i: usize = 0;
-    let found = loop {
-        if count <= i {
-            break count;
-        }
-        if area_at(areas, list[i]) < area {
             break i;
         }
         i += 1;

@@ -1,6 +1,6 @@
 -- A removal on the nodes and the lists of a layout, as the code makes it, is document 01's: where all stands as "Sound layout" says, all stands
 -- again, with the tree and the removable list that the rules give. Assumes nothing.
-use mathlib.Core.Path.{_≡_, refl, sym, ap, _∙_}
+use mathlib.Core.Path.{_≡_, ap, _∙_}
 use mathlib.Core.List.{List}
 use Prim.Native.Nat.{ℕ, _+_, _≤_, _<_}
 use native.Mathlib.Omega.{arith}
@@ -8,7 +8,7 @@ use lib.ListN.{length}
 use Rattle.piece.specs.declared.size.Size.{Size}
 use Rattle.piece.specs.declared.node.Datum.{Datum}
 use Rattle.piece.specs.Sides.{area}
-use Rattle.tree.specs.Tree.{Tree, In, At}
+use Rattle.tree.specs.Tree.{Tree, In}
 use Rattle.tree.specs.Removal.{cleared, remove}
 use Rattle.tree.specs.Apart.{Removable}
 use Rattle.tree.specs.Sound.{Sound}
@@ -25,14 +25,13 @@ use Rattle.table.proofs.Steps.{clear-sound, remove-sound}
 use Rattle.lists.specs.Lists.{limit}
 use Rattle.register.specs.declared.LayoutNodes.{LayoutNodes}
 use Rattle.register.specs.Pieces.{piecesOf, Holding, FreeList, RemovableList, maxSerial}
-use Rattle.register.specs.Listings.{areaIn, cutAll, entriesOf, listing, put, strikeAll}
+use Rattle.register.specs.Listings.{areaIn, cutAll, entriesOf, put, strikeAll}
 use Rattle.register.specs.Family.{newPlace}
 use Rattle.register.specs.Enrolment.{removedList}
 use Rattle.register.specs.Standing.{Stands}
-use Rattle.register.proofs.Listed.{entries-listing, kept-listing, put-length}
+use Rattle.register.proofs.Listed.{entries-listing, kept-listing}
 use Rattle.register.proofs.HoldingSteps.{holding-most}
 use Rattle.register.proofs.Family.{lowest-is, fresh-removal}
-use Rattle.removal.specs.declared.remove.Cleared.{Cleared}
 use Rattle.removal.specs.Remove.{newFree, returned, removedFrom, removed, Clearable}
 use Rattle.removal.proofs.Pieces.{goes, parent-low, last-low}
 use Rattle.removal.proofs.Serials.{remove-serials}

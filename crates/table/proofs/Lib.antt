@@ -10,7 +10,6 @@ pub mod Unique
 pub mod Links
 pub mod Booking
 pub mod Removal
-pub mod Listed
 pub mod Steps
 pub mod Pigeon
 pub mod Unheld

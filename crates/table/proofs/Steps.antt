@@ -2,35 +2,32 @@
 -- by step, leave a table that holds the tree that document 01's rule gives. This is what the layout's calls rest on.
 use mathlib.Core.Path.{_≡_, refl, sym, ap, _∙_, subst}
 use mathlib.Core.List.{List, _++_}
-use mathlib.Core.Logic.{inl, inr, ⊎-elim}
+use mathlib.Core.Logic.{inl, inr}
 use Prim.Native.Nat.{ℕ, _+_, _<_}
-use native.Mathlib.Omega.{arith}
 use Rattle.piece.specs.declared.size.Size.{Size}
 use Rattle.piece.specs.declared.node.Datum.{Datum}
 use Rattle.piece.specs.declared.node.Kind.the-variants.{Free}
 use Rattle.piece.specs.Row.{nil, grow}
-use Rattle.piece.specs.Insertion.{blockOf, outside, listed}
 use Rattle.tree.specs.Tree.{Tree, In, At, Distinct, after}
 use Rattle.tree.specs.Sound.{Children, Topped, Sound}
 use Rattle.tree.specs.Booking.{Booking, block, book}
 use Rattle.tree.specs.Removal.{freed, board, remove, cleared}
 use Rattle.tree.specs.Accepted.{Fresh}
 use Rattle.tree.specs.Apart.{Removable}
-use Rattle.tree.proofs.Rows.{same?, at-in}
+use Rattle.tree.proofs.Rows.{at-in}
 use Rattle.tree.proofs.Kept.{Where, This, Alone, only, not-top, free-kind, free-alone}
 use Rattle.tree.proofs.Blocks.{block-in, block-distinct}
 use Rattle.table.specs.declared.Node.{Node}
-use Rattle.table.specs.Table.{at, Held, Holds, append, unlink}
+use Rattle.table.specs.Table.{at, Holds, append, unlink}
 use Rattle.table.specs.Build.{treeOf, Linkage}
-use Rattle.table.specs.Steps.{less, Rooted, Kids, Deep, Marked, plant, appendAll, leaving, freeLastDatum, going, unlinkAll}
-use Rattle.table.proofs.Kids.{kids-in, Spot, spot-in}
+use Rattle.table.specs.Steps.{less, Rooted, Kids, Deep, Marked, plant, leaving, freeLastDatum, going, unlinkAll}
+use Rattle.table.proofs.Kids.{Spot, spot-in}
 use Rattle.table.proofs.Rep.{shows, piece-at}
-use Rattle.table.proofs.Unlink.{less-kids, less-in, in-less, less-at, unlink-holds}
+use Rattle.table.proofs.Unlink.{less-in, unlink-holds}
 use Rattle.table.proofs.Unique.{tree-is}
-use Rattle.table.proofs.Links.{in-at, datum-is, kids-deep, holds-held, holds-linkage}
+use Rattle.table.proofs.Links.{holds-linkage}
 use Rattle.table.proofs.Booking.{book-holds}
-use Rattle.table.proofs.Listed.{listed-block}
-use Rattle.table.proofs.Removal.{freeEnd, FreeLeaves, cleared-at, subtree-is, end-is, clear-holds, remove-holds}
+use Rattle.table.proofs.Removal.{freeEnd, FreeLeaves, subtree-is, end-is, clear-holds, remove-holds}
 
 -- What a sound tree is to the table.
 module _ (stages : ℕ) where
@@ -128,17 +125,6 @@ module _ (limit stages : ℕ) (sheet : Size) (t : List Node) (w : Tree) (sound :
     pub free-gone : Holds limit (unlink limit t x) (less x w)
     free-gone = unlink-holds limit t q x a d nil w h last-leaf
 
-    -- a place that is unheld then was unheld or is x
-    pub free-unheld : Marked w → (n : ℕ) → at (unlink limit t x) n .datum .serial ≡ 0 → In n w → n ≡ x
-    free-unheld marked n z y =
-        ⊎-elim (λ e. e)
-        (λ o. absurd (clash (holds-held limit (unlink limit t x) (less x w) free-gone (λ j e v. marked j e (less-at j e x w v)) n
-        (in-less limit t q x a d nil w h last-leaf n y o))))
-        (same? n x)
-      where
-        clash : Held (unlink limit t x) n → ⊥
-        clash b = omega arith
-
     module _ (b : Booking) (new : Fresh limit x b w) where
       low : (j : ℕ) → In j (block b d) → j < limit
       low j y = let g = block-in b d j y in rw (g .2) (new .placed (g .0) (g .1))
@@ -154,21 +140,6 @@ module _ (limit stages : ℕ) (sheet : Size) (t : List Node) (w : Tree) (sound :
 
       pub book-sound : Holds limit (plant limit (unlink limit t x) (at t x .parent) (block b d)) (book x b w)
       book-sound = rw (parent-is x at-x) (book-holds limit t q x a d w b h last-leaf apart low unheld)
-
-      -- the same by the list of the blueprint
-      pub book-listed : Holds limit
-          (appendAll limit (unlink limit t x) (at t x .parent) b 0
-          (listed outside (d .cut) (blockOf (b .shape) (d .cut) (d .size) (b .size))))
-          (book x b w)
-      book-listed =
-          let e = in-at q (less x w) (kids-in q (after a nil) (less x w) (less-kids q x a d nil nil w (h .distinct) last-leaf)) in
-          let same : at t q .datum ≡ e .0 = datum-is limit t limit limit q (e .0) w (h .rep) (less-at q (e .0) x w (e .1)) in
-          let one : d .level ≡ at t q .datum .level + 1 =
-          deep-row a x d nil nil (at t q .datum .level + 1)
-          (kids-deep limit t limit limit 0 q (after a (grow x d nil nil)) w (h .rep) deep last-leaf)
-          in
-          let is = listed-block limit q b d (unlink limit t x) (less x w) (e .0) (e .1) (sym (rw same at one)) free-gone apart low unheld in
-          rw (parent-is x at-x, is) (book-holds limit t q x a d w b h last-leaf apart low unheld)
 
   -- a removal of the piece z at x
   module _ (x : ℕ) (z : Removable x w) where
@@ -199,14 +170,6 @@ module _ (limit stages : ℕ) (sheet : Size) (t : List Node) (w : Tree) (sound :
     pub clear-sound : Holds limit (unlinkAll limit t (going t x w)) (cleared x w)
     clear-sound =
         rw going-row (clear-holds limit t (spot .parent) x (spot .before) (z .piece) (spot .below) (spot .behind) w h row leaves)
-
-    -- a place that is unheld then is none of what is left
-    pub clear-unheld : Marked w → (n : ℕ) → at (unlinkAll limit t (going t x w)) n .datum .serial ≡ 0 → In n (cleared x w) → ⊥
-    clear-unheld marked n e y =
-        let b : Held (unlinkAll limit t (going t x w)) n =
-        holds-held limit (unlinkAll limit t (going t x w)) (cleared x w) clear-sound (λ j g v. marked j g (cleared-at j g x w v)) n y
-        in
-        omega arith
 
     -- and when the new piece is there
     pub remove-sound : (n m : ℕ) → n < limit → (In n (cleared x w) → ⊥)

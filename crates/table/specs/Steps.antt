@@ -6,14 +6,13 @@ use mathlib.Core.Bool.{Bool, cond}
 use mathlib.Core.Logic.{_⊎_}
 use mathlib.Core.Option.{Option, none, some}
 use Prim.Native.Nat.{ℕ, _+_, _<_}
-use lib.Dec.{eqb, leb}
+use lib.Dec.{eqb}
 use lib.ListN.{set, replicate}
 use Rattle.piece.specs.declared.node.Datum.{Datum}
 use Rattle.piece.specs.Row.{nil, grow}
 use Rattle.piece.specs.declared.insertion_blueprint.InsertionNode.{InsertionNode}
-use Rattle.piece.specs.Insertion.{Made, outside}
+use Rattle.piece.specs.Insertion.{Made}
 use Rattle.tree.specs.Tree.{Tree, At, isFree, after}
-use Rattle.tree.specs.Booking.{Booking, plantedDatum}
 use Rattle.tree.specs.Removal.{subtree}
 use Rattle.table.specs.declared.Node.{Node}
 use Rattle.table.specs.Table.{mk, zeroNode, at, append, unlink}
@@ -60,18 +59,9 @@ abbrev pub plant : ℕ → List Node → ℕ → Tree → List Node
 plant limit t q nil = t
 plant limit t q (grow p d k r) = plant limit (plant limit (append limit t q p d) p k) q r
 
--- the same by a list of nodes, as a blueprint holds them: the i-th comes to its place under the node that it names, or under q, one level deeper
-abbrev pub under : ℕ → Booking → InsertionNode → ℕ
-under q b n = cond (leb outside (n .parent)) q (b .place (n .parent))
-
+-- a node of a blueprint as one of a block
 abbrev pub madeOf : InsertionNode → Made
 madeOf n = record { kind = n .kind; size = n .size }
-
-abbrev pub appendAll : ℕ → List Node → ℕ → Booking → ℕ → List InsertionNode → List Node
-appendAll limit t q b i [] = t
-appendAll limit t q b i (n ∷ ns) =
-    let u = under q b n in
-    appendAll limit (append limit t u (b .place i) (plantedDatum b i (at t u .datum .level + 1) (n .cut) (madeOf n))) q b (i + 1) ns
 
 -- the places of a row, the children's before a piece's own: the order in which a removal unlinks them
 abbrev pub leaving : Tree → List ℕ

@@ -29,7 +29,7 @@ use Rattle.tree.proofs.Laying.{laid-other, laid-sided, laid-fits}
 use Rattle.tree.proofs.Kept.{Exchange}
 
 -- how many levels a shape goes down from the free piece's
-abbrev deep : InsertionShape → ℕ
+abbrev pub deep : InsertionShape → ℕ
 deep AlongCurrentCut = 0
 deep AcrossCurrentCut = 1
 deep AlongThenAcross = 1
@@ -41,7 +41,7 @@ mem-cond : (P : InsertionShape → Type 0) (b : Bool) (a s : InsertionShape) (l 
 mem-cond P true a s l f g m = rw (List·Memᴰ·eq-of-singleton m) (f refl)
 mem-cond P false a s l f g m = g m
 
-offered-deep : (al ac : Bool) (level stages : ℕ) (s : InsertionShape) → level ≤ stages → List·Memᴰ s (shapes al ac level stages)
+pub offered-deep : (al ac : Bool) (level stages : ℕ) (s : InsertionShape) → level ≤ stages → List·Memᴰ s (shapes al ac level stages)
     → level + deep s ≤ stages
 unfolding shapes
 offered-deep al ac level stages s h m = mem-cond Within al AlongCurrentCut s _ (λ e. omega arith) across m

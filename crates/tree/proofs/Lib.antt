@@ -13,6 +13,7 @@ pub mod Kept
 pub mod Places
 pub mod RemoveKept
 pub mod Blocks
+pub mod Levels
 pub mod BookKept
 pub mod Counts
 pub mod Stays

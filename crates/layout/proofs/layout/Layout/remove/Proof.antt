@@ -1,0 +1,134 @@
+-- `remove` meets its contract: each way out is one outcome of the tests of `removeNo`, and past them the piece may be taken out.
+use mathlib.Core.Path.{_≡_, sym, _∙_}
+use mathlib.Core.Bool.{true}
+use mathlib.Core.Option.{none}
+use borrow.Author.Needs.{needs}
+use lib.ListN.{length}
+use Rattle.layout.specs.declared.replies.Sought.the-variants as sought
+use Rattle.layout.specs.Check.{soundB}
+use Rattle.layout.specs.Answers.{soughtOf}
+use Rattle.layout.specs.Remove.{goNo}
+use Rattle.layout.proofs.Typed.{typed-sized}
+use Rattle.layout.proofs.RemoveEnds.{outcome-refused, outcome-done, not-sound, no-mark, may-not, may-go, refused-so, taken-so, takeable}
+use Rattle.layout.proofs.layout.Layout.remove.Statement.{statement}
+use Rattle.layout.proofs.layout.Layout.remove.Tie as tie
+
+-- past the first test
+checked : (c : tie.Then1) → soundB (c .before .before .before .args .self) ≡ true
+checked c = sym (c .before .sound .ensures) ∙ c .if1 .taken
+
+-- past the mark's tests: the piece
+named : (c : tie.After-piece)
+    → soughtOf (c .before .before .before .before .before .before .args .self) (c .before .before .before .before .before .before .args .mark)
+    ≡ sought.Piece (c .piece .given .0 .0)
+named c = sym (c .before .before .sought .ensures) ∙ c .piece .given .1
+
+-- past its own tests
+allowed : (c : tie.After-enum-told)
+    → goNo (c .before .before .before .before .before .before .before .before .before .before .args .self)
+    (c .before .before .before .before .before .before .before .before .before .before .args .mark .place)
+    (c .before .before .before .before .piece .given .0 .0)
+    ≡ none
+allowed c = outcome-done _ (sym (c .before .before .may-go .ensures) ∙ c .enum-told .given .1)
+
+sound-requires : tie.Need-sound-requires
+sound-requires c κs = search needs
+
+refused-remove-requires : tie.Need-refused-remove-requires
+refused-remove-requires c κs = search needs
+
+returns : tie.Need-returns
+returns c =
+    let e = c .before in
+    let a = e .before .before .before .args in
+    refused-so (a .self) (a .mark) (a .out .now)
+    (not-sound (a .self) (a .mark) (length (a .out .now)) (sym (e .before .sound .ensures) ∙ e .if1 .left))
+    (c .refused-remove .ensures)
+
+sought-requires : tie.Need-sought-requires
+sought-requires c κs = search needs
+
+enum-known-refusal : tie.Need-enum-known-refusal
+enum-known-refusal c = search needs
+
+refused-remove-requires-2 : tie.Need-refused-remove-requires-2
+refused-remove-requires-2 c κs = search needs
+
+enum-known-piece : tie.Need-enum-known-piece
+enum-known-piece c = search needs
+
+may-go-requires : tie.Need-may-go-requires
+may-go-requires c κs = search needs
+
+enum-known-refusal-2 : tie.Need-enum-known-refusal-2
+enum-known-refusal-2 c = search needs
+
+refused-remove-requires-3 : tie.Need-refused-remove-requires-3
+refused-remove-requires-3 c κs = search needs
+
+enum-told : tie.Need-enum-told
+enum-told c = search needs
+
+taken-out-requires : tie.Need-taken-out-requires
+taken-out-requires c κs =
+    let k = c .before .before .before .before .before in
+    let t = k .before .before .before in
+    let s = t .before .before .before in
+    takeable (s .args .self) (s .args .mark) (k .piece .given .0 .0) (typed-sized (s .args .self) _ (s .good .0)) (checked t) (named k)
+    (allowed (c .before))
+
+returns-2 : tie.Need-returns-2
+returns-2 c =
+    let k = c .before .before in
+    let t = k .before .before in
+    let a = t .before .before .before .before .args in
+    refused-so (a .self) (a .mark) (a .out .now)
+    (no-mark (a .self) (a .mark) (length (a .out .now)) (checked (t .before)) (sym (t .sought .ensures) ∙ k .refusal .given .1))
+    (c .refused-remove2 .ensures)
+
+returns-3 : tie.Need-returns-3
+returns-3 c =
+    let f = c .before .before in
+    let g = f .before .before in
+    let k = g .before .before in
+    let t = k .before .before .before in
+    let a = t .before .before .before .args in
+    refused-so (a .self) (a .mark) (a .out .now)
+    (may-not (a .self) (a .mark) (length (a .out .now)) (checked t) (named k)
+    (outcome-refused _ (sym (g .may-go .ensures) ∙ f .refusal2 .given .1)))
+    (c .refused-remove3 .ensures)
+
+same-length : tie.Need-same-length
+same-length c = search needs
+
+returns-4 : tie.Need-returns-4
+returns-4 c =
+    let o = c .before .before in
+    let e = o .before .before in
+    let k = e .before .before .before .before in
+    let t = k .before .before .before in
+    let a = t .before .before .before .args in
+    taken-so (a .self) (a .mark) (a .out .now) (o .taken-out .result)
+    (may-go (a .self) (a .mark) (length (a .out .now)) (checked t) (named k) (allowed e))
+    (o .taken-out .ensures .0) (o .taken-out .ensures .1)
+
+pub remove-spec : {M : Type 1} → statement M
+remove-spec =
+    tie.close
+    (tie.spec
+    sound-requires
+    refused-remove-requires
+    returns
+    sought-requires
+    enum-known-refusal
+    refused-remove-requires-2
+    enum-known-piece
+    may-go-requires
+    enum-known-refusal-2
+    refused-remove-requires-3
+    enum-told
+    taken-out-requires
+    returns-2
+    returns-3
+    same-length
+    returns-4)

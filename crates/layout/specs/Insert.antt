@@ -1,0 +1,103 @@
+-- Document 01, "Insertion": what `insert` answers. Refusals 1, 3, 4, 5, 6, 7, 8, 9, in this order, each exactly on its condition; and else what is
+-- booked, the marks, and the next layout.
+use mathlib.Core.Path.{_≡_}
+use mathlib.Core.Bool.{Bool, true, false, cond, _&&_, _||_}
+use mathlib.Core.List.{List, [], _∷_}
+use mathlib.Core.Option.{Option, none, some}
+use Prim.Native.Nat.{ℕ, _+_, _-_, _≤_}
+use lib.Dec.{eqb, leb}
+use Rattle.piece.specs.declared.rotation.Rotation.{Rotation}
+use Rattle.piece.specs.declared.parttype.PartType.{PartType}
+use Rattle.piece.specs.declared.node.Datum.{Datum}
+use Rattle.piece.specs.declared.insertion_blueprint.InsertionShape.{InsertionShape}
+use Rattle.piece.specs.Insertion.{newNodes}
+use Rattle.piece.specs.Offers.{offersOf, turned}
+use Rattle.piece.specs.declared.node.Kind.the-variants.{Free}
+use Rattle.tree.specs.Tree.{At, isFree}
+use Rattle.tree.specs.Booking.{Booking, block, book}
+use Rattle.table.specs.Table.{at}
+use Rattle.table.specs.Steps.{less}
+use Rattle.register.specs.Pieces.{maxSerial}
+use Rattle.register.specs.Family.{newPlace}
+use Rattle.register.specs.Enrolment.{bookedList}
+use Rattle.booking.specs.Marks.{blockMarks, zeroMarks}
+use Rattle.booking.specs.Offered.{offeredB}
+use Rattle.answers.specs.declared.Mark.{Mark}
+use Rattle.answers.specs.declared.Refusal.{Refusal}
+use Rattle.answers.specs.declared.Refusal.the-variants.{NotSound, PartOutside, NotFree, NotOffered, TooManyNodes, SerialsSpent}
+use Rattle.layout.specs.declared.layout.Layout.{Layout}
+use Rattle.layout.specs.declared.replies.Outcome.the-variants.{Done, Refused}
+use Rattle.layout.specs.declared.replies.Sought.{Sought}
+use Rattle.layout.specs.declared.replies.Sought.the-variants as sought
+use Rattle.layout.specs.declared.insert.Inserted.{Inserted}
+use Rattle.layout.specs.Check.{limit, tree, soundB}
+use Rattle.layout.specs.Answers.{partB, soughtOf}
+use Rattle.layout.specs.SoundLayout.{SoundLayout, Sized}
+use Rattle.layout.specs.Next.{Next, removables}
+
+-- refusals 6, 7, 8 and 9, of the piece d that the mark names
+unfoldable pub bookNo : Layout → Datum → PartType → Rotation → InsertionShape → Option Refusal
+bookNo l d p r s =
+    cond (isFree (d .kind))
+    (cond (offeredB d p (l .stages) r s)
+    -- "nodes held, less one, plus new ones, exceed 255"
+    (cond (leb (l .held - 1 + newNodes s) limit)
+    -- "last serial plus new nodes exceeds 1,000,000"
+    (cond (leb (l .serial + newNodes s) maxSerial) none (some SerialsSpent))
+    (some TooManyNodes))
+    (some NotOffered))
+    (some NotFree)
+
+-- after refusals 4 and 5
+abbrev pub pieceNo : Layout → PartType → Rotation → InsertionShape → Sought → Option Refusal
+pieceNo l p r s (sought.Refused e) = some e
+pieceNo l p r s (sought.Piece d) = bookNo l d p r s
+
+-- what it is refused with
+unfoldable pub insertNo : Layout → Mark → PartType → Rotation → InsertionShape → Option Refusal
+insertNo l m p r s =
+    cond (soundB l) (cond (partB p) (pieceNo l p r s (soughtOf l m)) (some PartOutside)) (some NotSound)
+
+-- "Refused: number, layout as handed in .., zero in other fields"
+abbrev pub refusedInsert : Layout → Refusal → Inserted
+refusedInsert l e = record { outcome = Refused e; marks = zeroMarks; layout = l }
+
+-- the piece at a place
+abbrev pub pieceAt : Layout → ℕ → Datum
+pieceAt l x = at (l .nodes) x .datum
+
+-- what is booked at x: "A new node takes the lowest unheld place, after the nodes it replaces were freed"; serials "rise by one per node in creation
+-- order"
+abbrev pub bookingFor : Layout → ℕ → PartType → Rotation → InsertionShape → Booking
+bookingFor l x p r s =
+    record {
+      shape = s;
+      size = turned r (p .size);
+      number = p .number;
+      place = newPlace limit (less x (tree l));
+      serial = l .serial + 1;
+    }
+
+-- accepted: "marks of first node and part; count; free marks in creation order", and the next layout
+pub record InsertDone (l : Layout) (x : ℕ) (b : Booking) (a : Inserted) : Type 0 where
+  pub outcome : a .outcome ≡ Done
+  pub marks : a .marks ≡ blockMarks (l .number) (block b (pieceAt l x))
+  pub next : Next l (book x b (tree l)) (bookedList limit x (pieceAt l x) b (tree l) (removables l)) (l .serial + newNodes (b .shape)) (a .layout)
+
+abbrev pub insertIs : Option Refusal → Layout → ℕ → Booking → Inserted → Type 0
+insertIs (some e) l x b a = a ≡ refusedInsert l e
+insertIs none l x b a = InsertDone l x b a
+
+unfoldable pub InsertSays : Layout → Mark → PartType → Rotation → InsertionShape → Inserted → Type 0
+InsertSays l m p r s a = insertIs (insertNo l m p r s) l (m .place) (bookingFor l (m .place) p r s) a
+
+-- what is known when it is accepted
+pub record Insertable (l : Layout) (x : ℕ) (p : PartType) (r : Rotation) (s : InsertionShape) : Type 0 where
+  pub sized : Sized l
+  pub sound : SoundLayout l
+  pub there : At x (pieceAt l x) (tree l)
+  pub free : pieceAt l x .kind ≡ Free
+  pub part : partB p ≡ true
+  pub offered : offeredB (pieceAt l x) p (l .stages) r s ≡ true
+  pub room : l .held - 1 + newNodes s ≤ limit
+  pub spent : l .serial + newNodes s ≤ maxSerial
