@@ -1,7 +1,7 @@
 -- What a booking that is accepted needs, and the layout that it leaves: where all is known that `Insertable` says, the steps of crate `booking` may be
 -- taken, no number overflows, and the next layout is document 01's. Assumes nothing.
 use mathlib.Core.Path.{_≡_, refl, sym, ap, _∙_}
-use mathlib.Core.Bool.{Bool, true}
+use mathlib.Core.Bool.{true}
 use mathlib.Core.List.{List}
 use Prim.Native.Nat.{ℕ, _+_, _-_, _^_, _≤_, _<_}
 use native.Mathlib.Omega.{arith}
@@ -46,11 +46,9 @@ use Rattle.booking.proofs.Sums.{book-count, book-part-area}
 use Rattle.booking.proofs.BlockMarks.{marks-are}
 use Rattle.booking.proofs.Stands.{book-bookable, book-stands, book-list, book-new}
 use Rattle.layout.specs.declared.layout.Layout.{Layout}
-use Rattle.layout.specs.declared.insert.Inserted.{Inserted}
 use Rattle.layout.specs.declared.replies.Outcome.the-variants.{Done}
 use Rattle.layout.specs.Check.{limit, sideB, tree}
 use Rattle.layout.specs.Answers.{partB}
-use Rattle.layout.specs.SoundLayout.{SoundLayout}
 use Rattle.layout.specs.Parts.{nodesOf, withNodes}
 use Rattle.layout.specs.Next.{Next, removables}
 use Rattle.layout.specs.Insert.{Insertable, InsertDone, bookingFor, pieceAt}

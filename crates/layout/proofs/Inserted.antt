@@ -1,7 +1,7 @@
 -- What an insertion leaves, by its contract: a refused one the layout as it came; an accepted one a sound layout, in which every piece but the free one that it
 -- took keeps its place, its serial and all else that it is. Assumes nothing.
 use mathlib.Core.Path.{_≡_, refl, sym, ap, _∙_}
-use mathlib.Core.Bool.{Bool, true}
+use mathlib.Core.Bool.{true}
 use mathlib.Core.Option.{Option, none, some}
 use Prim.Native.Nat.{ℕ, _≤_}
 use Rattle.piece.specs.declared.rotation.Rotation.{Rotation}
@@ -21,7 +21,6 @@ use Rattle.booking.proofs.Marked.{free-marks-count}
 use Rattle.booking.proofs.BlockMarks.{marks-are}
 use Rattle.layout.specs.declared.layout.Layout.{Layout}
 use Rattle.layout.specs.declared.insert.Inserted.{Inserted}
-use Rattle.layout.specs.declared.replies.Outcome.{Outcome}
 use Rattle.layout.specs.declared.replies.Outcome.the-variants.{Done, Refused}
 use Rattle.layout.specs.Check.{limit, tree, soundB}
 use Rattle.layout.specs.SoundLayout.{SoundLayout, Sized}

@@ -27,7 +27,7 @@ sub-with-nodes : tie.Need-sub-with-nodes
 sub-with-nodes c =
     let t = c .before .before .before .before .before in
     let a = t .args in
-    some-held (a .self) (a .place) (a .part) (a .rotation) (a .shape) (t .pre)
+    omega (arith, some-held (a .self) (a .place) (a .part) (a .rotation) (a .shape) (t .pre))
 
 add-with-nodes : tie.Need-add-with-nodes
 add-with-nodes c = search needs

@@ -1,6 +1,6 @@
 -- `insert` meets its contract: each way out is one outcome of the tests of `insertNo`, by proofs/Admitted.antt. Assumes nothing.
 use mathlib.Core.Path.{_≡_, refl, sym, ap, _∙_}
-use mathlib.Core.Option.{Option, none, some}
+use mathlib.Core.Option.{Option, none}
 use borrow.Author.Needs.{needs}
 use Rattle.piece.specs.declared.rotation.Rotation.{Rotation}
 use Rattle.piece.specs.declared.parttype.PartType.{PartType}
@@ -8,11 +8,8 @@ use Rattle.piece.specs.declared.insertion_blueprint.InsertionShape.{InsertionSh
 use Rattle.answers.specs.declared.Refusal.{Refusal}
 use Rattle.answers.specs.declared.Refusal.the-variants.{NotSound, PartOutside}
 use Rattle.layout.specs.declared.layout.Layout.{Layout}
-use Rattle.layout.specs.declared.replies.Outcome.{Outcome}
-use Rattle.layout.specs.declared.replies.Outcome.the-variants.{Done, Refused}
 use Rattle.layout.specs.declared.replies.Sought.{Sought}
-use Rattle.layout.specs.Refusing.{outcomeOf}
-use Rattle.layout.specs.Insert.{bookNo, insertNo, pieceNo}
+use Rattle.layout.specs.Insert.{insertNo, pieceNo}
 use Rattle.layout.proofs.Typed.{typed-sized}
 use Rattle.layout.proofs.Exactly.{sound-says}
 use Rattle.layout.proofs.Ways.{onward-by, ended-by}

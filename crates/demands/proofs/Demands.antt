@@ -1,0 +1,126 @@
+-- THE THREE DEMANDS, as theorems over the calls of a layout. Read this first, with document 01 at hand. The words are in specs/Life.antt (the life of a layout, what a mark
+-- names) and specs/Calls.antt (a call that is accepted, the same tree). A call is given by its contract alone, so what is said holds of every program
+-- that meets it. `Sized` is what the type of a layout says: its arrays have as many entries as there are places. Nothing is assumed.
+use mathlib.Core.Path.{_≡_}
+use mathlib.Core.List.{List}
+use mathlib.Core.Logic.{_⊎_}
+use mathlib.Core.Option.{some}
+use mathlib.Core.Bool.{true}
+use Prim.Native.Nat.{ℕ}
+use lib.ListN.{length}
+use Rattle.piece.specs.declared.size.Size.{Size}
+use Rattle.piece.specs.declared.orientation.Orientation.{Orientation}
+use Rattle.piece.specs.declared.rotation.Rotation.{Rotation}
+use Rattle.piece.specs.declared.parttype.PartType.{PartType}
+use Rattle.piece.specs.declared.node.Datum.{Datum}
+use Rattle.piece.specs.declared.insertion_blueprint.InsertionShape.{InsertionShape}
+use Rattle.tree.specs.Tree.{At, Inside}
+use Rattle.register.specs.Family.{parentOf}
+use Rattle.booking.specs.Marks.{zeroMark, zeroMarks}
+use Rattle.answers.specs.declared.Mark.{Mark}
+use Rattle.answers.specs.declared.Refusal.{Refusal}
+use Rattle.answers.specs.declared.Refusal.the-variants.{Gone}
+use Rattle.layout.specs.declared.layout.Layout.{Layout}
+use Rattle.layout.specs.declared.replies.Outcome.the-variants.{Refused}
+use Rattle.layout.specs.declared.replies.CountAnswer.the-variants as counts
+use Rattle.layout.specs.declared.replies.Sought.the-variants as sought
+use Rattle.layout.specs.declared.open.Opening.the-variants as opening
+use Rattle.layout.specs.declared.insert.Inserted.{Inserted}
+use Rattle.layout.specs.declared.remove.Removed.{Removed}
+use Rattle.layout.specs.Check.{limit, tree, soundB}
+use Rattle.layout.specs.SoundLayout.{Sized, SoundLayout}
+use Rattle.layout.specs.Zero.{zeroLayout}
+use Rattle.layout.specs.Open.{openOf}
+use Rattle.layout.specs.Answers.{offersCall, partB, soughtOf}
+use Rattle.layout.specs.Written.{answerTo, heldNumbers, leftIn, snapshotBytes}
+use Rattle.layout.specs.Insert.{InsertSays, insertNo, pieceAt}
+use Rattle.layout.specs.Remove.{RemoveSays, numbersLeft, removeNo}
+use Rattle.layout.specs.Restore.{restoreOf}
+use Rattle.demands.specs.Life.{Given, Later, Life, Names, OneOf, SamePiece}
+use Rattle.demands.specs.Calls.{AreasCover, InsertAccepted, RemoveAccepted, SameTree}
+use Rattle.demands.proofs.Lives as lives
+use Rattle.demands.proofs.Marks as marks
+use Rattle.demands.proofs.MarksGiven as given
+use Rattle.demands.proofs.Refusals as refusals
+use Rattle.demands.proofs.BookedThenRemoved as booked
+use Rattle.demands.proofs.BookingsCommute as bookings
+use Rattle.demands.proofs.RemovalsCommute as removals
+use Rattle.demands.proofs.Areas as areas
+
+-- ---- Demand 1, marks: "Over the life of one layout, opened once and put back only to earlier states of itself, a mark names the piece it was issued
+-- for or is refused as gone."
+
+-- k is the state in which the mark was answered, l that state or a later one
+pub a-mark-names-its-piece-or-is-gone : {ls : List Layout} → Life ls → (k l : Layout) → Later k l ls → (m : Mark) → Given k m
+    → (soughtOf l m ≡ sought.Refused Gone) ⊎ (Names l m × SamePiece k l m)
+a-mark-names-its-piece-or-is-gone life k l later m g = marks.marks-last life k l later m (given.given-names life k l later m g)
+
+-- "refused as gone": refusal 5, by each call that takes a mark, unless the part asked for is refused first (3)
+pub gone-is-refused : {ls : List Layout} → Life ls → (l : Layout) → OneOf l ls → (m : Mark) → soughtOf l m ≡ sought.Refused Gone
+    → ((p : PartType) → partB p ≡ true → offersCall l m p .outcome ≡ Refused Gone)
+    × ((p : PartType) (r : Rotation) (s : InsertionShape) → partB p ≡ true → insertNo l m p r s ≡ some Gone)
+    × ((room : ℕ) → removeNo l m room ≡ some Gone)
+gone-is-refused life l o m g = (marks.gone-offers life l o m g, marks.gone-insert life l o m g, marks.gone-remove life l o m g)
+
+-- no serial is issued twice: two pieces of any two states with the same serial are one piece, at one place, under one parent
+pub a-serial-is-issued-once : {ls : List Layout} → Life ls → (k l : Layout) → OneOf k ls → OneOf l ls
+    → (i j : ℕ) (d e : Datum) → At i d (tree k) → At j e (tree l) → d .serial ≡ e .serial
+    → (i ≡ j) × (d ≡ e) × (parentOf limit i (tree k) ≡ parentOf limit j (tree l))
+    × (pieceAt k (parentOf limit i (tree k)) ≡ pieceAt l (parentOf limit j (tree l)))
+a-serial-is-issued-once = lives.one-piece
+
+-- every state of a life is sound
+pub a-life-is-sound : {ls : List Layout} → Life ls → (l : Layout) → OneOf l ls → SoundLayout l × Sized l
+a-life-is-sound = lives.states-sound
+
+-- ---- Demand 1, answers: "A refusal gives its number, the layout as it came, lent memory untouched." (Every call ends with an answer on every input: its
+-- proof asks nothing of the caller.)
+
+pub a-refused-insert : (l : Layout) (m : Mark) (p : PartType) (r : Rotation) (s : InsertionShape) (a : Inserted) (e : Refusal)
+    → insertNo l m p r s ≡ some e → InsertSays l m p r s a → (a .layout ≡ l) × (a .outcome ≡ Refused e) × (a .marks ≡ zeroMarks)
+a-refused-insert = refusals.insert-refused
+
+pub a-refused-remove : (l : Layout) (m : Mark) (room : ℕ) (a : Removed) (e : Refusal) → removeNo l m room ≡ some e → RemoveSays l m room a
+    → (a .layout ≡ l) × (a .outcome ≡ Refused e) × (a .free ≡ zeroMark) × (a .count ≡ 0)
+a-refused-remove = refusals.remove-refused
+
+pub its-buffer : (l : Layout) (m : Mark) (out : List ℕ) (e : Refusal) → removeNo l m (length out) ≡ some e → numbersLeft l m out ≡ out
+its-buffer = refusals.remove-untouched
+
+pub a-refused-restore : (l s : Layout) (e : Refusal) → restoreOf l s .outcome ≡ Refused e → restoreOf l s .layout ≡ l
+a-refused-restore = refusals.restore-refused
+
+pub a-refused-opening : (number : ℕ) (size : Size) (cut : Orientation) (stages : ℕ) (e : Refusal)
+    → openOf number size cut stages .outcome ≡ opening.Refused e → openOf number size cut stages .layout ≡ zeroLayout
+a-refused-opening = refusals.open-refused
+
+pub a-refused-snapshot : (l : Layout) (out : List ℕ) (e : Refusal) → answerTo l (snapshotBytes l) (length out) ≡ counts.Refused e
+    → leftIn l (snapshotBytes l) out ≡ out
+a-refused-snapshot = refusals.snapshot-refused
+
+pub refused-part-numbers : (l : Layout) (out : List ℕ) (e : Refusal) → answerTo l (heldNumbers l) (length out) ≡ counts.Refused e
+    → leftIn l (heldNumbers l) out ≡ out
+refused-part-numbers = refusals.part-numbers-refused
+
+-- ---- Demand 3: "On every sound layout, booking and then removing the first piece made gives the same tree; two bookings in different free pieces, and two
+-- removals neither inside the other, commute." An accepted call says that the layout is sound.
+
+pub booking-and-removing : (l : Layout) → Sized l → (m : Mark) (p : PartType) (r : Rotation) (s : InsertionShape) (a : Inserted) (room : ℕ) (c : Removed)
+    → InsertAccepted l m p r s a → RemoveAccepted (a .layout) (a .marks .first) room c → SameTree (c .layout) l
+booking-and-removing = booked.booked-then-removed
+
+pub bookings-commute : (l : Layout) → Sized l → (m : Mark) (p : PartType) (r : Rotation) (s : InsertionShape)
+    (m′ : Mark) (p′ : PartType) (r′ : Rotation) (s′ : InsertionShape) → (m .place ≡ m′ .place → ⊥) → (a b c d : Inserted)
+    → InsertAccepted l m p r s a → InsertAccepted (a .layout) m′ p′ r′ s′ b
+    → InsertAccepted l m′ p′ r′ s′ c → InsertAccepted (c .layout) m p r s d → SameTree (b .layout) (d .layout)
+bookings-commute = bookings.inserts-commute
+
+pub removals-commute : (l : Layout) → Sized l → (m m′ : Mark) → (m .place ≡ m′ .place → ⊥) → (Inside (m .place) (m′ .place) (tree l) → ⊥)
+    → (Inside (m′ .place) (m .place) (tree l) → ⊥) → (room room′ : ℕ) (a b c d : Removed)
+    → RemoveAccepted l m room a → RemoveAccepted (a .layout) m′ room′ b
+    → RemoveAccepted l m′ room′ c → RemoveAccepted (c .layout) m room d → SameTree (b .layout) (d .layout)
+removals-commute = removals.removes-commute
+
+-- "Part area plus free area is the sheet, throughout."
+pub areas-add-up : (l : Layout) → Sized l → soundB l ≡ true → AreasCover l (l .sheet)
+areas-add-up = areas.areas-cover-sound

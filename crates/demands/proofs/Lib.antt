@@ -1,0 +1,14 @@
+pub mod Parents
+pub mod Outcomes
+pub mod Lives
+pub mod Marks
+pub mod MarksNamed
+pub mod Refusals
+pub mod Accepted
+pub mod BookedThenRemoved
+pub mod BookingsCommute
+pub mod RemovalsCommute
+pub mod Areas
+pub mod UniqueAnswers
+pub mod MarksGiven
+pub mod Demands

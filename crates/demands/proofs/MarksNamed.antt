@@ -1,0 +1,291 @@
+-- Demand 1, every mark that a call answers names a piece of the layout that it hands back, and of the kind that is meant: the opening's free
+-- piece; a booking's first node, part and free pieces; a removal's free piece; and what a position of a list gives. It rests on the block of a
+-- booking (tree), the new piece of a removal (removal) and layout's laws of marks. Assumes nothing.
+use mathlib.Core.Path.{_≡_, refl, sym, ap, _∙_}
+use mathlib.Core.Bool.{Bool, true, false, cond}
+use mathlib.Core.List.{_∷_, _++_, List·Memᴰ, List·Memᴰ·head, List·Memᴰ·not-nil, List·Memᴰ·cases-cons, List·Memᴰ·append-cases}
+use mathlib.Core.Logic.{_⊎_, inl, inr, ⊎-elim}
+use Prim.Native.Nat.{ℕ, _+_, _≤_}
+use native.Mathlib.Nat.{add-zero}
+use native.Mathlib.Omega.{arith}
+use lib.Dec.{ltb}
+use lib.ListN.{length, take}
+use borrow.Author.Tests.{ltb-true}
+use Rattle.piece.specs.declared.size.Size.{Size}
+use Rattle.piece.specs.declared.orientation.Orientation.{Orientation}
+use Rattle.piece.specs.declared.rotation.Rotation.{Rotation}
+use Rattle.piece.specs.declared.parttype.PartType.{PartType}
+use Rattle.piece.specs.declared.node.Datum.{Datum}
+use Rattle.piece.specs.declared.node.Kind.{Kind}
+use Rattle.piece.specs.declared.node.Kind.the-variants.{Free, Part}
+use Rattle.piece.specs.declared.insertion_blueprint.InsertionShape.{InsertionShape}
+use Rattle.piece.specs.declared.insertion_blueprint.InsertionShape.the-variants.{AlongCurrentCut, AcrossCurrentCut, AlongThenAcross, AcrossThenAlong}
+use Rattle.piece.specs.Insertion.{blockOf, table}
+use Rattle.piece.specs.Row.{nil, grow}
+use Rattle.piece.proofs.Padded.{padded-whole}
+use Rattle.tree.specs.Tree.{Tree, At, isFree, isPart}
+use Rattle.tree.specs.Open.{firstFree}
+use Rattle.tree.specs.Booking.{Booking, planted, block}
+use Rattle.table.specs.Steps.{less}
+use Rattle.lists.proofs.Scan.{clash}
+use Rattle.register.specs.Family.{newPlace}
+use Rattle.booking.specs.declared.marks.NewMarks.{NewMarks}
+use Rattle.booking.specs.Marks.{blockMarks, headMark, marksIn, zeroMark}
+use Rattle.booking.proofs.Pieces.{book-new}
+use Rattle.removal.specs.Remove.{newFree}
+use Rattle.removal.proofs.Pieces.{new-there}
+use Rattle.removal.proofs.Serials.{new-serial, new-free}
+use Rattle.answers.specs.declared.Mark.{Mark}
+use Rattle.answers.specs.declared.Refusal.{Refusal}
+use Rattle.layout.specs.declared.layout.Layout.{Layout}
+use Rattle.layout.specs.declared.open.Opening.the-variants as opening
+use Rattle.layout.specs.declared.replies.Outcome.the-variants.{Done}
+use Rattle.layout.specs.declared.replies.MarkAnswer.{MarkAnswer}
+use Rattle.layout.specs.declared.replies.MarkAnswer.the-variants as answer
+use Rattle.layout.specs.declared.insert.Inserted.{Inserted}
+use Rattle.layout.specs.declared.remove.Removed.{Removed}
+use Rattle.layout.specs.Check.{limit, tree, soundB}
+use Rattle.layout.specs.SoundLayout.{SoundLayout, Sized}
+use Rattle.layout.specs.Answers.{freeMarkOf, removableMarkOf}
+use Rattle.layout.specs.Open.{freshLayout, openOf}
+use Rattle.layout.specs.Insert.{bookingFor, pieceAt, Insertable, InsertDone, InsertSays}
+use Rattle.layout.specs.Remove.{placeFor, RemoveSays}
+use Rattle.layout.proofs.Listed.{piece-is}
+use Rattle.layout.proofs.Opened.{fresh-tree, fresh-sound}
+use Rattle.layout.proofs.Marks.{free-mark-names, removable-mark-names}
+use Rattle.demands.specs.Life.{Names}
+use Rattle.demands.proofs.Outcomes.{is-free, is-part, opened-so, insert-done, remove-done}
+
+-- the mark names a piece of this kind
+pub record NamesKind (k : Kind) (l : Layout) (m : Mark) : Type 0 where
+  pub names : Names l m
+  pub kind : pieceAt l (m .place) .kind ≡ k
+
+-- ---- the piece d of a sound layout has the mark
+
+module _ (l : Layout) (sound : SoundLayout l) (m : Mark) (d : Datum) (number : m .layout ≡ l .number) (there : At (m .place) d (tree l))
+    (serial : d .serial ≡ m .serial) where
+  is : pieceAt l (m .place) ≡ d
+  is = piece-is (l .nodes) (tree l) (sound .holds) (m .place) d there
+
+  named : Names l m
+  named = record { number = number; there = rw is there; serial = ap (λ (e : Datum). e .serial) is ∙ serial }
+
+  kind-named : (k : Kind) → d .kind ≡ k → NamesKind k l m
+  kind-named k e = record { names = named; kind = ap (λ (f : Datum). f .kind) is ∙ e }
+
+-- ---- the opening
+
+pub open-mark-names : (number : ℕ) (size : Size) (cut : Orientation) (stages : ℕ) (m : Mark)
+    → openOf number size cut stages .outcome ≡ opening.Free m → NamesKind Free (openOf number size cut stages .layout) m
+unfolding freshLayout
+open-mark-names number size cut stages m h =
+    let o = opened-so number size cut stages m h in
+    let l = freshLayout number size cut stages in
+    let there : At 1 (firstFree cut size) (tree l) = rw (fresh-tree size cut number stages) (inr (inl (inl (refl, refl)))) in
+    rw (o .1, o .2)
+    (kind-named l (fresh-sound size cut number stages (o .0)) (record { layout = number; place = 1; serial = 2 }) (firstFree cut size) refl
+    there refl Free refl)
+
+-- ---- the marks of a block are those of its pieces
+
+-- the mark is that of a piece of the row that passes the test
+record Of (number : ℕ) (test : Kind → Bool) (w : Tree) (k : Mark) : Type 0 where
+  piece : Datum
+  layout : k .layout ≡ number
+  there : At (k .place) piece w
+  serial : piece .serial ≡ k .serial
+  kind : test (piece .kind) ≡ true
+
+module _ (number : ℕ) (test : Kind → Bool) where
+  of-more : {v w : Tree} {k : Mark} → ((d : Datum) → At (k .place) d v → At (k .place) d w) → Of number test v k → Of number test w k
+  of-more f o = record { piece = o .piece; layout = o .layout; there = f (o .piece) (o .there); serial = o .serial; kind = o .kind }
+
+  marks-of : (w : Tree) (k : Mark) → List·Memᴰ k (marksIn number test w) → Of number test w k
+  marks-of nil k h = absurd (List·Memᴰ·not-nil h)
+  marks-of (grow p d l r) k h = go (test (d .kind)) refl h (marks-of l k) (marks-of r k)
+    where
+      later : (List·Memᴰ k (marksIn number test l) → Of number test l k) → (List·Memᴰ k (marksIn number test r) → Of number test r k)
+          → List·Memᴰ k (marksIn number test l ++ marksIn number test r) → Of number test (grow p d l r) k
+      later il ir m =
+          ⊎-elim (λ z. of-more (λ e y. inr (inl y)) (il z)) (λ z. of-more (λ e y. inr (inr y)) (ir z))
+          (List·Memᴰ·append-cases (marksIn number test l) m)
+
+      own : test (d .kind) ≡ true → k ≡ record { layout = number; place = p; serial = d .serial } → Of number test (grow p d l r) k
+      own t e = rw e (record { piece = d; layout = refl; there = inl (refl, refl); serial = refl; kind = t })
+
+      go : (c : Bool) → test (d .kind) ≡ c
+          → List·Memᴰ k
+          (cond c (record { layout = number; place = p; serial = d .serial } ∷ (marksIn number test l ++ marksIn number test r))
+          (marksIn number test l ++ marksIn number test r))
+          → (List·Memᴰ k (marksIn number test l) → Of number test l k) → (List·Memᴰ k (marksIn number test r) → Of number test r k)
+          → Of number test (grow p d l r) k
+      go true t m il ir = ⊎-elim (own t) (later il ir) (List·Memᴰ·cases-cons m)
+      go false t m il ir = later il ir m
+
+-- any kind
+abbrev every : Kind → Bool
+every k = true
+
+-- a block has a first node, one part, and at most two free pieces
+module _ (number : ℕ) (b : Booking) (level : ℕ) (c : Orientation) (piece part : Size) where
+  abbrev row : InsertionShape → Tree
+  row s = planted b level c (blockOf s c piece part)
+
+  first-is : (s : InsertionShape) → headMark (marksIn number every (row s)) ≡ record { layout = number; place = b .place 0; serial = b .serial + 0 }
+  unfolding blockOf table
+  first-is AlongCurrentCut = refl
+  first-is AcrossCurrentCut = refl
+  first-is AlongThenAcross = refl
+  first-is AcrossThenAlong = refl
+
+  first-in : (s : InsertionShape) → List·Memᴰ (headMark (marksIn number every (row s))) (marksIn number every (row s))
+  unfolding blockOf table
+  first-in AlongCurrentCut = List·Memᴰ·head refl
+  first-in AcrossCurrentCut = List·Memᴰ·head refl
+  first-in AlongThenAcross = List·Memᴰ·head refl
+  first-in AcrossThenAlong = List·Memᴰ·head refl
+
+  part-in : (s : InsertionShape) → List·Memᴰ (headMark (marksIn number isPart (row s))) (marksIn number isPart (row s))
+  unfolding blockOf table
+  part-in AlongCurrentCut = List·Memᴰ·head refl
+  part-in AcrossCurrentCut = List·Memᴰ·head refl
+  part-in AlongThenAcross = List·Memᴰ·head refl
+  part-in AcrossThenAlong = List·Memᴰ·head refl
+
+  frees-few : (s : InsertionShape) → length (marksIn number isFree (row s)) ≤ 2
+  unfolding blockOf table
+  frees-few AlongCurrentCut = omega arith
+  frees-few AcrossCurrentCut = omega arith
+  frees-few AlongThenAcross = omega arith
+  frees-few AcrossThenAlong = omega arith
+
+module _ (number : ℕ) (b : Booking) (d : Datum) where
+  abbrev marks : NewMarks
+  marks = blockMarks number (block b d)
+
+  block-first-is : marks .first ≡ record { layout = number; place = b .place 0; serial = b .serial }
+  unfolding blockMarks block
+  block-first-is = first-is number b (d .level) (d .cut) (d .size) (b .size) (b .shape) ∙ rw (add-zero (b .serial)) refl
+
+  block-first : Of number every (block b d) (marks .first)
+  unfolding blockMarks block
+  block-first = marks-of number every (block b d) _ (first-in number b (d .level) (d .cut) (d .size) (b .size) (b .shape))
+
+  block-part : Of number isPart (block b d) (marks .part)
+  unfolding blockMarks block
+  block-part = marks-of number isPart (block b d) _ (part-in number b (d .level) (d .cut) (d .size) (b .size) (b .shape))
+
+  block-frees : (k : Mark) → List·Memᴰ k (take (marks .count) (marks .frees)) → Of number isFree (block b d) k
+  unfolding blockMarks block
+  block-frees k m =
+      let few = frees-few number b (d .level) (d .cut) (d .size) (b .size) (b .shape) in
+      marks-of number isFree (block b d) k (rw (padded-whole zeroMark 2 2 (marksIn number isFree (block b d)) few) at m)
+
+-- ---- insert
+
+-- the marks that an accepted booking in the piece at x answers: the first of the new nodes, the part, and the free pieces
+pub record BookedMarks (l : Layout) (x : ℕ) (p : PartType) (r : Rotation) (s : InsertionShape) (a : Inserted) : Type 0 where
+  pub first : Names (a .layout) (a .marks .first)
+  pub firstIs : a .marks .first ≡ record { layout = l .number; place = newPlace limit (less x (tree l)) 0; serial = l .serial + 1 }
+  pub part : NamesKind Part (a .layout) (a .marks .part)
+  pub partIs : At (a .marks .part .place) (pieceAt (a .layout) (a .marks .part .place)) (block (bookingFor l x p r s) (pieceAt l x))
+  pub frees : (k : Mark) → List·Memᴰ k (take (a .marks .count) (a .marks .frees)) → NamesKind Free (a .layout) k
+
+module _ (l : Layout) (x : ℕ) (p : PartType) (r : Rotation) (s : InsertionShape) (can : Insertable l x p r s) (a : Inserted)
+    (done : InsertDone l x (bookingFor l x p r s) a) where
+  abbrev b : Booking
+  b = bookingFor l x p r s
+
+  abbrev w : Tree
+  w = block b (pieceAt l x)
+
+  -- the mark of a piece of the block
+  module _ (test : Kind → Bool) (k : Mark) (o : Of (l .number) test w k) where
+    here : At (k .place) (o .piece) (tree (a .layout))
+    here =
+        rw (done .next .tree)
+        (book-new limit (l .stages) (l .sheet) (tree l) (can .sound .sound) x (pieceAt l x) (can .there) (can .free) b (k .place)
+        (o .piece) (o .there))
+
+    number : k .layout ≡ a .layout .number
+    number = o .layout ∙ sym (done .next .number)
+
+    of-names : Names (a .layout) k
+    of-names = named (a .layout) (done .next .sound) k (o .piece) number here (o .serial)
+
+    of-kind : (c : Kind) → o .piece .kind ≡ c → NamesKind c (a .layout) k
+    of-kind = kind-named (a .layout) (done .next .sound) k (o .piece) number here (o .serial)
+
+    of-block : At (k .place) (pieceAt (a .layout) (k .place)) w
+    of-block = rw (is (a .layout) (done .next .sound) k (o .piece) number here (o .serial)) (o .there)
+
+  booked-marks : BookedMarks l x p r s a
+  booked-marks =
+      let f : Of (l .number) every w (a .marks .first) = rw (done .marks) (block-first (l .number) b (pieceAt l x)) in
+      let t : Of (l .number) isPart w (a .marks .part) = rw (done .marks) (block-part (l .number) b (pieceAt l x)) in
+      record {
+        first = of-names every (a .marks .first) f;
+        firstIs = rw (done .marks) (block-first-is (l .number) b (pieceAt l x));
+        part = of-kind isPart (a .marks .part) t Part (is-part (t .piece .kind) (t .kind));
+        partIs = of-block isPart (a .marks .part) t;
+        frees =
+            λ k m.
+            let o = block-frees (l .number) b (pieceAt l x) k (rw (done .marks) at m) in
+            of-kind isFree k o Free (is-free (o .piece .kind) (o .kind));
+      }
+
+pub insert-marks-name : (l : Layout) (m : Mark) (p : PartType) (r : Rotation) (s : InsertionShape) (a : Inserted) → Sized l
+    → InsertSays l m p r s a → a .outcome ≡ Done → BookedMarks l (m .place) p r s a
+insert-marks-name l m p r s a sized says answer =
+    let z = insert-done l m p r s a sized says answer in booked-marks l (m .place) p r s (z .0) a (z .1)
+
+-- ---- remove
+
+pub remove-mark-names : (l : Layout) (m : Mark) (room : ℕ) (a : Removed) → Sized l → RemoveSays l m room a → a .outcome ≡ Done
+    → NamesKind Free (a .layout) (a .free)
+remove-mark-names l m room a sized says answer =
+    let z = remove-done l m room a sized says answer in
+    let can = z .0 in
+    let done = z .1 in
+    let n = placeFor l (m .place) in
+    let e = newFree (l .nodes) (m .place) (l .serial) in
+    let there : At n e (tree (a .layout)) =
+    rw (done .next .tree)
+    (new-there limit (l .stages) (l .sheet) (l .nodes) (tree l) (can .sound .sound) (can .sound .holds) (m .place)
+    (can .removable) n (l .serial))
+    in
+    rw (done .free)
+    (kind-named (a .layout) (done .next .sound) (record { layout = l .number; place = n; serial = l .serial + 1 }) e
+    (sym (done .next .number)) there (new-serial (l .nodes) (m .place) (l .serial)) Free (new-free (l .nodes) (m .place) (l .serial)))
+
+-- ---- the two lists
+
+-- a position gives a mark only below the list's end
+within : (a b : Bool) (k m : Mark) (e f : Refusal) → cond a (cond b (answer.Found k) (answer.Refused e)) (answer.Refused f) ≡ answer.Found m
+    → b ≡ true
+within true true k m e f h = refl
+within true false k m e f h = absurd (clash (cc))
+within false b k m e f h = absurd (clash (cc))
+
+same-answer : (o : MarkAnswer) (k m : Mark) → o ≡ answer.Found k → o ≡ answer.Found m → k ≡ m
+same-answer o k m x y = cc
+
+module _ (l : Layout) (sized : Sized l) (sound : SoundLayout l) (k : ℕ) (m : Mark) where
+  pub free-position-names : freeMarkOf l k ≡ answer.Found m → NamesKind Free l m
+  unfolding freeMarkOf
+  free-position-names h =
+      let b = ltb-true k (l .frees) (within (soundB l) (ltb k (l .frees)) _ m _ _ h) in
+      let z = free-mark-names l sound sized k b in
+      rw (same-answer (freeMarkOf l k) m (z .0) h (z .2))
+      (kind-named l sound (z .0) (z .1) (z .3 .layout) (z .3 .there) (z .3 .serial) Free (z .4))
+
+  -- a part or a structure
+  pub removable-position-names : removableMarkOf l k ≡ answer.Found m → Names l m × (isFree (pieceAt l (m .place) .kind) ≡ false)
+  unfolding removableMarkOf
+  removable-position-names h =
+      let b = ltb-true k (l .removables) (within (soundB l) (ltb k (l .removables)) _ m _ _ h) in
+      let z = removable-mark-names l sound sized k b in
+      let n = named l sound (z .0) (z .1) (z .3 .layout) (z .3 .there) (z .3 .serial) in
+      let i = is l sound (z .0) (z .1) (z .3 .layout) (z .3 .there) (z .3 .serial) in
+      rw (same-answer (removableMarkOf l k) m (z .0) h (z .2)) (n, rw i (z .4))

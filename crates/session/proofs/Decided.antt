@@ -1,0 +1,48 @@
+-- A request's answer, a run's answers and the whole output are decided by the state and the input. Rests on specs/Desk, and on the layout's
+-- theorems that the answers of `insert` and `remove` are.
+use mathlib.Core.Path.{_≡_, refl, sym, ap, _∙_}
+use mathlib.Core.List.{List, _∷_, _++_}
+use Prim.Native.Nat.{ℕ}
+use Rattle.lines.specs.Text.{Line, linesOf, joined}
+use Rattle.layout.specs.Check.{limit}
+use Rattle.layout.proofs.Determined.{insert-is-one, remove-is-one}
+use Rattle.frames.specs.declared.Request.{Request}
+use Rattle.frames.specs.declared.Request.the-variants.{Open, Offers, Insert, Remove, Keep, Restore, Report, Malformed}
+use Rattle.frames.specs.Answers.{Answer}
+use Rattle.session.specs.declared.Session.{Session}
+use Rattle.session.specs.declared.desk.Desk.{Desk}
+use Rattle.session.specs.declared.desk.Turn.{Turn}
+use Rattle.session.specs.Session.{Reply, reply, afterInsert, afterRemove, Answers}
+use Rattle.session.specs.Desk.{askedIn, Runs, none, more, opening, textOf, Ends, Served}
+use Rattle.session.proofs.Laws.{input-run}
+
+-- a request
+pub answers-once : (s : Session) (q : Request) {t u : Session} {a b : Answer} → Answers s q t a → Answers s q u b → reply t a ≡ reply u b
+unfolding Answers
+answers-once s (Open number size cut stages) g h = g ∙ sym h
+answers-once s (Offers mark part) g h = g ∙ sym h
+answers-once s (Insert m p r f) g h =
+    g .2 ∙ ap (afterInsert s) (insert-is-one (s .layout) m p r f (g .0) (h .0) (g .1) (h .1)) ∙ sym (h .2)
+answers-once s (Remove m) g h =
+    g .2 ∙ ap (afterRemove s m) (remove-is-one (s .layout) m limit (g .0) (h .0) (g .1) (h .1)) ∙ sym (h .2)
+answers-once s Keep g h = g ∙ sym h
+answers-once s Restore g h = g ∙ sym h
+answers-once s Report g h = g ∙ sym h
+answers-once s Malformed g h = g ∙ sym h
+
+-- a run of lines
+pub runs-once : {s u v : Session} {ls : List Line} {xs ys : List Answer} → Runs s ls xs u → Runs s ls ys v → (xs ≡ ys) × (u ≡ v)
+runs-once none none = (refl, refl)
+runs-once (more {s} {t} {line = line} a q) (more {t = t'} b r) =
+    let e = answers-once s (askedIn line) a b in
+    let next : t ≡ t' = ap (λ (w : Reply). w .session) e in
+    let same = runs-once q (rw (← next) at r) in
+    ((λ i. e i .answer ∷ same .0 i), same .1)
+
+-- the output to an input, however it was cut into chunks
+pub output-once : {cs ds : List (List ℕ)} {xs ys : List Answer} {d e : Desk} {r q : Turn} → joined cs ≡ joined ds
+    → Served opening cs xs d → (y : Ends d r) → Served opening ds ys e → (z : Ends e q)
+    → (textOf (xs ++ y .turned .answers) ≡ textOf (ys ++ z .turned .answers)) × (r .desk .session ≡ q .desk .session)
+output-once {cs} {ds} same a y b z =
+    let once = runs-once (input-run a y) (rw (← ap linesOf same) at (input-run b z)) in
+    (ap textOf (once .0), once .1)

@@ -1,0 +1,9 @@
+pub mod Spoken
+pub mod Ways
+pub mod Usage
+pub mod Given
+pub mod Reported
+pub mod AtDesk
+pub mod Laws
+pub mod Decided
+pub mod Uses

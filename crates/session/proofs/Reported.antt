@@ -1,0 +1,71 @@
+-- A layout whose sheet usage is answered is sound, so that its record has the figures of its tree; and the usage is a number, so that it has bits.
+-- Rests on the layout's soundness check.
+use mathlib.Core.Path.{_≡_, refl, sym, _∙_}
+use mathlib.Core.Bool.{Bool, true, false, cond, not}
+use Prim.Native.Nat.{ℕ}
+use native.Mathlib.Omega.{arith}
+use lib.Dec.{T}
+use lib.Ieee.{Float, binary64, toBits, isNan}
+use Rattle.piece.specs.Sides.{area}
+use Rattle.tree.specs.Figures.{partArea, sheetUsage}
+use Rattle.tree.proofs.Usage.{sheet-positive}
+use Rattle.answers.specs.declared.Refusal.{Refusal}
+use Rattle.answers.specs.declared.Refusal.the-variants.{NotSound}
+use Rattle.layout.specs.declared.layout.Layout.{Layout}
+use Rattle.layout.specs.declared.replies.UsageAnswer.{UsageAnswer}
+use Rattle.layout.specs.declared.replies.UsageAnswer.the-variants.{Usage, Refused}
+use Rattle.layout.specs.Check.{tree, soundB}
+use Rattle.layout.specs.Answers.{sheetUsageOf}
+use Rattle.layout.specs.SoundLayout.{Sized}
+use Rattle.layout.proofs.Exactly.{sound-says}
+use Rattle.layout.proofs.Figured.{used-small}
+use Rattle.frames.specs.Answers.{refused, reported}
+use Rattle.frames.specs.declared.Request.the-variants.{Report}
+use Rattle.session.specs.declared.Session.{Session}
+use Rattle.session.specs.declared.Stepped.{Stepped}
+use Rattle.session.specs.Session.{figures, Says, Steps}
+use Rattle.session.proofs.Ways.{report-gives}
+use Rattle.session.proofs.Usage.{usage-number}
+
+abbrev usage : Layout → Float
+usage l = sheetUsage (partArea (tree l)) (area (l .sheet))
+
+module _ (l : Layout) {u : UsageAnswer} (e : u ≡ sheetUsageOf l) where
+  answered : {x : Float} → u ≡ Usage x → (soundB l ≡ true) × (x ≡ usage l)
+  unfolding sheetUsageOf
+  answered {x} h = go (soundB l) (sym h ∙ e)
+    where
+      go : (b : Bool) → Usage x ≡ cond b (Usage (usage l)) (Refused NotSound) → (b ≡ true) × (x ≡ usage l)
+      go true f = (refl, cc)
+      go false f = let z : _≡_ {A = ℕ} 0 1 = cc in absurd (omega arith)
+
+  unsound : {y : Refusal} → u ≡ Refused y → (soundB l ≡ false) × (y ≡ NotSound)
+  unfolding sheetUsageOf
+  unsound {y} h = go (soundB l) (sym h ∙ e)
+    where
+      go : (b : Bool) → Refused y ≡ cond b (Usage (usage l)) (Refused NotSound) → (b ≡ false) × (y ≡ NotSound)
+      go true f = let z : _≡_ {A = ℕ} 0 1 = cc in absurd (omega arith)
+      go false f = (refl, cc)
+
+  -- the usage has bits
+  pub usage-bits : {x : Float} → Sized l → u ≡ Usage x → T (not (isNan x))
+  usage-bits sized h =
+      let a = answered h in
+      let s = sound-says l sized (a .0) in
+      let small = used-small l s in
+      rw (a .1)
+      (usage-number (partArea (tree l)) (area (l .sheet)) (omega (arith, s .used)) (sheet-positive (s .sound .domain)) (omega arith))
+
+module _ (s : Session) {u : UsageAnswer} (e : u ≡ sheetUsageOf (s .layout)) {r : Stepped} where
+  pub reported-done : {x : Float} → Sized (s .layout) → u ≡ Usage x
+      → Says s (reported (s .layout .used) (s .layout .held) (toBits binary64 x)) r → Steps s Report r
+  reported-done {x} sized h y =
+      let a = answered (s .layout) e h in
+      let f = sound-says (s .layout) sized (a .0) in
+      let same : reported (s .layout .used) (s .layout .held) (toBits binary64 x) ≡ figures (s .layout) = cc (f .used, f .held, a .1) in
+      report-gives s (a .0) (rw same at y)
+
+  pub reported-refused : {x : Refusal} → u ≡ Refused x → Says s (refused 7 x) r → Steps s Report r
+  reported-refused h y =
+      let a = unsound (s .layout) e h in
+      report-gives s (a .0) (rw (a .1) at y)

@@ -1,0 +1,44 @@
+-- `end` meets its contract, with a last line and without. Assumes nothing.
+use Rattle.session.proofs.AtDesk.{ends-cut, ends-clean}
+use borrow.Author.Needs.{needs}
+use Rattle.session.proofs.desk.Desk.end.Statement.{statement}
+use Rattle.session.proofs.desk.Desk.end.Tie as tie
+
+cut-requires : tie.Need-cut-requires
+cut-requires c κs = search needs
+
+malformed-requires : tie.Need-malformed-requires
+malformed-requires c κs = search needs
+
+answered-requires : tie.Need-answered-requires
+answered-requires c κs = search needs
+
+none-requires : tie.Need-none-requires
+none-requires c κs = search needs
+
+unanswered-requires : tie.Need-unanswered-requires
+unanswered-requires c κs = search needs
+
+returns : tie.Need-returns
+returns c =
+    let t = c .before .before in
+    let a = t .before .before .before .before .args in
+    rw (c .answered .ensures) (ends-cut (a .self) (t .before .cut .ensures) (t .if1 .taken) (c .before .malformed .ensures))
+
+returns-2 : tie.Need-returns-2
+returns-2 c =
+    let t = c .before .before in
+    let a = t .before .before .before .before .args in
+    rw (c .unanswered .ensures, c .before .none .ensures) (ends-clean (a .self) (t .before .cut .ensures) (t .if1 .left))
+
+pub end-spec : {M : Type 1} → statement M
+end-spec =
+    tie.close
+    (tie.spec
+    cut-requires
+    malformed-requires
+    answered-requires
+    none-requires
+    unanswered-requires
+    returns
+    returns-2)

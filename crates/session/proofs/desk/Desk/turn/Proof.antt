@@ -1,0 +1,71 @@
+-- `turn` meets its contract: a line, one that is too long, or none yet. Assumes nothing.
+use Rattle.session.proofs.AtDesk.{takes-whole, takes-long, takes-more}
+use borrow.Author.Needs.{needs}
+use Rattle.session.proofs.desk.Desk.turn.Statement.{statement}
+use Rattle.session.proofs.desk.Desk.turn.Tie as tie
+
+take-requires : tie.Need-take-requires
+take-requires c κs = search needs
+
+enum-told : tie.Need-enum-told
+enum-told c = search needs
+
+answer-requires : tie.Need-answer-requires
+answer-requires c κs = search needs
+
+answered-requires : tie.Need-answered-requires
+answered-requires c κs = search needs
+
+enum-told-2 : tie.Need-enum-told-2
+enum-told-2 c = search needs
+
+malformed-requires : tie.Need-malformed-requires
+malformed-requires c κs = search needs
+
+answered-requires-2 : tie.Need-answered-requires-2
+answered-requires-2 c κs = search needs
+
+enum-told-3 : tie.Need-enum-told-3
+enum-told-3 c = search needs
+
+unanswered-requires : tie.Need-unanswered-requires
+unanswered-requires c κs = search needs
+
+returns : tie.Need-returns
+returns c =
+    let k = c .before .before in
+    let t = k .before .before .before in
+    let a = t .before .before .before .before .args in
+    rw (c .answered .ensures) (takes-whole (a .self) (a .chunk .now) (a .at) (t .take .ensures) (k .enum-told .given .1) (c .before .answer .ensures))
+
+returns-2 : tie.Need-returns-2
+returns-2 c =
+    let k = c .before .before in
+    let t = k .before .before .before in
+    let a = t .before .before .before .before .args in
+    rw (c .answered2 .ensures)
+    (takes-long (a .self) (a .chunk .now) (a .at) (t .take .ensures) (k .enum-told2 .given .1) (c .before .malformed .ensures))
+
+returns-3 : tie.Need-returns-3
+returns-3 c =
+    let k = c .before in
+    let t = k .before .before .before in
+    let a = t .before .before .before .before .args in
+    rw (c .unanswered .ensures) (takes-more (a .self) (a .chunk .now) (a .at) (t .take .ensures) (k .enum-told3 .given .1))
+
+pub turn-spec : {M : Type 1} → statement M
+turn-spec =
+    tie.close
+    (tie.spec
+    take-requires
+    enum-told
+    answer-requires
+    answered-requires
+    enum-told-2
+    malformed-requires
+    answered-requires-2
+    enum-told-3
+    unanswered-requires
+    returns
+    returns-2
+    returns-3)

@@ -1,0 +1,52 @@
+-- `answer` meets its contract: where more is counted than fits, all that is there is the line. Assumes nothing.
+use mathlib.Core.Path.{_≡_, ap, sym}
+use native.Mathlib.Omega.{arith}
+use lib.ListN.{length}
+use lib.Seq.{take-all, length-take-le}
+use Rattle.frames.specs.Requests.{requestOf}
+use Rattle.session.proofs.Given.{pending-sized}
+use Rattle.session.proofs.Ways.{asks}
+use borrow.Author.Needs.{needs}
+use Rattle.session.proofs.desk.answer.Statement.{statement}
+use Rattle.session.proofs.desk.answer.Tie as tie
+
+sixty-four : (c : tie.Start) → length (c .args .pending .bytes) ≡ 64
+sixty-four c = pending-sized (c .args .pending) _ (c .good .1 .0)
+
+slice-aggregate-step : tie.Need-slice-aggregate-step
+slice-aggregate-step c = search needs
+
+step-requires : tie.Need-step-requires
+step-requires c κs = search needs
+
+returns : tie.Need-returns
+returns c =
+    let s = c .before .before .before .before in
+    let p = s .args .pending in
+    asks (ap requestOf (take-all (p .count) (p .bytes) (omega (arith, sixty-four s)))) (c .step .ensures)
+
+array-share-prefix-bytes : tie.Need-array-share-prefix-bytes
+array-share-prefix-bytes c = omega (arith, sixty-four (c .before .before))
+
+slice-aggregate-step-2 : tie.Need-slice-aggregate-step-2
+slice-aggregate-step-2 c =
+    let s = c .before .before .before in
+    sym (length-take-le (s .args .pending .count) (s .args .pending .bytes) (omega (arith, sixty-four s)))
+
+step-requires-2 : tie.Need-step-requires-2
+step-requires-2 c κs = search needs
+
+returns-2 : tie.Need-returns-2
+returns-2 c = search needs
+
+pub answer-spec : {M : Type 1} → statement M
+answer-spec =
+    tie.close
+    (tie.spec
+    slice-aggregate-step
+    step-requires
+    returns
+    array-share-prefix-bytes
+    slice-aggregate-step-2
+    step-requires-2
+    returns-2)
