@@ -107,7 +107,7 @@ impl Layout {
     }
 
     // What a mark names: refusals 4 and 5.
-    pub fn sought(self, mark: Mark) -> Sought
+    pub(crate) fn sought(self, mark: Mark) -> Sought
         ensures { λ r. ⌜ r ≡ soughtOf self mark ⌝ }
     {
         if mark.layout != self.number {

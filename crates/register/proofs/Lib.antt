@@ -3,3 +3,4 @@ pub mod HoldingSteps
 pub mod FreeSteps
 pub mod Listed
 pub mod Family
+pub mod Worked

@@ -1,0 +1,24 @@
+-- `say` is safe and ends: the part that it lends lies in the line. Assumes nothing.
+use mathlib.Core.Path.{sym}
+use native.Mathlib.Omega.{arith}
+use lib.Seq.{length-take-le}
+use borrow.Author.Needs.{needs}
+use Rattle.counter.proofs.say.Statement.{statement}
+use Rattle.counter.proofs.say.Tie as tie
+
+array-share-prefix-line : tie.Need-array-share-prefix-line
+array-share-prefix-line c = search needs
+
+slice-aggregate-write-all : tie.Need-slice-aggregate-write-all
+slice-aggregate-write-all c =
+    let a = c .before .args in
+    sym (length-take-le (a .count) (a .t1) (search needs))
+
+write-all-requires : tie.Need-write-all-requires
+write-all-requires c κs = search needs
+
+returns : tie.Need-returns
+returns c = search needs
+
+pub say-spec : {M : Type 1} → statement M
+say-spec = tie.close (tie.spec array-share-prefix-line slice-aggregate-write-all write-all-requires returns)

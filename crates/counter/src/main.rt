@@ -1,0 +1,74 @@
+// The counter: frames in, a line each, and answers out (document 01, "Counter frames"). Each line is answered when its newline has arrived,
+// before more is read. Rests on `session`, where all of it is proved; here are the reads and the writes.
+ghost use mathlib.Core.List.{List};
+ghost use Prim.Native.Nat.{_≤_};
+ghost use lib.Dec.{T};
+ghost use Rattle.frames.specs.Answers.{Answer};
+ghost use Rattle.session.specs.Desk.{Turns};
+use frames::write::LONGEST;
+use libc::STDIN_FILENO;
+use libc::STDOUT_FILENO;
+use session::desk::Desk;
+
+// The desk after a chunk, and whether all its answers could be written.
+struct Served {
+    desk: Desk,
+    written: bool,
+}
+
+// Writes an answer: the first count characters of a turn's line. With none it writes nothing.
+fn say(line: [u8; LONGEST], count: usize) -> bool
+    requires { ⌜ count ≤ 1035 ⌝ }
+{
+    io::write_all(STDOUT_FILENO, &line[..count])
+}
+
+// Takes turns until the chunk is used up.
+fn serve(desk: Desk, chunk: &[u8]) -> Served
+    ensures { λ r. ⌜ (T (r .written) → (xs : List Answer) × Turns (now (chunk .entry)) desk 0 xs (r .desk)) ⌝ }
+{
+    let mut d = desk;
+    let mut at: usize = 0;
+    while at < chunk.len() {
+        let turn = d.turn(chunk, at);
+        let line = turn.line;
+        if say(line, turn.count) {} else {
+            return Served {
+                desk: d,
+                written: false,
+            };
+        }
+        let next = turn.desk;
+        d = next;
+        at = turn.next;
+    }
+    Served {
+        desk: d,
+        written: true,
+    }
+}
+
+// A read brings as much as is there. A proved loop has to end, and nothing says that an input does: so it counts its reads down, from a number
+// that no run uses up.
+fn main() {
+    let mut desk = Desk::start();
+    let mut reads = u64::MAX;
+    while 0 < reads {
+        let mut chunk = io::buffer();
+        let got = libc::read(STDIN_FILENO, &mut chunk);
+        let n = io::count(got, &chunk);
+        if n == 0 {
+            let last = desk.end();
+            let line = last.line;
+            say(line, last.count);
+            return;
+        }
+        let served = serve(desk, &chunk[..n]);
+        if served.written {} else {
+            return;
+        }
+        let next = served.desk;
+        desk = next;
+        reads -= 1;
+    }
+}

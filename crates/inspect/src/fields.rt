@@ -1,0 +1,164 @@
+// The seven fields of a line, each '-' where it is empty or missing, all but the first after a space. What frames don't show comes from the
+// layout's public calls alone; a layout that isn't sound refuses them, and so its fields are missing.
+use crate::pen::Pen;
+use crate::pen::ROOM;
+use crate::pen::put;
+use crate::pen::put_byte;
+use crate::pen::put_eight;
+use crate::pen::put_four;
+use crate::pen::put_two;
+use answers::Mark;
+use frames::Request;
+use frames::write::LONGEST;
+use layout::layout::Layout;
+use layout::replies::AreaAnswer;
+use layout::replies::CountAnswer;
+use layout::replies::LightAnswer;
+use layout::replies::MarkAnswer;
+use layout::replies::UsageAnswer;
+use piece::parttype::PartType;
+use table::LIMIT;
+
+// The bytes of the longest snapshot: 13 for each place.
+const SNAPSHOT: usize = 3315;
+
+pub enum Listing {
+    Free,
+    Removable,
+}
+
+fn missing(out: &mut [u8; ROOM], pen: Pen) -> Pen {
+    put(out, pen, b'-')
+}
+
+// The counter's line, without its newline.
+pub fn answer(out: &mut [u8; ROOM], pen: Pen, line: [u8; LONGEST], count: usize) -> Pen {
+    let mut p = pen;
+    let mut i: usize = 0;
+    while i < LONGEST {
+        if count <= i + 1 {
+            break;
+        }
+        p = put(out, p, line[i]);
+        i += 1;
+    }
+    p
+}
+
+pub fn snapshot(out: &mut [u8; ROOM], pen: Pen, layout: Layout) -> Pen {
+    let mut p = put(out, pen, b' ');
+    let mut bytes = [0u8; SNAPSHOT];
+    let CountAnswer::Count(count) = layout.snapshot(&mut bytes) else {
+        return missing(out, p);
+    };
+    let n = count as usize;
+    let mut i: usize = 0;
+    while i < SNAPSHOT {
+        if n <= i {
+            break;
+        }
+        p = put_byte(out, p, bytes[i]);
+        i += 1;
+    }
+    p
+}
+
+fn put_mark(out: &mut [u8; ROOM], pen: Pen, mark: Mark) -> Pen {
+    let layout = put_two(out, pen, mark.layout);
+    let place = put_byte(out, layout, (mark.place % 256) as u8);
+    put_four(out, place, mark.serial)
+}
+
+fn mark_at(layout: Layout, listing: Listing, position: u16) -> MarkAnswer {
+    match listing {
+        Listing::Free => layout.free_mark(position),
+        Listing::Removable => layout.removable_mark(position),
+    }
+}
+
+// The marks of a list, position by position until the call refuses.
+pub fn marks(out: &mut [u8; ROOM], pen: Pen, layout: Layout, listing: Listing) -> Pen {
+    let mut p = put(out, pen, b' ');
+    let mut i: u16 = 0;
+    while i < LIMIT as u16 {
+        let MarkAnswer::Found(mark) = mark_at(layout, listing, i) else {
+            break;
+        };
+        p = put_mark(out, p, mark);
+        i += 1;
+    }
+    if i == 0 { missing(out, p) } else { p }
+}
+
+// The bits of a usage. It is a number; the language asks that this be seen, and gives none to what is not.
+fn bits(usage: f64) -> u64 {
+    if usage == usage {
+        f64::to_bits(usage)
+    } else {
+        0
+    }
+}
+
+// Used area, free area, and the bits of the sheet's usage and the tree's.
+pub fn figures(out: &mut [u8; ROOM], pen: Pen, layout: Layout) -> Pen {
+    let p = put(out, pen, b' ');
+    let AreaAnswer::Area(used) = layout.used_area() else {
+        return missing(out, p);
+    };
+    let AreaAnswer::Area(free) = layout.free_area() else {
+        return missing(out, p);
+    };
+    let UsageAnswer::Usage(sheet) = layout.sheet_usage() else {
+        return missing(out, p);
+    };
+    let UsageAnswer::Usage(tree) = layout.tree_usage() else {
+        return missing(out, p);
+    };
+    let one = put_eight(out, p, used);
+    let two = put_eight(out, one, free);
+    let three = put_eight(out, two, bits(sheet));
+    put_eight(out, three, bits(tree))
+}
+
+pub fn part_numbers(out: &mut [u8; ROOM], pen: Pen, layout: Layout) -> Pen {
+    let mut p = put(out, pen, b' ');
+    let mut numbers = [0u16; LIMIT];
+    let CountAnswer::Count(count) = layout.part_numbers(&mut numbers) else {
+        return missing(out, p);
+    };
+    let n = count as usize;
+    let mut i: usize = 0;
+    while i < LIMIT {
+        if n <= i {
+            break;
+        }
+        p = put_two(out, p, numbers[i]);
+        i += 1;
+    }
+    if i == 0 { missing(out, p) } else { p }
+}
+
+fn light_for(out: &mut [u8; ROOM], pen: Pen, layout: Layout, part: PartType) -> Pen {
+    match layout.room_light(part) {
+        LightAnswer::Says(yes) => {
+            let p = put_byte(out, pen, 0);
+            put_byte(out, p, if yes { 1 } else { 0 })
+        }
+        LightAnswer::Refused(refusal) => put_byte(out, pen, refusal.number()),
+    }
+}
+
+// The room light, for the part that a line asks offers or room for.
+pub fn light(out: &mut [u8; ROOM], pen: Pen, layout: Layout, request: Request) -> Pen {
+    let p = put(out, pen, b' ');
+    match request {
+        Request::Offers { mark, part } => light_for(out, p, layout, part),
+        Request::Insert {
+            mark,
+            part,
+            rotation,
+            shape,
+        } => light_for(out, p, layout, part),
+        _ => missing(out, p),
+    }
+}

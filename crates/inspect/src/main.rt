@@ -1,0 +1,105 @@
+// The inspector: the counter's frames in, and for each line its answer and then what frames don't show, in seven fields (recorded/README.md).
+// Rests on `session`, and takes the same turns as `counter`.
+mod fields;
+mod pen;
+
+use fields::Listing;
+use frames::Request;
+use libc::STDIN_FILENO;
+use lines::stream::Event;
+use lines::stream::MOST;
+use lines::stream::Pending;
+use pen::ROOM;
+use session::desk::Desk;
+use session::desk::Turn;
+
+// The desk after a chunk, and whether all its lines could be written.
+struct Served {
+    desk: Desk,
+    written: bool,
+}
+
+// What the first count characters ask; more than a line may have ask nothing that is well-formed.
+fn request_in(chars: [u8; 64], count: usize) -> Request {
+    if MOST < count {
+        return Request::Malformed;
+    }
+    frames::read::request(&chars[..count])
+}
+
+// What the line asks that a turn from this position answers; without a line, nothing that is well-formed.
+fn asked(pending: Pending, chunk: &[u8], at: usize) -> Request {
+    let taken = pending.take(chunk, at);
+    let event = taken.event;
+    let line = taken.pending;
+    let chars = line.bytes;
+    match event {
+        Event::Whole => request_in(chars, line.count),
+        _ => Request::Malformed,
+    }
+}
+
+// Writes the line of a turn, if it has an answer.
+fn tell(turn: Turn, request: Request) -> bool {
+    let count = turn.count;
+    if count == 0 {
+        return true;
+    }
+    let line = turn.line;
+    let layout = turn.desk.session.layout;
+    let mut out = [0u8; ROOM];
+    let one = fields::answer(&mut out, pen::start(), line, count);
+    let two = fields::snapshot(&mut out, one, layout);
+    let three = fields::marks(&mut out, two, layout, Listing::Free);
+    let four = fields::marks(&mut out, three, layout, Listing::Removable);
+    let five = fields::figures(&mut out, four, layout);
+    let six = fields::part_numbers(&mut out, five, layout);
+    let seven = fields::light(&mut out, six, layout, request);
+    pen::end(&mut out, seven)
+}
+
+// Takes turns until the chunk is used up.
+fn serve(desk: Desk, chunk: &[u8]) -> Served {
+    let mut d = desk;
+    let mut at: usize = 0;
+    while at < chunk.len() {
+        let begun = d.pending;
+        let request = asked(begun, chunk, at);
+        let turn = d.turn(chunk, at);
+        if tell(turn, request) {} else {
+            return Served {
+                desk: d,
+                written: false,
+            };
+        }
+        let next = turn.desk;
+        d = next;
+        at = turn.next;
+    }
+    Served {
+        desk: d,
+        written: true,
+    }
+}
+
+// As in `counter`: it reads what is there, and counts its reads down from a number that no run uses up.
+fn main() {
+    let mut desk = Desk::start();
+    let mut reads = u64::MAX;
+    while 0 < reads {
+        let mut chunk = io::buffer();
+        let got = libc::read(STDIN_FILENO, &mut chunk);
+        let n = io::count(got, &chunk);
+        if n == 0 {
+            tell(desk.end(), Request::Malformed);
+            return;
+        }
+        let served = serve(desk, &chunk[..n]);
+        if served.written {} else {
+            return;
+        }
+        let next = served.desk;
+        desk = next;
+        reads -= 1;
+    }
+}
