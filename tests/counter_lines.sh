@@ -1,36 +1,52 @@
 #!/usr/bin/env bash
-# Lines that are not frames, each beside a good frame (07f9, a report, which is refused with 1 before an opening: 0701f8), so that the answers tell
-# which line was which. Document 01, "Counter frames".
+# What the counter makes of lines that are no frames, and of the end of its input (document 01, "Counter frames"): each gets one answer, and the
+# line after it its own.
 set -u
 cd "$(dirname "$0")/.." || exit 2
 . tests/run.bash
+written=$(mktemp) || exit 2
+trap 'rm -f "$written"' EXIT
 
-bad=ff0ef3
-good=0701f8
-answers() { # WHAT EXPECTED...: standard input through the counter, answer for answer
-  local what=$1
-  shift
-  run counter | cmp - <(for a in "$@"; do echo "$a"; done)
-  expect $? "$what"
+# answers WHAT ANSWERS: to the text on standard input; ANSWERS as printf reads it
+answers() {
+  run counter > "$written"
+  local ended=$?
+  [ "$ended" -eq 0 ] && cmp -s "$written" <(printf "$2")
+  tried $? "$1"
 }
-zeros() { head -c "$1" /dev/zero | tr '\0' '0'; }
 
-answers "empty input" < /dev/null
-printf '07f9' | answers "a last line without its newline" $bad
-printf '07f9\n07f9' | answers "a good line and a last one without its newline" $good $bad
-printf '\n07f9\n' | answers "an empty line" $bad $good
-printf '07f9\r\n07f9\n' | answers "a carriage return" $bad $good
-printf '07f9\000\n07f9\n' | answers "a NUL" $bad $good
-printf '07F9\n07f9\n' | answers "upper case" $bad $good
-printf '\377\376\n07f9\n' | answers "bytes above 7f" $bad $good
-printf '\357\273\27707f9\n07f9\n' | answers "a byte-order mark" $bad $good
-printf ' 07f9\n07f9 \n07f9\n' | answers "spaces" $bad $bad $good
-printf '07f8\n08f8\n07f90\n07\n07f9\n' | answers "a wrong check, an op not listed, an odd length, no check" $bad $bad $bad $bad $good
-for n in 63 64 65 300000; do
-  { zeros $n; printf '\n07f9\n'; } | answers "a line of $n characters" $bad $good
+# a report before a sheet is opened is refused with 1; what is malformed comes before that
+report='07f9\n' refused='0701f8\n' malformed='ff0ef3\n'
+
+# gives WHAT TEXT ANSWERS: of a text, and with a report after it, both as printf reads them
+gives() {
+  printf "$2" | answers "$1" "$3"
+  printf "$2$report" | answers "$1, and then a report" "$3$refused"
+}
+
+# digits COUNT: so many zeros
+digits() { printf '%*s' "$1" '' | tr ' ' 0; }
+
+printf '' | answers 'empty input' ''
+gives 'a frame' "$report" "$refused"
+gives 'an empty line' '\n' "$malformed"
+gives 'CR before the newline' '07f9\r\n' "$malformed"
+gives 'NUL: alone, after, before and in a frame' '\x00\n07f9\x00\n\x0007f9\n07\x00f9\n' "$malformed$malformed$malformed$malformed"
+gives 'upper case' '07F9\n' "$malformed"
+gives 'bytes above 7f' '\x80\n\xff\xff\n07f\xb9\n07f9\xa0\n' "$malformed$malformed$malformed$malformed"
+gives 'a byte-order mark' '\xef\xbb\xbf07f9\n' "$malformed"
+for count in 0 1 63 64 65 66 4095 4096 4097 300000; do
+  gives "a line of $count characters" "$(digits "$count")\n" "$malformed"
 done
-{ zeros 300000; } | answers "300000 characters without a newline" $bad
-printf '%s\n%s\n%s\n' 010001000000640000003c01035a 03000101000000020007000000280000003c0000018d \
-  03000101000000020007000000280000003c0000018d |
-  answers "document 01's session" 010000010100000002fb 030000010100000003000101000000030100010200000004eb 0305f8
-exit $((failures > 0))
+printf '07f9' | answers 'a last line without its newline' "$malformed"
+printf '07f9\n07f9' | answers 'a frame, and a last line without its newline' "$refused$malformed"
+printf '07f9\r07f9' | answers 'CR is no newline' "$malformed"
+digits 300000 | answers 'a last line of 300000 characters without its newline' "$malformed"
+
+# frames of five characters, newline and all, are cut by reads of any even size
+many=$(printf '%*s' 3000 '')
+printf "${many// /$report}" | answers '3000 frames at once' "${many// /$refused}"
+
+printf '%s\n' 010001000000640000003c01035a 03000101000000020007000000280000003c0000018d 03000101000000020007000000280000003c0000018d |
+  answers "document 01's session" '010000010100000002fb\n030000010100000003000101000000030100010200000004eb\n0305f8\n'
+exit $status

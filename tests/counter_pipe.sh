@@ -1,34 +1,89 @@
 #!/usr/bin/env bash
-# The counter over a pipe that stays open: each answer arrives before the next frame is sent, also where a frame comes in several pieces and where two
-# come at once.
+# Drives the counter over an open pipe: each answer comes before the next frame is sent, however a frame is cut into writes.
 set -u
 cd "$(dirname "$0")/.." || exit 2
 . tests/run.bash
+words_of counter
+coproc counter { exec "${program[@]}"; }
+process=$counter_PID
+exec 3<&"${counter[0]}" 4>&"${counter[1]}"
+eval "exec ${counter[0]}<&- ${counter[1]}>&-"
+trap '[ -z "$process" ] || kill "$process" 2>/dev/null' EXIT
 
-coproc COUNTER { run counter; }
-in=${COUNTER[1]} out=${COUNTER[0]} pid=$COUNTER_PID
-hear() { # EXPECTED: the next answer, within 20 seconds
+send() { printf "$1" >&4; }
+
+# answer WHAT LINE: the next answer, which comes within a minute; after one that does not come there is no point in going on
+answer() {
   local line
-  IFS= read -r -t 20 line <&"$out" && [ "$line" = "$1" ]
-  expect $? "the answer $1"
+  if ! IFS= read -r -t 60 line <&3; then
+    tried 1 "$1: no answer"
+    exit 1
+  fi
+  [ "$line" = "$2" ]
+  tried $? "$1"
 }
-say() { printf '%b' "$1" >&"$in"; }
 
-say '07f9\n'
-hear 0701f8
-say '010001000000640000003c01035a\n'
-hear 010000010100000002fb
-for piece in 0300010100000002 00070000002800 00003c00000 18d; do say "$piece" && sleep 0.2; done
-say '\n'
-hear 030000010100000003000101000000030100010200000004eb
-say '05fb\n06fa\n'
-hear 0500fb
-hear 0600fa
-say '07f9\n07'
-hear 07000000000000000960033fd999999999999ade
-say 'f9\n'
-hear 07000000000000000960033fd999999999999ade
-exec {in}>&-
-wait "$pid"
-expect $? "the counter ends when its input does"
-exit $((failures > 0))
+# silence WHAT: nothing is answered within a second
+silence() {
+  local line=
+  ! IFS= read -r -t 1 line <&3 && [ -z "$line" ]
+  tried $? "$1"
+}
+
+open=010001000000640000003c01035a opened=010000010100000002fb
+insert=03000101000000020007000000280000003c0000018d inserted=030000010100000003000101000000030100010200000004eb
+report=07f9
+
+send "$report\n"
+answer 'a report before a sheet is opened' 0701f8
+send "$open\n"
+answer 'an opening' "$opened"
+send "$insert\n"
+answer 'a booking' "$inserted"
+send "$insert\n"
+answer 'the same booking again' 0305f8
+
+# one frame in several pieces, its newline last and alone
+for piece in "${open:0:1}" "${open:1:9}" "${open:10}"; do
+  send "$piece"
+  silence "no answer to a part of a frame, ${#piece} characters more"
+done
+send '\n'
+answer 'the frame, when its newline has come' "$opened"
+for ((i = 0; i < ${#insert}; i++)); do send "${insert:i:1}"; done
+send '\n'
+answer 'a frame sent character by character' "$inserted"
+
+# several lines in one write, and a part of the next
+send "$report\n\nzz\n${report:0:2}"
+answer 'the first of three lines' 07000000000000000960033fd999999999999ade
+answer 'the second, which is empty' ff0ef3
+answer 'the third, which is no frame' ff0ef3
+silence 'no answer to the part of a fourth'
+send "${report:2}\n"
+answer 'the fourth, when it is whole' 07000000000000000960033fd999999999999ade
+
+# a line that is too long, in pieces: one answer, when its newline has come
+for piece in 1 2 3; do
+  send "$(printf '%*s' 100 '' | tr ' ' 0)"
+  silence "no answer to a part of a line that is too long, $piece"
+done
+send '\n'
+answer 'the line that is too long' ff0ef3
+send "$report\n"
+answer 'the line after it' 07000000000000000960033fd999999999999ade
+
+# the end of the input, in a line
+send "$report"
+exec 4>&-
+answer 'a last line without its newline' ff0ef3
+silence 'nothing after it'
+wait "$process"
+tried $? 'the counter ended with status 0'
+process=
+
+# whoever reads the answers goes away
+run counter < crates/counter/stdin 2> /dev/null | head -n 1 > /dev/null
+[ "${PIPESTATUS[0]}" -ne 0 ]
+tried $? 'the counter ends when nobody reads its answers'
+exit $status

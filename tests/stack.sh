@@ -1,15 +1,17 @@
 #!/usr/bin/env bash
-# Programs on a stack of 2 MiB: they write what they write on any other. Run after `rt check` or `rt ci`, which leave the programs in target/bin.
-# deep_chain examines, snapshots and measures a sound chain of 254 levels. recorded/long.in has the deepest chains that calls can make, to
-# level 253, made, reported and removed through frames; inspect shows each state of them, and is held to the digest of what the Rust shows.
+# Programs on a stack of 2 MiB, which is what a thread of the kiosk's Rust has: they write what they write on any other.
+# deep_chain holds the deepest sound tree. long.in has chains to level 253, the deepest that calls can make: they are made, reported, taken out and
+# restored by `counter`, and `inspect` also writes each tree, its lists and its figures.
 set -u
 cd "$(dirname "$0")/.." || exit 2
 . tests/run.bash
+kib=2048
 
-on_small_stack deep_chain < /dev/null | cmp - crates/deep_chain/stdout
-expect $? "deep_chain"
-on_small_stack counter < recorded/long.in | cmp - recorded/long.out
-expect $? "counter on recorded/long.in"
-on_small_stack inspect < recorded/long.in | sha256sum | sed 's/-$/inspect on long.in/' | grep -qxFf recorded/digests.txt
-expect $? "inspect on recorded/long.in"
-exit $((failures > 0))
+run_on_stack $kib deep_chain < /dev/null | cmp - crates/deep_chain/stdout
+tried $? "deep_chain on a stack of 2 MiB"
+run_on_stack $kib counter < recorded/long.in | cmp - recorded/long.out
+tried $? "counter, with chains to level 253, on a stack of 2 MiB"
+run_on_stack $kib inspect < recorded/long.in | sha256sum | cut -d ' ' -f 1 |
+  cmp - <(sed -n 's/  inspect on long.in$//p' recorded/digests.txt)
+tried $? "inspect, with chains to level 253, on a stack of 2 MiB"
+exit $status

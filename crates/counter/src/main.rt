@@ -49,7 +49,8 @@ fn serve(desk: Desk, chunk: &[u8]) -> Served
 }
 
 // A read brings as much as is there. A proved loop has to end, and nothing says that an input does: so it counts its reads down, from a number
-// that no run uses up.
+// that no run uses up. An answer that can't be written is the last. The kit gives a program no exit status: only where nobody reads the
+// answers any more does the system end it with one.
 fn main() {
     let mut desk = Desk::start();
     let mut reads = u64::MAX;

@@ -20,7 +20,7 @@ use piece::parttype::PartType;
 use table::LIMIT;
 
 // The bytes of the longest snapshot: 13 for each place.
-const SNAPSHOT: usize = 3315;
+const SNAPSHOT: usize = 13 * LIMIT;
 
 pub enum Listing {
     Free,
@@ -45,6 +45,7 @@ pub fn answer(out: &mut [u8; ROOM], pen: Pen, line: [u8; LONGEST], count: usize)
     p
 }
 
+// The tree's snapshot.
 pub fn snapshot(out: &mut [u8; ROOM], pen: Pen, layout: Layout) -> Pen {
     let mut p = put(out, pen, b' ');
     let mut bytes = [0u8; SNAPSHOT];
@@ -90,7 +91,7 @@ pub fn marks(out: &mut [u8; ROOM], pen: Pen, layout: Layout, listing: Listing) -
     if i == 0 { missing(out, p) } else { p }
 }
 
-// The bits of a usage. It is a number; the language asks that this be seen, and gives none to what is not.
+// The bits of a usage. It is never a NaN, and `to_bits` asks that this be seen.
 fn bits(usage: f64) -> u64 {
     if usage == usage {
         f64::to_bits(usage)
@@ -120,6 +121,7 @@ pub fn figures(out: &mut [u8; ROOM], pen: Pen, layout: Layout) -> Pen {
     put_eight(out, three, bits(tree))
 }
 
+// The numbers of the parts held, by place.
 pub fn part_numbers(out: &mut [u8; ROOM], pen: Pen, layout: Layout) -> Pen {
     let mut p = put(out, pen, b' ');
     let mut numbers = [0u16; LIMIT];
