@@ -1,7 +1,7 @@
--- The steps of `book` together: each step's needs follow from `Bookable`, and what they leave is the booking of specs/Book.antt.
--- Assumes nothing.
-use mathlib.Core.Path.{_≡_, refl}
-use mathlib.Core.List.{List, _++_}
+-- The steps of `book` together: each step's needs follow from `Bookable`, and what they leave is the booking of specs/Book.antt. The areas come to
+-- the free list as a column, which says what the table says. Assumes nothing.
+use mathlib.Core.Path.{_≡_, refl, ap, _∙_}
+use mathlib.Core.List.{List, [], _∷_, _++_}
 use Prim.Native.Nat.{ℕ, _+_, _≤_, _<_}
 use native.Mathlib.Omega.{arith}
 use lib.ListN.{getD, length, length-append}
@@ -10,15 +10,25 @@ use Rattle.piece.specs.declared.size.Size.{Size}
 use Rattle.piece.specs.declared.insertion_blueprint.InsertionShape.{InsertionShape}
 use Rattle.piece.proofs.Blocks.{new-nodes-few}
 use Rattle.table.specs.declared.Node.{Node}
-use Rattle.table.specs.Table.{at, unlink}
+use Rattle.table.specs.Table.{append, at, unlink}
+use Rattle.table.proofs.Touch.{append-length, unlink-length}
+use Rattle.walks.specs.Columns.{areasOf}
 use Rattle.register.specs.declared.listing.Listing.{Listing}
 use Rattle.register.specs.declared.LayoutNodes.{LayoutNodes}
-use Rattle.register.specs.Listings.{Kept, areaIn, cut, entriesOf, listing, putAll}
+use Rattle.register.specs.Listings.{Kept, areaAt, areaIn, cut, entriesOf, listing, putAll}
 use Rattle.register.proofs.Listed.{entries-are, kept-as}
+use Rattle.register.proofs.Areas.{areas-are}
 use Rattle.booking.specs.declared.new_nodes.NewNodes.{NewNodes}
+use Rattle.booking.specs.declared.new_nodes.NewNode.{NewNode}
+use Rattle.booking.specs.declared.new_nodes.Site.{Site}
 use Rattle.booking.specs.NewNodes.{appendEach, enrolments, freesOf, noNew, those}
-use Rattle.booking.specs.Book.{Bookable, booked, bookedWith, lessParent, newAt}
+use Rattle.booking.specs.Book.{Bookable, booked, bookedWith, lessParent, newAt, newOf, newPlaces, siteLeft, siteOf}
 use Rattle.booking.proofs.Made.{new-at-count}
+
+each-length : (ns : List NewNode) (t : List Node) → length (appendEach limit t ns) ≡ length t
+each-length [] t = refl
+each-length (n ∷ ns) t =
+    each-length ns (append limit t (n .under) (n .place) (n .datum)) ∙ append-length limit t (n .under) (n .place) (n .datum)
 
 module _ (n : LayoutNodes) (x : ℕ) (shape : InsertionShape) (size : Size) (number last : ℕ) where
   abbrev gone : List Node
@@ -29,6 +39,13 @@ module _ (n : LayoutNodes) (x : ℕ) (shape : InsertionShape) (size : Size) (num
 
   abbrev parent : ℕ
   parent = at (n .nodes) x .parent
+
+  -- the nodes that the steps make
+  pub new-by : (left : List Node) {places : List ℕ} {site : Site} {new : NewNodes} → places ≡ newPlaces left
+      → site ≡ siteLeft (at (n .nodes) x) (at left parent) places number last → new ≡ newOf (at (n .nodes) x) site shape size
+      → new ≡ newAt (n .nodes) left x shape size number last
+  unfolding newAt siteOf
+  new-by left p s e = rw (e, s, p) refl
 
   module _ (b : Bookable n x shape size number last) {left : List Node} {new : NewNodes} (l : left ≡ gone)
       (e : new ≡ newAt (n .nodes) left x shape size number last) where
@@ -61,14 +78,21 @@ module _ (n : LayoutNodes) (x : ℕ) (shape : InsertionShape) (size : Size) (num
         let room : length kept + length (enrolments (those made)) ≤ limit = rw length-append at (b .removableRoom) in
         (kept-as kept is (omega (arith, room)), new-few, rw (is, new-is) room)
 
-  module _ {left table : List Node} {new : NewNodes} {less free fewer removable : Listing}
+  module _ (len : length (n .nodes) ≡ limit) {left table : List Node} {areas : List ℕ} {new : NewNodes} {less free fewer removable : Listing}
       (l : left ≡ gone)
       (e : new ≡ newAt (n .nodes) left x shape size number last)
       (t : table ≡ appendEach limit left (those new))
+      (a : areas ≡ areasOf table)
       (c : less ≡ listing (cut (entriesOf (n .free)) x))
-      (p : free ≡ listing (putAll (areaIn table) (entriesOf less) (freesOf (those new))))
+      (p : free ≡ listing (putAll (areaAt areas) (entriesOf less) (freesOf (those new))))
       (f : fewer ≡ listing (lessParent left parent (entriesOf (n .removable))))
       (r : removable ≡ listing (entriesOf fewer ++ enrolments (those new))) where
+    table-length : length table ≡ limit
+    table-length = ap length t ∙ each-length (those new) left ∙ ap length l ∙ unlink-length limit (n .nodes) x ∙ len
+
+    column : areaAt areas ≡ areaIn table
+    column = ap areaAt a ∙ areas-are table table-length
+
     pub booked-by : record { nodes = record { nodes = table; free = free; removable = removable }; new = new }
         ≡ booked n x shape size number last
     unfolding booked bookedWith
@@ -76,6 +100,7 @@ module _ (n : LayoutNodes) (x : ℕ) (shape : InsertionShape) (size : Size) (num
         rw (
           r,
           p,
+          column,
           entries-are (cut (entriesOf (n .free)) x) c,
           entries-are (lessParent left parent (entriesOf (n .removable))) f,
           t,

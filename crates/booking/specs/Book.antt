@@ -27,31 +27,46 @@ lowestOf t (suc i) = lowestFrom limit t (lowestOf t i + 1)
 unfoldable pub newPlaces : List Node → List ℕ
 newPlaces t = lowestOf t 0 ∷ lowestOf t 1 ∷ lowestOf t 2 ∷ lowestOf t 3 ∷ lowestOf t 4 ∷ []
 
+-- no child hangs under the node
+abbrev pub bare : Node → Bool
+bare n = leb limit (n .first)
+
 -- no child hangs under q
 abbrev pub noChild : List Node → ℕ → Bool
-noChild t q = leb limit (at t q .first)
+noChild t q = bare (at t q)
 
--- the site that the piece at x leaves, in the table t, when it has gone, which is the table left
-unfoldable pub siteOf : (t left : List Node) → (x number last : ℕ) → Site
-siteOf t left x number last =
+-- the site that the node old leaves, where up is its parent when it has gone, and these are the places
+abbrev pub siteLeft : (old up : Node) → List ℕ → (number last : ℕ) → Site
+siteLeft old up places number last =
     record {
-      under = at t x .parent;
-      alone = noChild left (at t x .parent);
-      level = at t x .datum .level;
-      places = newPlaces left;
+      under = old .parent;
+      alone = bare up;
+      level = old .datum .level;
+      places = places;
       serial = last + 1;
       number = number;
     }
 
--- the nodes that a shape makes at the site
-unfoldable pub newAt : (t left : List Node) → ℕ → InsertionShape → Size → (number last : ℕ) → NewNodes
-newAt t left x shape size number last =
-    addAll (siteOf t left x number last) (record { list = replicate 5 noNew; count = 0 })
-    (listed outside (at t x .datum .cut) (blockOf shape (at t x .datum .cut) (at t x .datum .size) size))
+-- the site that the piece at x leaves, in the table t, when it has gone, which is the table left
+unfoldable pub siteOf : (t left : List Node) → (x number last : ℕ) → Site
+siteOf t left x number last = siteLeft (at t x) (at left (at t x .parent)) (newPlaces left) number last
 
--- "a parent that loses its last child is taken out"
+-- the nodes that a shape makes of the node old at a site
+abbrev pub newOf : Node → Site → InsertionShape → Size → NewNodes
+newOf old site shape size =
+    addAll site (record { list = replicate 5 noNew; count = 0 })
+    (listed outside (old .datum .cut) (blockOf shape (old .datum .cut) (old .datum .size) size))
+
+-- and at the site that the piece at x leaves
+unfoldable pub newAt : (t left : List Node) → ℕ → InsertionShape → Size → (number last : ℕ) → NewNodes
+newAt t left x shape size number last = newOf (at t x) (siteOf t left x number last) shape size
+
+-- "a parent that loses its last child is taken out": the parent is at q, and up is what it is then
+abbrev pub lessUp : Node → ℕ → List ℕ → List ℕ
+lessUp up q ys = cond (bare up) (strike ys q) ys
+
 abbrev pub lessParent : List Node → ℕ → List ℕ → List ℕ
-lessParent left q ys = cond (noChild left q) (strike ys q) ys
+lessParent left q ys = lessUp (at left q) q ys
 
 unfoldable pub bookedWith : LayoutNodes → List Node → ℕ → NewNodes → Booked
 bookedWith n left x new =

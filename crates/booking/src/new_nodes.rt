@@ -1,15 +1,15 @@
-// The nodes that a booking makes, in creation order, and what becomes of them in the table and in the lists.
+// The nodes that a booking makes, in creation order: their places, what they are, and what becomes of them in the lists.
 ghost use mathlib.Core.Path.{_≡_};
 ghost use mathlib.Core.Bool.{cond};
 ghost use mathlib.Core.List.{_++_};
-ghost use Prim.Native.Nat.{ℕ, _+_, _<_, _≤_};
-ghost use lib.ListN.{getD, length, replicate, take};
+ghost use Prim.Native.Nat.{_+_, _<_, _≤_};
+ghost use lib.ListN.{length, replicate, take};
 ghost use Rattle.lists.specs.Lists.{limit};
 ghost use Rattle.tree.specs.Tree.{isFree, isPart};
-ghost use Rattle.register.specs.Listings.{Kept, areaIn, entriesOf, listing, putAll};
+ghost use Rattle.register.specs.Listings.{Kept, areaAt, entriesOf, listing, putAll};
 ghost use Rattle.booking.specs.Book.{newPlaces};
 ghost use Rattle.booking.specs.NewNodes as spec;
-ghost use Rattle.booking.specs.NewNodes.{addAll, appendEach, enrolments, freesOf, nextNode, noNew, siteNode, those};
+ghost use Rattle.booking.specs.NewNodes.{addAll, enrolments, freesOf, nextNode, noNew, siteNode, those};
 use piece::insertion_blueprint::InsertionBlueprint;
 use piece::insertion_blueprint::InsertionNode;
 use piece::node::Datum;
@@ -18,9 +18,8 @@ use piece::orientation::Orientation;
 use piece::size::Size;
 use register::listing::Listing;
 use table::LIMIT;
+use table::NONE;
 use table::Node;
-use table::places::append;
-use table::places::unheld;
 
 // A node to be made: the place of its parent, whether it is the first child of that one, its own place, and what it is.
 pub struct NewNode {
@@ -205,41 +204,37 @@ pub fn new_nodes(blueprint: InsertionBlueprint, site: Site) -> NewNodes
     new
 }
 
-// The places that new nodes get one after the other: each is the lowest unheld one past the one before.
+// The places that new nodes get one after the other: each is the lowest unheld one past the one before, and NONE or more where there is none.
 pub fn new_places(nodes: [Node; LIMIT]) -> [u16; 5]
     ensures { λ r. ⌜ r ≡ newPlaces nodes ⌝ }
 {
-    let p0 = unheld(nodes, 0);
-    let p1 = unheld(nodes, p0 + 1);
-    let p2 = unheld(nodes, p1 + 1);
-    let p3 = unheld(nodes, p2 + 1);
-    let p4 = unheld(nodes, p3 + 1);
-    [p0, p1, p2, p3, p4]
-}
-
-// They come into the table, one after the other.
-pub fn plant(nodes: [Node; LIMIT], new: NewNodes) -> [Node; LIMIT]
-    requires { ⌜ (new .count ≤ 5) × ((i : ℕ) → i < new .count → (getD (new .list) i noNew .under < limit) × (getD (new .list) i noNew .place < limit)) ⌝ }
-    ensures { λ r. ⌜ r ≡ appendEach limit nodes (those new) ⌝ }
-{
-    let count = new.count;
-    let list = new.list;
-    let mut t = nodes;
-    let mut i: usize = 0;
-    while i < count {
-        let n = list[i];
-        let d = n.datum;
-        let more = append(t, n.under, n.place, d);
-        t = more;
-        i += 1;
+    let mut places = [0u16; 5];
+    let mut from: u16 = 0;
+    let mut k: usize = 0;
+    while k < 5 {
+        let mut i = from;
+        let place = loop {
+            if NONE <= i {
+                break i;
+            }
+            let at = i as usize;
+            let n = nodes[at];
+            if n.datum.serial == 0 {
+                break i;
+            }
+            i += 1;
+        };
+        places[k] = place;
+        from = place + 1;
+        k += 1;
     }
-    t
+    places
 }
 
-// Those that are free come into the free list, by their areas in the table.
-pub fn put_frees(free: Listing, nodes: [Node; LIMIT], new: NewNodes) -> Listing
+// Those that are free come into the free list, by their areas in the column.
+pub fn put_frees(free: Listing, areas: &[u64; LIMIT], new: NewNodes) -> Listing
     requires { ⌜ Kept free × (new .count ≤ 5) × (free .count + new .count ≤ limit) ⌝ }
-    ensures { λ r. ⌜ r ≡ listing (putAll (areaIn nodes) (entriesOf free) (freesOf (those new))) ⌝ }
+    ensures { λ r. ⌜ r ≡ listing (putAll (areaAt (now (areas .entry))) (entriesOf free) (freesOf (those new))) ⌝ }
 {
     let count = new.count;
     let list = new.list;
@@ -248,7 +243,7 @@ pub fn put_frees(free: Listing, nodes: [Node; LIMIT], new: NewNodes) -> Listing
     while i < count {
         let n = list[i];
         if n.is_free() {
-            let more = l.put(nodes, n.place);
+            let more = l.put(areas, n.place);
             l = more;
         }
         i += 1;

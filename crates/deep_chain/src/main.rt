@@ -2,10 +2,9 @@
 // this on one of 2 MiB.
 ghost use Prim.Native.Nat.{_<_};
 use layout::layout::Layout;
-use layout::replies::AreaAnswer;
-use layout::replies::CountAnswer;
-use layout::replies::LightAnswer;
-use layout::replies::UsageAnswer;
+use looks::replies::AreaAnswer;
+use looks::replies::CountAnswer;
+use looks::replies::UsageAnswer;
 use piece::node::Datum;
 use piece::node::Kind;
 use piece::orientation::Orientation;
@@ -120,12 +119,15 @@ fn main() {
     if l.sound() {
         io::write_all(libc::STDOUT_FILENO, b"sound\n");
     }
-    say(b"nodes ", count_in(l.nodes_held()));
-    say(b"used area ", area_in(l.used_area()));
-    say(b"free area ", area_in(l.free_area()));
-    say(b"sheet usage ", usage_in(l.sheet_usage()));
-    say(b"tree usage ", usage_in(l.tree_usage()));
-    say(b"snapshot ", count_in(l.snapshot(&mut out)));
+    say(b"nodes ", count_in(looks::figures::nodes_held(l)));
+    say(b"used area ", area_in(looks::figures::used_area(l)));
+    say(b"free area ", area_in(looks::figures::free_area(l)));
+    say(b"sheet usage ", usage_in(looks::figures::sheet_usage(l)));
+    say(b"tree usage ", usage_in(looks::figures::tree_usage(l)));
+    say(
+        b"snapshot ",
+        count_in(looks::written::snapshot(l, &mut out)),
+    );
     say(b"its last node's level ", wide(out[3302]));
     say(b"its last node's kind ", wide(out[3303]));
     say(b"its last node's number ", wide(out[3306]));

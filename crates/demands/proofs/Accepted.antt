@@ -36,7 +36,7 @@ use Rattle.layout.specs.declared.replies.Outcome.the-variants.{Done}
 use Rattle.layout.specs.declared.replies.Sought.{Sought}
 use Rattle.layout.specs.declared.replies.Sought.the-variants as sought
 use Rattle.layout.specs.Check.{limit, maxSerial, tree, sideB, soundB}
-use Rattle.layout.specs.Answers.{partB, soughtOf}
+use Rattle.layout.specs.Asked.{partB, soughtOf}
 use Rattle.layout.specs.SoundLayout.{SoundLayout, Sized}
 use Rattle.layout.specs.Refusing.{orElse}
 use Rattle.layout.specs.Insert.{InsertDone, InsertSays, Insertable, bookNo, bookingFor, insertIs, insertNo, pieceAt, pieceNo}

@@ -1,5 +1,5 @@
 -- Demand 3: "Part area plus free area is the sheet, throughout." On every sound layout; and so after an opening, after every `insert` and `remove` on
--- a sound layout, accepted or refused, and after a `restore`. It rests on tree's law `area-conserved`, by layout's FiguresSay.
+-- a sound layout, accepted or refused, and after a `restore`. It rests on tree's law `area-conserved`, by looks' FiguresSay.
 use mathlib.Core.Path.{_≡_, refl, sym, ap, subst}
 use mathlib.Core.Bool.{Bool, true, false, cond}
 use mathlib.Core.List.{List}
@@ -26,7 +26,6 @@ use Rattle.layout.specs.declared.remove.Removed.{Removed}
 use Rattle.layout.specs.declared.restore.Restored.{Restored}
 use Rattle.layout.specs.declared.open.Opening.the-variants.{Free, Refused}
 use Rattle.layout.specs.declared.replies.Outcome.the-variants.{Done}
-use Rattle.layout.specs.declared.replies.AreaAnswer.the-variants.{Area}
 use Rattle.layout.specs.Check.{tree, domainB, soundB}
 use Rattle.layout.specs.SoundLayout.{SoundLayout, Sized}
 use Rattle.layout.specs.Open.{freshLayout, openOf}
@@ -35,11 +34,12 @@ use Rattle.layout.specs.Next.{Next}
 use Rattle.layout.specs.Insert.{InsertSays, bookingFor, insertIs, insertNo}
 use Rattle.layout.specs.Remove.{RemoveSays, removeIs, removeNo}
 use Rattle.layout.specs.Restore.{greater, refusedRestore, restoreOf, withSerial}
-use Rattle.layout.specs.Answers.{usedAreaOf, freeAreaOf}
 use Rattle.layout.proofs.Exactly.{sound-says, sound-shown}
-use Rattle.layout.proofs.FiguresSay.{areas-cover}
 use Rattle.layout.proofs.Opened.{fresh-sized, fresh-sound}
 use Rattle.layout.proofs.Restored.{restored-sound}
+use Rattle.looks.specs.declared.replies.AreaAnswer.the-variants.{Area}
+use Rattle.looks.specs.Answers.{usedAreaOf, freeAreaOf}
+use Rattle.looks.proofs.FiguresSay.{areas-cover}
 use Rattle.demands.specs.Calls.{AreasCover, OpenAccepted, RestoreAccepted}
 
 -- on every sound layout

@@ -23,9 +23,9 @@ use Rattle.layout.specs.declared.insert.Inserted.{Inserted}
 use Rattle.layout.specs.declared.remove.Removed.{Removed}
 use Rattle.layout.specs.Check.{tree}
 use Rattle.layout.specs.SoundLayout.{Sized}
-use Rattle.layout.specs.Written.{snapshotBytes}
 use Rattle.layout.specs.Insert.{bookingFor, pieceAt}
 use Rattle.layout.specs.Remove.{placeFor}
+use Rattle.looks.specs.Written.{snapshotBytes}
 use Rattle.demands.specs.Calls.{InsertAccepted, RemoveAccepted, SameTree}
 use Rattle.demands.proofs.Accepted.{InsertMeans, RemoveMeans, accepted-insert, accepted-remove}
 

@@ -22,8 +22,8 @@ use Rattle.layout.specs.declared.layout.Layout.{Layout}
 use Rattle.layout.specs.declared.insert.Inserted.{Inserted}
 use Rattle.layout.specs.Check.{limit, tree}
 use Rattle.layout.specs.SoundLayout.{Sized}
-use Rattle.layout.specs.Written.{snapshotBytes}
 use Rattle.layout.specs.Insert.{Insertable, bookingFor, pieceAt}
+use Rattle.looks.specs.Written.{snapshotBytes}
 use Rattle.demands.specs.Calls.{InsertAccepted, SameTree}
 use Rattle.demands.proofs.Accepted.{InsertMeans, accepted-insert}
 

@@ -22,7 +22,6 @@ use Rattle.answers.specs.declared.Refusal.{Refusal}
 use Rattle.answers.specs.declared.Refusal.the-variants.{Gone}
 use Rattle.layout.specs.declared.layout.Layout.{Layout}
 use Rattle.layout.specs.declared.replies.Outcome.the-variants.{Refused}
-use Rattle.layout.specs.declared.replies.CountAnswer.the-variants as counts
 use Rattle.layout.specs.declared.replies.Sought.the-variants as sought
 use Rattle.layout.specs.declared.open.Opening.the-variants as opening
 use Rattle.layout.specs.declared.insert.Inserted.{Inserted}
@@ -31,11 +30,13 @@ use Rattle.layout.specs.Check.{limit, tree, soundB}
 use Rattle.layout.specs.SoundLayout.{Sized, SoundLayout}
 use Rattle.layout.specs.Zero.{zeroLayout}
 use Rattle.layout.specs.Open.{openOf}
-use Rattle.layout.specs.Answers.{offersCall, partB, soughtOf}
-use Rattle.layout.specs.Written.{answerTo, heldNumbers, leftIn, snapshotBytes}
+use Rattle.layout.specs.Asked.{partB, soughtOf}
 use Rattle.layout.specs.Insert.{InsertSays, insertNo, pieceAt}
 use Rattle.layout.specs.Remove.{RemoveSays, numbersLeft, removeNo}
 use Rattle.layout.specs.Restore.{restoreOf}
+use Rattle.looks.specs.declared.replies.CountAnswer.the-variants as counts
+use Rattle.looks.specs.Answers.{offersCall}
+use Rattle.looks.specs.Written.{answerTo, heldNumbers, leftIn, snapshotBytes}
 use Rattle.demands.specs.Life.{Given, Later, Life, Names, OneOf, SamePiece}
 use Rattle.demands.specs.Calls.{AreasCover, InsertAccepted, RemoveAccepted, SameTree}
 use Rattle.demands.proofs.Lives as lives

@@ -17,12 +17,13 @@ use Rattle.layout.specs.declared.replies.Outcome.the-variants.{Refused}
 use Rattle.layout.specs.declared.replies.Sought.the-variants as sought
 use Rattle.layout.specs.Check.{soundB}
 use Rattle.layout.specs.SoundLayout.{SoundLayout}
-use Rattle.layout.specs.Answers.{partB, goneB, soughtOf, offersCall}
+use Rattle.layout.specs.Asked.{partB, goneB, soughtOf}
 use Rattle.layout.specs.Insert.{insertNo, pieceAt}
 use Rattle.layout.specs.Remove.{removeNo}
 use Rattle.layout.proofs.Exactly.{sound-shown}
 use Rattle.layout.proofs.Marks.{sought-names}
 use Rattle.layout.proofs.Ways.{onward, ended}
+use Rattle.looks.specs.Answers.{offersCall}
 use Rattle.demands.specs.Life.{OneOf, Life, Later, Names, SamePiece}
 use Rattle.demands.proofs.Lives.{states-sound, one-number, one-piece}
 

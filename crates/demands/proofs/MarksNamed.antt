@@ -1,6 +1,6 @@
 -- Demand 1, every mark that a call answers names a piece of the layout that it hands back, and of the kind that is meant: the opening's free
 -- piece; a booking's first node, part and free pieces; a removal's free piece; and what a position of a list gives. It rests on the block of a
--- booking (tree), the new piece of a removal (removal) and layout's laws of marks. Assumes nothing.
+-- booking (tree), the new piece of a removal (removal) and looks' laws of marks. Assumes nothing.
 use mathlib.Core.Path.{_≡_, refl, sym, ap, _∙_}
 use mathlib.Core.Bool.{Bool, true, false, cond}
 use mathlib.Core.List.{_∷_, _++_, List·Memᴰ, List·Memᴰ·head, List·Memᴰ·not-nil, List·Memᴰ·cases-cons, List·Memᴰ·append-cases}
@@ -40,19 +40,19 @@ use Rattle.answers.specs.declared.Refusal.{Refusal}
 use Rattle.layout.specs.declared.layout.Layout.{Layout}
 use Rattle.layout.specs.declared.open.Opening.the-variants as opening
 use Rattle.layout.specs.declared.replies.Outcome.the-variants.{Done}
-use Rattle.layout.specs.declared.replies.MarkAnswer.{MarkAnswer}
-use Rattle.layout.specs.declared.replies.MarkAnswer.the-variants as answer
 use Rattle.layout.specs.declared.insert.Inserted.{Inserted}
 use Rattle.layout.specs.declared.remove.Removed.{Removed}
 use Rattle.layout.specs.Check.{limit, tree, soundB}
 use Rattle.layout.specs.SoundLayout.{SoundLayout, Sized}
-use Rattle.layout.specs.Answers.{freeMarkOf, removableMarkOf}
 use Rattle.layout.specs.Open.{freshLayout, openOf}
 use Rattle.layout.specs.Insert.{bookingFor, pieceAt, Insertable, InsertDone, InsertSays}
 use Rattle.layout.specs.Remove.{placeFor, RemoveSays}
 use Rattle.layout.proofs.Listed.{piece-is}
 use Rattle.layout.proofs.Opened.{fresh-tree, fresh-sound}
-use Rattle.layout.proofs.Marks.{free-mark-names, removable-mark-names}
+use Rattle.looks.specs.declared.replies.MarkAnswer.{MarkAnswer}
+use Rattle.looks.specs.declared.replies.MarkAnswer.the-variants as answer
+use Rattle.looks.specs.Answers.{freeMarkOf, removableMarkOf}
+use Rattle.looks.proofs.ListMarks.{free-mark-names, removable-mark-names}
 use Rattle.demands.specs.Life.{Names}
 use Rattle.demands.proofs.Outcomes.{is-free, is-part, opened-so, insert-done, remove-done}
 

@@ -28,7 +28,7 @@ use Rattle.layout.specs.declared.replies.Sought.the-variants as sought
 use Rattle.layout.specs.declared.insert.Inserted.{Inserted}
 use Rattle.layout.specs.declared.remove.Removed.{Removed}
 use Rattle.layout.specs.Check.{limit, tree, maxSerial, domainB, soundB}
-use Rattle.layout.specs.Answers.{partB, soughtOf}
+use Rattle.layout.specs.Asked.{partB, soughtOf}
 use Rattle.layout.specs.SoundLayout.{SoundLayout, Sized}
 use Rattle.layout.specs.Open.{freshLayout, openOf}
 use Rattle.layout.specs.Refusing.{orElse}

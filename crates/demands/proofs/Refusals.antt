@@ -19,7 +19,6 @@ use Rattle.answers.specs.declared.Refusal.{Refusal}
 use Rattle.layout.specs.declared.layout.Layout.{Layout}
 use Rattle.layout.specs.declared.open.Opening.the-variants as opening
 use Rattle.layout.specs.declared.replies.Outcome.the-variants.{Refused}
-use Rattle.layout.specs.declared.replies.CountAnswer.the-variants as counts
 use Rattle.layout.specs.declared.insert.Inserted.{Inserted}
 use Rattle.layout.specs.declared.remove.Removed.{Removed}
 use Rattle.layout.specs.Check.{domainB, soundB}
@@ -28,7 +27,8 @@ use Rattle.layout.specs.Open.{openOf}
 use Rattle.layout.specs.Insert.{bookingFor, insertIs, insertNo, InsertSays}
 use Rattle.layout.specs.Remove.{numbersLeft, removeIs, removeNo, RemoveSays}
 use Rattle.layout.specs.Restore.{restoreOf}
-use Rattle.layout.specs.Written.{answerTo, heldNumbers, leftIn, snapshotBytes}
+use Rattle.looks.specs.declared.replies.CountAnswer.the-variants as counts
+use Rattle.looks.specs.Written.{answerTo, heldNumbers, leftIn, snapshotBytes}
 
 -- insert: the layout as it came, and zero marks
 pub insert-refused : (l : Layout) (m : Mark) (p : PartType) (r : Rotation) (s : InsertionShape) (a : Inserted) (e : Refusal)

@@ -15,8 +15,8 @@ use Rattle.layout.specs.declared.layout.Layout.{Layout}
 use Rattle.layout.specs.declared.remove.Removed.{Removed}
 use Rattle.layout.specs.Check.{limit, tree}
 use Rattle.layout.specs.SoundLayout.{SoundLayout, Sized}
-use Rattle.layout.specs.Written.{snapshotBytes}
 use Rattle.layout.specs.Remove.{placeFor}
+use Rattle.looks.specs.Written.{snapshotBytes}
 use Rattle.demands.specs.Calls.{RemoveAccepted, SameTree}
 use Rattle.demands.proofs.Accepted.{RemoveMeans, accepted-remove}
 

@@ -1,6 +1,6 @@
 -- Document 01, "How tight the contracts are": "For each call its contract determines the answer and the lent bytes afterwards, refusals too". Two
--- answers of a public call of `layout` that meet its contract are the same, and so is what they leave in a lent buffer; the next layout is a
--- part of the answer. layout's Determined has the theorem for each call; here are also the public tests `side_ok`, `domain_ok` and `part_ok`.
+-- answers of a public call of `layout` or `looks` that meet its contract are the same, and so is what they leave in a lent buffer; the next
+-- layout is a part of the answer. Determined of each has the theorem for each call; here are also the public tests `side_ok`, `domain_ok` and `part_ok`.
 -- There is no exception.
 use mathlib.Core.Path.{_≡_, sym, _∙_}
 use mathlib.Core.Bool.{Bool}
@@ -8,11 +8,12 @@ use Prim.Native.Nat.{ℕ}
 use Rattle.piece.specs.declared.size.Size.{Size}
 use Rattle.piece.specs.declared.parttype.PartType.{PartType}
 use Rattle.layout.specs.Check.{domainB, sideB}
-use Rattle.layout.specs.Answers.{partB}
+use Rattle.layout.specs.Asked.{partB}
 pub use Rattle.layout.proofs.Determined.{open-is-one, insert-is-one, remove-is-one, remove-leaves-one, restore-is-one, zero-is-one}
-pub use Rattle.layout.proofs.Determined.{sound-is-one, used-area-is-one, free-area-is-one, nodes-held-is-one, sheet-usage-is-one, tree-usage-is-one, is-empty-is-one}
-pub use Rattle.layout.proofs.Determined.{free-mark-is-one, removable-mark-is-one, sought-is-one, room-light-is-one, offers-is-one}
-pub use Rattle.layout.proofs.Determined.{snapshot-is-one, snapshot-leaves-one, part-numbers-is-one, part-numbers-leaves-one}
+pub use Rattle.layout.proofs.Determined.{sound-is-one, sought-is-one}
+pub use Rattle.looks.proofs.Determined.{used-area-is-one, free-area-is-one, nodes-held-is-one, sheet-usage-is-one, tree-usage-is-one, is-empty-is-one}
+pub use Rattle.looks.proofs.Determined.{free-mark-is-one, removable-mark-is-one, room-light-is-one, offers-is-one}
+pub use Rattle.looks.proofs.Determined.{snapshot-is-one, snapshot-leaves-one, part-numbers-is-one, part-numbers-leaves-one}
 
 pub side-ok-is-one : (side : ℕ) (a b : Bool) → a ≡ sideB side → b ≡ sideB side → a ≡ b
 side-ok-is-one side a b h k = h ∙ sym k

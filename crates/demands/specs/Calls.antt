@@ -17,14 +17,14 @@ use Rattle.layout.specs.declared.insert.Inserted.{Inserted}
 use Rattle.layout.specs.declared.remove.Removed.{Removed}
 use Rattle.layout.specs.declared.restore.Restored.{Restored}
 use Rattle.layout.specs.declared.replies.Outcome.the-variants.{Done}
-use Rattle.layout.specs.declared.replies.AreaAnswer.the-variants.{Area}
 use Rattle.layout.specs.Check.{tree}
-use Rattle.layout.specs.Answers.{usedAreaOf, freeAreaOf}
-use Rattle.layout.specs.Written.{snapshotBytes}
 use Rattle.layout.specs.Open.{openOf}
 use Rattle.layout.specs.Insert.{InsertSays}
 use Rattle.layout.specs.Remove.{RemoveSays}
 use Rattle.layout.specs.Restore.{restoreOf}
+use Rattle.looks.specs.declared.replies.AreaAnswer.the-variants.{Area}
+use Rattle.looks.specs.Answers.{usedAreaOf, freeAreaOf}
+use Rattle.looks.specs.Written.{snapshotBytes}
 
 -- `insert` of the part p, in rotation r and shape s, into the piece that m names, on the layout l, answers a and is not refused
 pub record InsertAccepted (l : Layout) (m : Mark) (p : PartType) (r : Rotation) (s : InsertionShape) (a : Inserted) : Type 0 where

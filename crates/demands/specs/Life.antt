@@ -21,7 +21,6 @@ use Rattle.answers.specs.declared.Mark.{Mark}
 use Rattle.layout.specs.declared.layout.Layout.{Layout}
 use Rattle.layout.specs.declared.open.Opening.the-variants.{Free}
 use Rattle.layout.specs.declared.replies.Outcome.the-variants.{Done}
-use Rattle.layout.specs.declared.replies.MarkAnswer.the-variants.{Found}
 use Rattle.layout.specs.declared.insert.Inserted.{Inserted}
 use Rattle.layout.specs.declared.remove.Removed.{Removed}
 use Rattle.layout.specs.Check.{limit, tree}
@@ -30,7 +29,8 @@ use Rattle.layout.specs.Open.{openOf}
 use Rattle.layout.specs.Insert.{InsertSays, pieceAt}
 use Rattle.layout.specs.Remove.{RemoveSays}
 use Rattle.layout.specs.Restore.{restoreOf}
-use Rattle.layout.specs.Answers.{freeMarkOf, removableMarkOf}
+use Rattle.looks.specs.declared.replies.MarkAnswer.the-variants.{Found}
+use Rattle.looks.specs.Answers.{freeMarkOf, removableMarkOf}
 
 -- l is one of the states
 abbrev pub OneOf : Layout → List Layout → Type 0

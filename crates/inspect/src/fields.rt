@@ -1,5 +1,5 @@
 // The seven fields of a line, each '-' where it is empty or missing, all but the first after a space. What frames don't show comes from the
-// layout's public calls alone; a layout that isn't sound refuses them, and so its fields are missing.
+// calls of `looks` alone; a layout that isn't sound refuses them, and so its fields are missing.
 use crate::pen::Pen;
 use crate::pen::ROOM;
 use crate::pen::put;
@@ -11,11 +11,11 @@ use answers::Mark;
 use frames::Request;
 use frames::write::LONGEST;
 use layout::layout::Layout;
-use layout::replies::AreaAnswer;
-use layout::replies::CountAnswer;
-use layout::replies::LightAnswer;
-use layout::replies::MarkAnswer;
-use layout::replies::UsageAnswer;
+use looks::replies::AreaAnswer;
+use looks::replies::CountAnswer;
+use looks::replies::LightAnswer;
+use looks::replies::MarkAnswer;
+use looks::replies::UsageAnswer;
 use piece::parttype::PartType;
 use table::LIMIT;
 
@@ -49,7 +49,7 @@ pub fn answer(out: &mut [u8; ROOM], pen: Pen, line: [u8; LONGEST], count: usize)
 pub fn snapshot(out: &mut [u8; ROOM], pen: Pen, layout: Layout) -> Pen {
     let mut p = put(out, pen, b' ');
     let mut bytes = [0u8; SNAPSHOT];
-    let CountAnswer::Count(count) = layout.snapshot(&mut bytes) else {
+    let CountAnswer::Count(count) = looks::written::snapshot(layout, &mut bytes) else {
         return missing(out, p);
     };
     let n = count as usize;
@@ -72,8 +72,8 @@ fn put_mark(out: &mut [u8; ROOM], pen: Pen, mark: Mark) -> Pen {
 
 fn mark_at(layout: Layout, listing: Listing, position: u16) -> MarkAnswer {
     match listing {
-        Listing::Free => layout.free_mark(position),
-        Listing::Removable => layout.removable_mark(position),
+        Listing::Free => looks::positions::free_mark(layout, position),
+        Listing::Removable => looks::positions::removable_mark(layout, position),
     }
 }
 
@@ -103,16 +103,16 @@ fn bits(usage: f64) -> u64 {
 // Used area, free area, and the bits of the sheet's usage and the tree's.
 pub fn figures(out: &mut [u8; ROOM], pen: Pen, layout: Layout) -> Pen {
     let p = put(out, pen, b' ');
-    let AreaAnswer::Area(used) = layout.used_area() else {
+    let AreaAnswer::Area(used) = looks::figures::used_area(layout) else {
         return missing(out, p);
     };
-    let AreaAnswer::Area(free) = layout.free_area() else {
+    let AreaAnswer::Area(free) = looks::figures::free_area(layout) else {
         return missing(out, p);
     };
-    let UsageAnswer::Usage(sheet) = layout.sheet_usage() else {
+    let UsageAnswer::Usage(sheet) = looks::figures::sheet_usage(layout) else {
         return missing(out, p);
     };
-    let UsageAnswer::Usage(tree) = layout.tree_usage() else {
+    let UsageAnswer::Usage(tree) = looks::figures::tree_usage(layout) else {
         return missing(out, p);
     };
     let one = put_eight(out, p, used);
@@ -125,7 +125,7 @@ pub fn figures(out: &mut [u8; ROOM], pen: Pen, layout: Layout) -> Pen {
 pub fn part_numbers(out: &mut [u8; ROOM], pen: Pen, layout: Layout) -> Pen {
     let mut p = put(out, pen, b' ');
     let mut numbers = [0u16; LIMIT];
-    let CountAnswer::Count(count) = layout.part_numbers(&mut numbers) else {
+    let CountAnswer::Count(count) = looks::written::part_numbers(layout, &mut numbers) else {
         return missing(out, p);
     };
     let n = count as usize;
@@ -141,7 +141,7 @@ pub fn part_numbers(out: &mut [u8; ROOM], pen: Pen, layout: Layout) -> Pen {
 }
 
 fn light_for(out: &mut [u8; ROOM], pen: Pen, layout: Layout, part: PartType) -> Pen {
-    match layout.room_light(part) {
+    match looks::room::room_light(layout, part) {
         LightAnswer::Says(yes) => {
             let p = put_byte(out, pen, 0);
             put_byte(out, p, if yes { 1 } else { 0 })

@@ -28,7 +28,7 @@ use Rattle.layout.specs.declared.replies.Outcome.the-variants.{Done, Ref
 use Rattle.layout.specs.declared.replies.Sought.{Sought}
 use Rattle.layout.specs.declared.replies.Sought.the-variants as sought
 use Rattle.layout.specs.Check.{limit, maxSerial, tree, soundB}
-use Rattle.layout.specs.Answers.{partB, soughtOf}
+use Rattle.layout.specs.Asked.{partB, soughtOf}
 use Rattle.layout.specs.SoundLayout.{SoundLayout, Sized}
 use Rattle.layout.specs.Refusing.{outcomeOf}
 use Rattle.layout.specs.Insert.{InsertDone, InsertSays, Insertable, bookNo, bookingFor, insertNo, pieceAt, pieceNo, refusedInsert}

@@ -48,7 +48,7 @@ use Rattle.booking.proofs.Stands.{book-bookable, book-stands, book-list, book-n
 use Rattle.layout.specs.declared.layout.Layout.{Layout}
 use Rattle.layout.specs.declared.replies.Outcome.the-variants.{Done}
 use Rattle.layout.specs.Check.{limit, sideB, tree}
-use Rattle.layout.specs.Answers.{partB}
+use Rattle.layout.specs.Asked.{partB}
 use Rattle.layout.specs.Parts.{nodesOf, withNodes}
 use Rattle.layout.specs.Next.{Next, removables}
 use Rattle.layout.specs.Insert.{Insertable, InsertDone, bookingFor, pieceAt}

@@ -1,10 +1,10 @@
--- The contract of each call determines its answer, and the lent buffer where there is one: two answers that meet it are the same.
+-- The contract of each call determines its answer, and the lent buffer where there is one: two answers that meet it are the same. (Of the calls that
+-- only read a layout crate `looks` says so.)
 use mathlib.Core.Path.{_≡_, sym, _∙_}
 use mathlib.Core.Bool.{Bool}
 use mathlib.Core.List.{List}
 use mathlib.Core.Option.{Option, none, some}
 use Prim.Native.Nat.{ℕ}
-use lib.ListN.{length}
 use Rattle.piece.specs.declared.size.Size.{Size}
 use Rattle.piece.specs.declared.orientation.Orientation.{Orientation}
 use Rattle.piece.specs.declared.rotation.Rotation.{Rotation}
@@ -15,13 +15,7 @@ use Rattle.answers.specs.declared.Mark.{Mark}
 use Rattle.answers.specs.declared.Refusal.{Refusal}
 use Rattle.layout.specs.declared.layout.Layout.{Layout}
 use Rattle.layout.specs.declared.open.Opened.{Opened}
-use Rattle.layout.specs.declared.replies.AreaAnswer.{AreaAnswer}
-use Rattle.layout.specs.declared.replies.CountAnswer.{CountAnswer}
-use Rattle.layout.specs.declared.replies.UsageAnswer.{UsageAnswer}
-use Rattle.layout.specs.declared.replies.LightAnswer.{LightAnswer}
-use Rattle.layout.specs.declared.replies.MarkAnswer.{MarkAnswer}
 use Rattle.layout.specs.declared.replies.Sought.{Sought}
-use Rattle.layout.specs.declared.replies.OffersAnswer.{OffersAnswer}
 use Rattle.layout.specs.declared.restore.Restored.{Restored}
 use Rattle.layout.specs.declared.insert.Inserted.{Inserted}
 use Rattle.layout.specs.declared.remove.Removed.{Removed}
@@ -29,68 +23,21 @@ use Rattle.layout.specs.Check.{soundB}
 use Rattle.layout.specs.Zero.{zeroLayout}
 use Rattle.layout.specs.Open.{openOf}
 use Rattle.layout.specs.Restore.{restoreOf}
-use Rattle.layout.specs.Answers.{usedAreaOf, freeAreaOf, nodesHeldOf, sheetUsageOf, treeUsageOf, isEmptyOf, freeMarkOf, removableMarkOf, soughtOf, lightOf, offersCall}
+use Rattle.layout.specs.Asked.{soughtOf}
 use Rattle.layout.specs.Insert.{InsertSays, bookingFor, insertIs, insertNo}
 use Rattle.layout.specs.Remove.{RemoveSays, numbersLeft, removeIs, removeNo}
-use Rattle.layout.specs.Written.{answerTo, leftIn, snapshotBytes, heldNumbers}
 use Rattle.layout.proofs.Changed.{next-is-one}
 
 -- what is the same as one thing is the same
-only : {A : Type 0} {x : A} (r s : A) → r ≡ x → s ≡ x → r ≡ s
+pub only : {A : Type 0} {x : A} (r s : A) → r ≡ x → s ≡ x → r ≡ s
 only r s p q = p ∙ sym q
 
 module _ (l : Layout) where
   pub sound-is-one : (r s : Bool) → r ≡ soundB l → s ≡ soundB l → r ≡ s
   sound-is-one = only
 
-  pub used-area-is-one : (r s : AreaAnswer) → r ≡ usedAreaOf l → s ≡ usedAreaOf l → r ≡ s
-  used-area-is-one = only
-
-  pub free-area-is-one : (r s : AreaAnswer) → r ≡ freeAreaOf l → s ≡ freeAreaOf l → r ≡ s
-  free-area-is-one = only
-
-  pub nodes-held-is-one : (r s : CountAnswer) → r ≡ nodesHeldOf l → s ≡ nodesHeldOf l → r ≡ s
-  nodes-held-is-one = only
-
-  pub sheet-usage-is-one : (r s : UsageAnswer) → r ≡ sheetUsageOf l → s ≡ sheetUsageOf l → r ≡ s
-  sheet-usage-is-one = only
-
-  pub tree-usage-is-one : (r s : UsageAnswer) → r ≡ treeUsageOf l → s ≡ treeUsageOf l → r ≡ s
-  tree-usage-is-one = only
-
-  pub is-empty-is-one : (r s : LightAnswer) → r ≡ isEmptyOf l → s ≡ isEmptyOf l → r ≡ s
-  is-empty-is-one = only
-
-  pub free-mark-is-one : (k : ℕ) (r s : MarkAnswer) → r ≡ freeMarkOf l k → s ≡ freeMarkOf l k → r ≡ s
-  free-mark-is-one k = only
-
-  pub removable-mark-is-one : (k : ℕ) (r s : MarkAnswer) → r ≡ removableMarkOf l k → s ≡ removableMarkOf l k → r ≡ s
-  removable-mark-is-one k = only
-
   pub sought-is-one : (m : Mark) (r s : Sought) → r ≡ soughtOf l m → s ≡ soughtOf l m → r ≡ s
   sought-is-one m = only
-
-  pub room-light-is-one : (p : PartType) (r s : LightAnswer) → r ≡ lightOf l p → s ≡ lightOf l p → r ≡ s
-  room-light-is-one p = only
-
-  pub offers-is-one : (m : Mark) (p : PartType) (r s : OffersAnswer) → r ≡ offersCall l m p → s ≡ offersCall l m p → r ≡ s
-  offers-is-one m p = only
-
-  -- of the calls that write: the answer, and what the buffer `out` then holds
-  module _ (out : List ℕ) where
-    pub snapshot-is-one : (r s : CountAnswer) → r ≡ answerTo l (snapshotBytes l) (length out)
-        → s ≡ answerTo l (snapshotBytes l) (length out) → r ≡ s
-    snapshot-is-one = only
-
-    pub snapshot-leaves-one : (a b : List ℕ) → a ≡ leftIn l (snapshotBytes l) out → b ≡ leftIn l (snapshotBytes l) out → a ≡ b
-    snapshot-leaves-one = only
-
-    pub part-numbers-is-one : (r s : CountAnswer) → r ≡ answerTo l (heldNumbers l) (length out)
-        → s ≡ answerTo l (heldNumbers l) (length out) → r ≡ s
-    part-numbers-is-one = only
-
-    pub part-numbers-leaves-one : (a b : List ℕ) → a ≡ leftIn l (heldNumbers l) out → b ≡ leftIn l (heldNumbers l) out → a ≡ b
-    part-numbers-leaves-one = only
 
 pub open-is-one : (number : ℕ) (size : Size) (cut : Orientation) (stages : ℕ) (r s : Opened)
     → r ≡ openOf number size cut stages → s ≡ openOf number size cut stages → r ≡ s

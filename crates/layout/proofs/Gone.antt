@@ -22,7 +22,7 @@ use Rattle.layout.specs.declared.replies.Sought.{Sought}
 use Rattle.layout.specs.declared.replies.Sought.the-variants as sought
 use Rattle.layout.specs.declared.remove.Removed.{Removed}
 use Rattle.layout.specs.Check.{limit, tree, soundB}
-use Rattle.layout.specs.Answers.{soughtOf}
+use Rattle.layout.specs.Asked.{soughtOf}
 use Rattle.layout.specs.SoundLayout.{SoundLayout, Sized}
 use Rattle.layout.specs.Refusing.{orElse}
 use Rattle.layout.specs.Remove.{RemoveDone, RemoveSays, Takeable, goNo, goingNo, numbersLeft, numbersOut, placeFor}

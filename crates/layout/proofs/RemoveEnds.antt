@@ -19,7 +19,7 @@ use Rattle.layout.specs.declared.replies.Outcome.the-variants.{Done, Ref
 use Rattle.layout.specs.declared.replies.Sought.the-variants as sought
 use Rattle.layout.specs.declared.remove.Removed.{Removed}
 use Rattle.layout.specs.Check.{soundB, maxSerial}
-use Rattle.layout.specs.Answers.{soughtOf}
+use Rattle.layout.specs.Asked.{soughtOf}
 use Rattle.layout.specs.SoundLayout.{Sized}
 use Rattle.layout.specs.Refusing.{outcomeOf}
 use Rattle.layout.specs.Remove.{RemoveSays, Takeable, goNo, numbersLeft, numbersOut, outAfter, refusedRemove, removeIs, removeNo, roomNo}

@@ -36,7 +36,7 @@ use Rattle.layout.specs.Check.{limit, tree}
 use Rattle.layout.specs.Parts.{nodesOf, withNodes}
 use Rattle.layout.specs.Next.{Next, removables}
 use Rattle.layout.specs.Remove.{Leaving, Takeable, numbersOut, placeFor}
-use Rattle.layout.proofs.Figured.{used-small}
+use Rattle.layout.proofs.Areas.{used-small}
 use Rattle.layout.proofs.Changed.{layout-stands, stands-next}
 
 -- as many entries as were asked for

@@ -31,7 +31,7 @@ use Rattle.layout.specs.declared.replies.Sought.{Sought}
 use Rattle.layout.specs.declared.replies.Sought.the-variants as sought
 use Rattle.layout.specs.declared.insert.Inserted.{Inserted}
 use Rattle.layout.specs.Check.{limit, tree, soundB}
-use Rattle.layout.specs.Answers.{partB, soughtOf}
+use Rattle.layout.specs.Asked.{partB, soughtOf}
 use Rattle.layout.specs.SoundLayout.{SoundLayout, Sized}
 use Rattle.layout.specs.Next.{Next, removables}
 

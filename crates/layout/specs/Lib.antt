@@ -2,8 +2,7 @@ pub mod Check
 pub mod SoundLayout
 pub mod Zero
 pub mod Open
-pub mod Answers
-pub mod Written
+pub mod Asked
 pub mod Restore
 pub mod Next
 pub mod Refusing

@@ -1,34 +1,6 @@
-// The answers of the calls that only read. An array stands beside its enum, as the language asks.
-use answers::Mark;
+// What the calls share in their answers: what a mark names, and whether a call that changes a layout was done.
 use answers::Refusal;
-use piece::insertion_option::OfferList;
 use piece::node::Datum;
-
-pub enum AreaAnswer {
-    Area(u64),
-    Refused(Refusal),
-}
-
-pub enum CountAnswer {
-    Count(u16),
-    Refused(Refusal),
-}
-
-pub enum UsageAnswer {
-    Usage(f64),
-    Refused(Refusal),
-}
-
-// The room light, and whether a layout is empty.
-pub enum LightAnswer {
-    Says(bool),
-    Refused(Refusal),
-}
-
-pub enum MarkAnswer {
-    Found(Mark),
-    Refused(Refusal),
-}
 
 // What a mark names.
 pub enum Sought {
@@ -39,10 +11,4 @@ pub enum Sought {
 pub enum Outcome {
     Done,
     Refused(Refusal),
-}
-
-// With no offers where it is refused.
-pub struct OffersAnswer {
-    pub outcome: Outcome,
-    pub offers: OfferList,
 }

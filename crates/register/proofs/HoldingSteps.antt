@@ -11,8 +11,11 @@ use lib.ListN.{getD, length}
 use Rattle.piece.specs.declared.node.Datum.{Datum}
 use Rattle.piece.specs.Row.{nil, grow}
 use Rattle.tree.specs.Tree.{Tree, At, In, count}
+use Rattle.tree.proofs.Rows.{at-in}
 use Rattle.table.proofs.Pigeon.{low-filled, low-most}
+use Rattle.lists.specs.Lists.{limit}
 use Rattle.register.specs.Pieces.{Pieces, piecesOf, Holding}
+use Rattle.register.specs.Spots.{Single}
 use Rattle.register.specs.Listings.{spot, cut, strike, push, strikeAll, Names}
 use Rattle.register.proofs.ListSteps.{Absent, spot-case, cut-absent, strike-absent}
 use Rattle.register.proofs.ListSteps.{Up, down-of, up-of, up-order, Wider, up-in, down-in, push-wider, Fewer, cut-fewer, strike-fewer}
@@ -216,6 +219,14 @@ module _ (P : Datum → Type 0) (w : Tree) (l : List ℕ) (h : Holding P (pieces
       (filled (length l) (renamed (spot l) w)
       (λ k b. let g = h .each k b in
       rw (spot-back k b) at (renamed-in (spot l) (getD l k 0) (g .0) w (g .1))))
+
+  -- each entry is a place, and none stands twice
+  pub holding-single : ((p : ℕ) → In p w → p < limit) → Single l
+  holding-single placed =
+      record {
+        low = λ k b. let g = h .each k b in placed (getD l k 0) (at-in (getD l k 0) (g .0) w (g .1));
+        once = h .once;
+      }
 
   -- and the piece that the list lacks comes last
   pub holding-room : (p : ℕ) (d : Datum) → At p d w → (P d → ⊥) → length l < count w

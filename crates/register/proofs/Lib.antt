@@ -2,5 +2,9 @@ pub mod ListSteps
 pub mod HoldingSteps
 pub mod FreeSteps
 pub mod Listed
+pub mod Areas
+pub mod Naming
+pub mod Lookup
+pub mod OnePass
 pub mod Family
 pub mod Worked

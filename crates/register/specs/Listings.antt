@@ -60,6 +60,10 @@ putAll areas xs (p ∷ ps) = putAll areas (put areas xs p) ps
 abbrev pub areaIn : List Node → ℕ → ℕ
 areaIn t p = area (at t p .datum .size)
 
+-- the area at a place of a column, and 0 where there is no such place. Of the column of a table it is the area in the table (proofs/Areas.antt)
+abbrev pub areaAt : List ℕ → ℕ → ℕ
+areaAt areas p = cond (ltb p limit) (getD areas p 0) 0
+
 -- a list as the code holds it: its entries, and zeros up to the limit
 abbrev pub listing : List ℕ → Listing
 listing xs = record { list = padded limit xs; count = length xs }

@@ -6,6 +6,7 @@ use table::LIMIT;
 use table::Node;
 
 pub mod listing;
+pub mod spots;
 
 pub struct LayoutNodes {
     pub nodes: [Node; LIMIT],

@@ -3,8 +3,12 @@ ghost use mathlib.Core.Path.{_≡_};
 ghost use Prim.Native.Nat.{_<_, _≤_};
 ghost use Rattle.lists.specs.Lists.{limit};
 ghost use Rattle.walks.specs.Along.{entries};
+ghost use Rattle.walks.specs.Columns.{areasOf};
 ghost use Rattle.register.specs.Listings as spec;
-ghost use Rattle.register.specs.Listings.{Kept, areaIn, berth, cutAll, entriesOf, listing, strikeAll};
+ghost use Rattle.register.specs.Spots.{Single};
+ghost use Rattle.register.specs.Listings.{Kept, areaAt, berth, cutAll, entriesOf, listing, strikeAll};
+use crate::spots::spot_in;
+use crate::spots::spots_of;
 use lists::LIMIT;
 use lists::search::index_of;
 use lists::search::wide;
@@ -67,49 +71,67 @@ impl Listing {
         }
     }
 
-    // Several places are cut out, or struck out, one after the other: those at the first `count` entries of the order.
+    // Several places are cut out, one after the other: those at the first `count` entries of the order. As no place stands twice in the list, one
+    // pass that leaves them out does it.
     pub fn cut_all(self, order: &[u16; LIMIT], count: usize) -> Listing
-        requires { ⌜ Kept self × (count ≤ limit) ⌝ }
+        requires { ⌜ Kept self × (count ≤ limit) × Single (entriesOf self) ⌝ }
         ensures { λ r. ⌜ r ≡ listing (cutAll (entriesOf self) (entries count (now (order .entry)))) ⌝ }
     {
-        let mut l = self;
+        let old = self.list;
+        let n = self.count;
+        let spots = spots_of(order, count);
+        let mut list = [0u16; LIMIT];
+        let mut kept: usize = 0;
         let mut i: usize = 0;
-        while i < count {
-            let shorter = l.cut(order[i]);
-            l = shorter;
+        while i < n {
+            let place = old[i];
+            let p = wide(place);
+            if count <= spots[p] {
+                list[kept] = place;
+                kept += 1;
+            }
             i += 1;
         }
-        l
+        Listing { list, count: kept }
     }
 
+    // They are struck out. A column says where each entry stands; the final entry, which goes into the hole, stands there then.
     pub fn strike_all(self, order: &[u16; LIMIT], count: usize) -> Listing
-        requires { ⌜ Kept self × (count ≤ limit) ⌝ }
+        requires { ⌜ Kept self × (count ≤ limit) × Single (entriesOf self) ⌝ }
         ensures { λ r. ⌜ r ≡ listing (strikeAll (entriesOf self) (entries count (now (order .entry)))) ⌝ }
     {
-        let mut l = self;
+        let mut list = self.list;
+        let mut n = self.count;
+        let mut spots = spots_of(&list, n);
         let mut i: usize = 0;
         while i < count {
-            let shorter = l.strike(order[i]);
-            l = shorter;
+            let at = spot_in(&list, n, &spots, order[i]);
+            if at < n {
+                let last = n - 1;
+                let v = wide(list[last]);
+                spots[v] = at;
+                swap_out(&mut list, n, at);
+                n = last;
+            }
             i += 1;
         }
-        l
+        Listing { list, count: n }
     }
 
     // The first index with a smaller area than that of the place, or the count.
-    fn berth(self, nodes: [Node; LIMIT], place: u16) -> usize
+    fn berth(self, areas: &[u64; LIMIT], place: u16) -> usize
         requires { ⌜ Kept self ⌝ }
-        ensures { λ r. ⌜ r ≡ berth (areaIn nodes) (entriesOf self) place ⌝ }
+        ensures { λ r. ⌜ r ≡ berth (areaAt (now (areas .entry))) (entriesOf self) place ⌝ }
     {
         let list = self.list;
         let count = self.count;
-        let area = area_in(nodes, place);
+        let area = area_at(areas, place);
         let mut i: usize = 0;
         let found = loop {
             if count <= i {
                 break count;
             }
-            if area_in(nodes, list[i]) < area {
+            if area_at(areas, list[i]) < area {
                 break i;
             }
             i += 1;
@@ -117,14 +139,14 @@ impl Listing {
         found
     }
 
-    // A place that is newer than all others is put in where its area belongs; the areas are those of the table.
-    pub fn put(self, nodes: [Node; LIMIT], place: u16) -> Listing
+    // A place that is newer than all others is put in where its area belongs; the areas come as a column.
+    pub fn put(self, areas: &[u64; LIMIT], place: u16) -> Listing
         requires { ⌜ Kept self × (self .count < limit) ⌝ }
-        ensures { λ r. ⌜ r ≡ listing (spec.put (areaIn nodes) (entriesOf self) place) ⌝ }
+        ensures { λ r. ⌜ r ≡ listing (spec.put (areaAt (now (areas .entry))) (entriesOf self) place) ⌝ }
     {
         let mut list = self.list;
         let count = self.count;
-        let at = self.berth(nodes, place);
+        let at = self.berth(areas, place);
         insert_at(&mut list, count, at, place);
         Listing {
             list,
@@ -133,17 +155,26 @@ impl Listing {
     }
 }
 
-// The area of the piece at a place, and 0 where there is no such place.
-fn area_in(nodes: [Node; LIMIT], place: u16) -> u64
-    ensures { λ r. ⌜ r ≡ areaIn nodes place ⌝ }
+// The column of the areas, taken out of the nodes once, so that it can be lent.
+pub fn areas_of(nodes: [Node; LIMIT]) -> [u64; LIMIT]
+    ensures { λ r. ⌜ r ≡ areasOf nodes ⌝ }
 {
-    let p = wide(place);
-    if p < LIMIT {
-        let n = nodes[p];
+    let mut areas = [0u64; LIMIT];
+    let mut i: usize = 0;
+    while i < LIMIT {
+        let n = nodes[i];
         let d = n.datum;
         let size = d.size;
-        size.area()
-    } else {
-        0
+        areas[i] = size.area();
+        i += 1;
     }
+    areas
+}
+
+// The area at a place of the column, and 0 where there is no such place.
+fn area_at(areas: &[u64; LIMIT], place: u16) -> u64
+    ensures { λ r. ⌜ r ≡ areaAt (now (areas .entry)) place ⌝ }
+{
+    let p = wide(place);
+    if p < LIMIT { areas[p] } else { 0 }
 }

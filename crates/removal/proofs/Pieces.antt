@@ -1,7 +1,7 @@
 -- The pieces that a removal leaves: those that are none of what goes, and the free piece that comes. It rests on the row of the piece that goes
 -- (Row), and on what `table` says of a tree that has other children at one piece (put).
 use mathlib.Core.Path.{_≡_, refl, subst}
-use mathlib.Core.List.{List, [], _∷_, _++_}
+use mathlib.Core.List.{List, [], _∷_}
 use mathlib.Core.Bool.{Bool, true, false, cond, _&&_}
 use mathlib.Core.Logic.{_⊎_, inl, inr, ⊎-elim}
 use Prim.Native.Nat.{ℕ, _+_, _<_}
@@ -26,39 +26,26 @@ use Rattle.table.proofs.Links.{in-at}
 use Rattle.table.proofs.Rep.{last-cases, last-after, bound, shows}
 use Rattle.table.proofs.Removal.{freeEnd, FreeLeaves, cleared-at}
 use Rattle.register.specs.Listings.{Names}
+use Rattle.register.proofs.Naming.{names-cases, names-first, names-second}
 use Rattle.removal.specs.Going.{Goes}
 use Rattle.removal.specs.Remove.{newFree}
 use Rattle.removal.proofs.Row.{RowOf, whole, rest, new-is, row-of, end-alone}
 use Rattle.removal.proofs.Goes.{goes-all, row-parents}
 
--- ---- the places that a list names
+-- ---- the places that go
 
 module _ (i : ℕ) where
-  pub names-cases : (xs ys : List ℕ) → Names i (xs ++ ys) → Names i xs ⊎ Names i ys
-  names-cases [] ys h = inr h
-  names-cases (x ∷ xs) ys (inl e) = inl (inl e)
-  names-cases (x ∷ xs) ys (inr h) = ⊎-elim (λ y. inl (inr y)) inr (names-cases xs ys h)
-
-  pub names-first : (xs ys : List ℕ) → Names i xs → Names i (xs ++ ys)
-  names-first [] ys h = absurd h
-  names-first (x ∷ xs) ys (inl e) = inl e
-  names-first (x ∷ xs) ys (inr h) = inr (names-first xs ys h)
-
-  pub names-second : (xs ys : List ℕ) → Names i ys → Names i (xs ++ ys)
-  names-second [] ys h = h
-  names-second (x ∷ xs) ys h = inr (names-second xs ys h)
-
   -- a row that leaves: its places are those of the row
   pub leaving-in : (k : Tree) → Names i (leaving k) → In i k
   leaving-in nil h = h
   leaving-in (grow p d k r) h =
-      ⊎-elim (λ y. inr (inl (leaving-in k y))) (λ y. ⊎-elim inl (λ v. inr (inr (leaving-in r v))) y) (names-cases (leaving k) (p ∷ leaving r) h)
+      ⊎-elim (λ y. inr (inl (leaving-in k y))) (λ y. ⊎-elim inl (λ v. inr (inr (leaving-in r v))) y) (names-cases i (leaving k) (p ∷ leaving r) h)
 
   pub in-leaving : (k : Tree) → In i k → Names i (leaving k)
   in-leaving nil h = h
-  in-leaving (grow p d k r) (inl e) = names-second (leaving k) (p ∷ leaving r) (inl e)
-  in-leaving (grow p d k r) (inr (inl h)) = names-first (leaving k) (p ∷ leaving r) (in-leaving k h)
-  in-leaving (grow p d k r) (inr (inr h)) = names-second (leaving k) (p ∷ leaving r) (inr (in-leaving r h))
+  in-leaving (grow p d k r) (inl e) = names-second i (leaving k) (p ∷ leaving r) (inl e)
+  in-leaving (grow p d k r) (inr (inl h)) = names-first i (leaving k) (p ∷ leaving r) (in-leaving k h)
+  in-leaving (grow p d k r) (inr (inr h)) = names-second i (leaving k) (p ∷ leaving r) (inr (in-leaving r h))
 
   -- the free piece at the end of a row
   end-in : (b : Tree) → Names i (freeEnd b) → In i b

@@ -134,7 +134,7 @@ module _ (stages : ℕ) (sheet : Size) (t : List Node) (w : Tree) (sound : Sound
         new : (i : ℕ) (e : Datum) → (i ≡ n) × (e ≡ newFree t x last) → isFree (e .kind) ≡ true
         new i e v = ap (λ (c : Datum). isFree (c .kind)) (v .1) ∙ ap isFree (new-free t x last)
 
-    pub remove-removable : RemovableList w′ (returned (unlinkAll limit t (going t x w)) (at t x .parent) struck)
+    pub remove-removable : RemovableList w′ (returned (at (unlinkAll limit t (going t x w)) q) q struck)
     unfolding returned
     remove-removable = go (leb limit (at (unlinkAll limit t (going t x w)) q .first))
       where
@@ -151,7 +151,7 @@ module _ (stages : ℕ) (sheet : Size) (t : List Node) (w : Tree) (sound : Sound
         go false = struck-removable
 
     -- it is the list that document 01's rule gives
-    pub returned-is : returned (unlinkAll limit t (going t x w)) (at t x .parent) struck ≡ removedList limit x w ys
+    pub returned-is : returned (at (unlinkAll limit t (going t x w)) q) q struck ≡ removedList limit x w ys
     unfolding returned removedList
     returned-is =
         rw (struck-is, parent-bare, hangs)

@@ -30,7 +30,7 @@ use Rattle.register.specs.Family.{newPlace}
 use Rattle.register.specs.Enrolment.{removedList}
 use Rattle.register.specs.Standing.{Stands}
 use Rattle.register.proofs.Listed.{entries-listing, kept-listing}
-use Rattle.register.proofs.HoldingSteps.{holding-most}
+use Rattle.register.proofs.HoldingSteps.{holding-most, holding-single}
 use Rattle.register.proofs.Family.{lowest-is, fresh-removal}
 use Rattle.removal.specs.Remove.{newFree, returned, removedFrom, removed, Clearable}
 use Rattle.removal.proofs.Pieces.{goes, parent-low, last-low}
@@ -94,7 +94,7 @@ module _ (stages : ℕ) (sheet : Size) (last : ℕ) (w : Tree) (n : LayoutNodes)
       (λ i e y. ap (λ (f : Datum). area (f .size)) (datum-is limit table limit limit i e after (table-is .rep) y))
 
   abbrev solids : List ℕ
-  solids = returned left (at (n .nodes) x .parent) (strikeAll (entriesOf (n .removable)) g)
+  solids = let q = at (n .nodes) x .parent in returned (at left q) q (strikeAll (entriesOf (n .removable)) g)
 
   solid-is : RemovableList after solids
   solid-is =
@@ -104,7 +104,7 @@ module _ (stages : ℕ) (sheet : Size) (last : ℕ) (w : Tree) (n : LayoutNodes)
   rooms : (P : Datum → Type 0) (l : List ℕ) → Holding P (piecesOf after) l → length l ≤ limit
   rooms P l h = omega (arith, holding-most P after l h, sound-is .room)
 
-  -- no index is out of bounds, and nothing overflows
+  -- no index is out of bounds, nothing overflows, and no list names a place twice
   pub remove-clearable : Clearable n g x last
   remove-clearable =
       record {
@@ -113,6 +113,8 @@ module _ (stages : ℕ) (sheet : Size) (last : ℕ) (w : Tree) (n : LayoutNodes)
         ended = last-low limit stages sheet (n .nodes) w (stands .sound) (stands .holds) x z;
         freeKept = stands .freeKept;
         removableKept = stands .removableKept;
+        freeSingle = holding-single _ w (entriesOf (n .free)) (stands .free .holding) (stands .sound .placed);
+        removableSingle = holding-single _ w (entriesOf (n .removable)) (stands .removable) (stands .sound .placed);
         goes = goes limit stages sheet (n .nodes) w (stands .sound) (stands .holds) x z;
         some = place-room stages sheet (n .nodes) w (stands .sound) (stands .holds) x z;
         freeRoom = free-room stages sheet (n .nodes) w (stands .sound) (stands .holds) x z (entriesOf (n .free)) (stands .free);

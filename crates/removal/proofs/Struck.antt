@@ -7,18 +7,17 @@ use native.Mathlib.Omega.{arith}
 use lib.ListN.{length}
 use borrow.Author.Tests.{le-leb, lt-leb}
 use Rattle.table.specs.declared.Node.{Node}
-use Rattle.table.specs.Table.{at}
 use Rattle.lists.specs.Lists.{limit}
 use Rattle.register.specs.declared.listing.Listing.{Listing}
 use Rattle.register.specs.Listings.{Kept, entriesOf, listing, push, strike}
 use Rattle.register.proofs.Listed.{entries-are, kept-as, strike-length-most}
 use Rattle.removal.specs.Remove.{returned}
 
-module _ (left : List Node) (q : ℕ) (ys : List ℕ) where
+module _ (parent : Node) (q : ℕ) (ys : List ℕ) where
   -- the parent has still a child
-  pub stays : at left q .first < limit → listing ys ≡ listing (returned left q ys)
+  pub stays : parent .first < limit → listing ys ≡ listing (returned parent q ys)
   unfolding returned
-  stays h = rw (lt-leb limit (at left q .first) h) refl
+  stays h = rw (lt-leb limit (parent .first) h) refl
 
   -- it has none: m holds the list so far, and w is what is left without the parent
   module _ {m w : Listing} (e : m ≡ listing ys) (f : w ≡ listing (strike (entriesOf m) q)) (room : length ys < limit) where
@@ -31,7 +30,7 @@ module _ (left : List Node) (q : ℕ) (ys : List ℕ) where
     pub struck-room : w .count < limit
     struck-room = omega (arith, strike-length-most ys q, ap (λ (l : Listing). l .count) struck)
 
-    pub comes-back : {r : Listing} → limit ≤ at left q .first → r ≡ listing (push (entriesOf w) q) → r ≡ listing (returned left q ys)
+    pub comes-back : {r : Listing} → limit ≤ parent .first → r ≡ listing (push (entriesOf w) q) → r ≡ listing (returned parent q ys)
     unfolding returned
     comes-back h g =
-        g ∙ ap (λ (zs : List ℕ). listing (push zs q)) (entries-are (strike ys q) struck) ∙ rw (le-leb limit (at left q .first) h) refl
+        g ∙ ap (λ (zs : List ℕ). listing (push zs q)) (entries-are (strike ys q) struck) ∙ rw (le-leb limit (parent .first) h) refl

@@ -1,14 +1,14 @@
 -- A removal of the piece at x, on the nodes and the lists, step by step: what the code computes, where g is what goes. proofs/Stands.antt says that
 -- it is document 01's removal.
-use mathlib.Core.Path.{_≡_}
-use mathlib.Core.Bool.{Bool, cond}
-use mathlib.Core.List.{List, [], _∷_}
+use mathlib.Core.Bool.{cond}
+use mathlib.Core.List.{List}
+use mathlib.Core.Option.{Option, none, some}
 use Prim.Native.Nat.{ℕ, _+_, _≤_, _<_}
 use lib.Dec.{leb}
 use lib.ListN.{length}
 use Rattle.piece.specs.declared.node.Datum.{Datum}
-use Rattle.piece.specs.declared.size.Size.{Size}
 use Rattle.tree.specs.Removal.{freed, board}
+use Rattle.tree.specs.Tree.{isFree}
 use Rattle.table.specs.declared.Node.{Node}
 use Rattle.table.specs.Table.{at, append}
 use Rattle.table.specs.Steps.{freeLastDatum, unlinkAll}
@@ -16,26 +16,33 @@ use Rattle.table.specs.Unheld.{lowestFrom}
 use Rattle.lists.specs.Lists.{limit}
 use Rattle.register.specs.declared.LayoutNodes.{LayoutNodes}
 use Rattle.register.specs.Listings.{Kept, areaIn, cutAll, entriesOf, listing, push, put, strike, strikeAll}
+use Rattle.register.specs.Spots.{Single}
 use Rattle.removal.specs.declared.remove.Cleared.{Cleared}
 use Rattle.removal.specs.Going.{Goes}
+
+-- the last piece of a row, if that is free
+abbrev pub ifFree : Datum → Option Datum
+ifFree e = cond (isFree (e .kind)) (some e) none
 
 -- the free piece that comes: the board of x, with the free piece at the end of its row
 unfoldable pub newFree : List Node → (x last : ℕ) → Datum
 newFree t x last = freed (last + 1) (at t x .datum) (board (at t x .datum) (freeLastDatum t (at t x .parent)))
 
--- the removable list when a parent has lost its last child, and has a child again
-unfoldable pub returned : List Node → ℕ → List ℕ → List ℕ
-returned left q ys = cond (leb limit (at left q .first)) (push (strike ys q) q) ys
+-- the removable list when a parent, which stands at q, has lost its last child, and has a child again
+unfoldable pub returned : Node → ℕ → List ℕ → List ℕ
+returned parent q ys = cond (leb limit (parent .first)) (push (strike ys q) q) ys
 
+-- left is the table when all that goes is unlinked
 unfoldable pub removedFrom : LayoutNodes → (left : List Node) → List ℕ → (x last : ℕ) → Cleared
 removedFrom n left g x last =
+    let q = at (n .nodes) x .parent in
     let p = lowestFrom limit left 0 in
-    let t = append limit left (at (n .nodes) x .parent) p (newFree (n .nodes) x last) in
+    let t = append limit left q p (newFree (n .nodes) x last) in
     record {
       nodes = record {
         nodes = t;
         free = listing (put (areaIn t) (cutAll (entriesOf (n .free)) g) p);
-        removable = listing (returned left (at (n .nodes) x .parent) (strikeAll (entriesOf (n .removable)) g));
+        removable = listing (returned (at left q) q (strikeAll (entriesOf (n .removable)) g));
       };
       place = p;
     }
@@ -43,13 +50,15 @@ removedFrom n left g x last =
 unfoldable pub removed : LayoutNodes → List ℕ → (x last : ℕ) → Cleared
 removed n g x last = removedFrom n (unlinkAll limit (n .nodes) g) g x last
 
--- what the code asks: that no index is out of bounds and no number overflows
+-- what the code asks: that no index is out of bounds, no number overflows, and no list names a place twice
 pub record Clearable (n : LayoutNodes) (g : List ℕ) (x last : ℕ) : Type 0 where
   pub placed : x < limit
   pub hung : at (n .nodes) x .parent < limit
   pub ended : at (n .nodes) (at (n .nodes) x .parent) .last < limit
   pub freeKept : Kept (n .free)
   pub removableKept : Kept (n .removable)
+  pub freeSingle : Single (entriesOf (n .free))
+  pub removableSingle : Single (entriesOf (n .removable))
   pub goes : Goes limit (n .nodes) g
   pub some : lowestFrom limit (unlinkAll limit (n .nodes) g) 0 < limit
   pub freeRoom : length (cutAll (entriesOf (n .free)) g) < limit

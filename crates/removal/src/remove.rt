@@ -1,31 +1,33 @@
 // The removal itself. Rust: `remove_node` of core/entities/layout.rs.
 ghost use mathlib.Core.Path.{_≡_};
-ghost use mathlib.Core.Bool.{cond};
-ghost use mathlib.Core.Option.{none, some};
 ghost use Prim.Native.Nat.{_+_, _≤_, _<_};
 ghost use Rattle.lists.specs.Lists.{limit};
 ghost use lib.ListN.{length};
-ghost use Rattle.tree.specs.Removal.{board, joined};
-ghost use Rattle.tree.specs.Tree.{isFree};
+ghost use Rattle.tree.specs.Removal.{board, freed, joined};
 ghost use Rattle.table.specs.Steps.{unlinkAll};
-ghost use Rattle.table.specs.Table.{at};
 ghost use Rattle.walks.specs.Along.{Placed};
 ghost use Rattle.register.specs.Listings.{Kept, areaIn, cutAll, entriesOf, listing, put, strikeAll};
+ghost use Rattle.register.specs.Spots.{Single};
 ghost use Rattle.removal.specs.Going.{Goes, areaAlong, partArea, places};
-ghost use Rattle.removal.specs.Remove.{Clearable, newFree, removed, returned};
+ghost use Rattle.removal.specs.Remove.{Clearable, ifFree, removed, returned};
 use crate::going::Going;
 use piece::node::Datum;
 use piece::node::Kind;
 use piece::size::Size;
 use register::LayoutNodes;
 use register::listing::Listing;
+use register::listing::areas_of;
 use sound::places::is_free;
 use table::LIMIT;
 use table::NONE;
 use table::Node;
+use table::nodes::no_node;
+use table::nodes::with_first;
+use table::nodes::with_last;
+use table::nodes::with_next;
+use table::nodes::with_prev;
 use table::places::append;
 use table::places::unheld;
-use table::places::unlink;
 
 // The nodes and the lists without the piece; and the place of the new free piece.
 pub struct Cleared {
@@ -33,22 +35,47 @@ pub struct Cleared {
     pub place: u16,
 }
 
-// The places are unlinked one after the other.
+// The places are unlinked one after the other, in one table. A turn is `unlink` of table/src/places.rt, written out: a call would copy the table.
 fn unlink_all(nodes: [Node; LIMIT], g: Going) -> [Node; LIMIT]
     requires { ⌜ (g .count ≤ limit) × Goes limit nodes (places g) ⌝ }
     ensures { λ r. ⌜ r ≡ unlinkAll limit nodes (places g) ⌝ }
 {
     let order = g.order;
     let count = g.count;
-    let mut left = nodes;
-    let mut i: usize = 0;
-    while i < count {
-        let p = order[i];
-        let less = unlink(left, p);
-        left = less;
-        i += 1;
+    let zero = no_node();
+    let mut t = nodes;
+    let mut k: usize = 0;
+    while k < count {
+        let x = order[k];
+        let xi = x as usize;
+        let n = t[xi];
+        let qi = n.parent as usize;
+        let pv = n.prev;
+        let nx = n.next;
+        if NONE <= pv {
+            let up = t[qi];
+            let joined = with_first(up, nx);
+            t[qi] = joined;
+        } else {
+            let i = pv as usize;
+            let before = t[i];
+            let joined = with_next(before, nx);
+            t[i] = joined;
+        }
+        if NONE <= nx {
+            let up = t[qi];
+            let joined = with_last(up, pv);
+            t[qi] = joined;
+        } else {
+            let i = nx as usize;
+            let behind = t[i];
+            let joined = with_prev(behind, pv);
+            t[i] = joined;
+        }
+        t[xi] = zero;
+        k += 1;
     }
-    left
+    t
 }
 
 // The area of a part; another piece has none.
@@ -103,9 +130,8 @@ fn join(d: Datum, e: Datum) -> Size
 
 // The board of d, with the last piece of its row, if that is free.
 fn board_with(d: Datum, end: Datum) -> Size
-    requires { ⌜ (board d (cond (isFree (end .kind)) (some end) none) .width ≤ 4294967295)
-        × (board d (cond (isFree (end .kind)) (some end) none) .height ≤ 4294967295) ⌝ }
-    ensures { λ r. ⌜ r ≡ board d (cond (isFree (end .kind)) (some end) none) ⌝ }
+    requires { ⌜ (board d (ifFree end) .width ≤ 4294967295) × (board d (ifFree end) .height ≤ 4294967295) ⌝ }
+    ensures { λ r. ⌜ r ≡ board d (ifFree end) ⌝ }
 {
     let kind = end.kind;
     if is_free(kind) {
@@ -114,21 +140,12 @@ fn board_with(d: Datum, end: Datum) -> Size
     d.size
 }
 
-// The free piece that comes where x was.
-fn new_free(nodes: [Node; LIMIT], x: u16, last: u32) -> Datum
-    requires { ⌜ (x < limit) × (at nodes x .parent < limit) × (at nodes (at nodes x .parent) .last < limit)
-        × (newFree nodes x last .size .width ≤ 4294967295) × (newFree nodes x last .size .height ≤ 4294967295) × (last ≤ 1000000) ⌝ }
-    ensures { λ r. ⌜ r ≡ newFree nodes x last ⌝ }
+// The free piece that comes where d was, where `end` is the last piece of its row.
+fn new_free(d: Datum, end: Datum, last: u32) -> Datum
+    requires { ⌜ (board d (ifFree end) .width ≤ 4294967295) × (board d (ifFree end) .height ≤ 4294967295) × (last ≤ 1000000) ⌝ }
+    ensures { λ r. ⌜ r ≡ freed (last + 1) d (board d (ifFree end)) ⌝ }
 {
-    let xi = x as usize;
-    let n = nodes[xi];
-    let d = n.datum;
-    let qi = n.parent as usize;
-    let up = nodes[qi];
-    let li = up.last as usize;
-    let end = nodes[li];
-    let e = end.datum;
-    let size = board_with(d, e);
+    let size = board_with(d, end);
     let cut = d.cut;
     Datum {
         serial: last + 1,
@@ -142,25 +159,26 @@ fn new_free(nodes: [Node; LIMIT], x: u16, last: u32) -> Datum
 
 // The free list without the pieces that go and with the new one, which stands at `place` of the table.
 fn free_list(free: Listing, g: Going, nodes: [Node; LIMIT], place: u16) -> Listing
-    requires { ⌜ Kept free × (g .count ≤ limit) × (length (cutAll (entriesOf free) (places g)) < limit) ⌝ }
+    requires { ⌜ Kept free × (g .count ≤ limit) × (length (cutAll (entriesOf free) (places g)) < limit)
+        × Single (entriesOf free) ⌝ }
     ensures { λ r. ⌜ r ≡ listing (put (areaIn nodes) (cutAll (entriesOf free) (places g)) place) ⌝ }
 {
     let order = g.order;
     let count = g.count;
     let shorter = free.cut_all(&order, count);
-    shorter.put(nodes, place)
+    let areas = areas_of(nodes);
+    shorter.put(&areas, place)
 }
 
-// The removable list without the pieces that go. A parent q that has lost its last child is taken out, and returns at once.
-fn removable_list(removable: Listing, g: Going, left: [Node; LIMIT], q: u16) -> Listing
-    requires { ⌜ Kept removable × (g .count ≤ limit) × (length (strikeAll (entriesOf removable) (places g)) < limit) × (q < limit) ⌝ }
-    ensures { λ r. ⌜ r ≡ listing (returned left q (strikeAll (entriesOf removable) (places g))) ⌝ }
+// The removable list without the pieces that go. A parent that has lost its last child is taken out, and returns at once: it stands at q.
+fn removable_list(removable: Listing, g: Going, parent: Node, q: u16) -> Listing
+    requires { ⌜ Kept removable × (g .count ≤ limit) × (length (strikeAll (entriesOf removable) (places g)) < limit)
+        × Single (entriesOf removable) ⌝ }
+    ensures { λ r. ⌜ r ≡ listing (returned parent q (strikeAll (entriesOf removable) (places g))) ⌝ }
 {
     let order = g.order;
     let count = g.count;
     let shorter = removable.strike_all(&order, count);
-    let qi = q as usize;
-    let parent = left[qi];
     if NONE <= parent.first {
         let without = shorter.strike(q);
         return without.push(q);
@@ -179,12 +197,17 @@ pub fn remove(n: LayoutNodes, g: Going, x: u16, last: u32) -> Cleared
     let xi = x as usize;
     let gone = old[xi];
     let q = gone.parent;
+    let qi = q as usize;
+    let above = old[qi];
+    let li = above.last as usize;
+    let end = old[li];
+    let d = new_free(gone.datum, end.datum, last);
     let left = unlink_all(old, g);
+    let parent = left[qi];
     let place = unheld(left, 0);
-    let d = new_free(old, x, last);
     let nodes = append(left, q, place, d);
     let free = free_list(old_free, g, nodes, place);
-    let removable = removable_list(old_removable, g, left, q);
+    let removable = removable_list(old_removable, g, parent, q);
     let whole = LayoutNodes {
         nodes,
         free,

@@ -6,4 +6,5 @@ pub mod Reported
 pub mod AtDesk
 pub mod Laws
 pub mod Decided
+pub mod Kept
 pub mod Uses

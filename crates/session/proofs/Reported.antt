@@ -12,18 +12,18 @@ use Rattle.tree.proofs.Usage.{sheet-positive}
 use Rattle.answers.specs.declared.Refusal.{Refusal}
 use Rattle.answers.specs.declared.Refusal.the-variants.{NotSound}
 use Rattle.layout.specs.declared.layout.Layout.{Layout}
-use Rattle.layout.specs.declared.replies.UsageAnswer.{UsageAnswer}
-use Rattle.layout.specs.declared.replies.UsageAnswer.the-variants.{Usage, Refused}
 use Rattle.layout.specs.Check.{tree, soundB}
-use Rattle.layout.specs.Answers.{sheetUsageOf}
 use Rattle.layout.specs.SoundLayout.{Sized}
 use Rattle.layout.proofs.Exactly.{sound-says}
-use Rattle.layout.proofs.Figured.{used-small}
+use Rattle.layout.proofs.Areas.{used-small}
+use Rattle.looks.specs.declared.replies.UsageAnswer.{UsageAnswer}
+use Rattle.looks.specs.declared.replies.UsageAnswer.the-variants.{Usage, Refused}
+use Rattle.looks.specs.Answers.{sheetUsageOf}
 use Rattle.frames.specs.Answers.{refused, reported}
 use Rattle.frames.specs.declared.Request.the-variants.{Report}
-use Rattle.session.specs.declared.Session.{Session}
-use Rattle.session.specs.declared.Stepped.{Stepped}
-use Rattle.session.specs.Session.{figures, Says, Steps}
+use Rattle.session.specs.declared.replies.Said.{Said}
+use Rattle.session.specs.Session.{figures, Says}
+use Rattle.session.specs.Replies.{Replies}
 use Rattle.session.proofs.Ways.{report-gives}
 use Rattle.session.proofs.Usage.{usage-number}
 
@@ -56,16 +56,16 @@ module _ (l : Layout) {u : UsageAnswer} (e : u ≡ sheetUsageOf l) where
       rw (a .1)
       (usage-number (partArea (tree l)) (area (l .sheet)) (omega (arith, s .used)) (sheet-positive (s .sound .domain)) (omega arith))
 
-module _ (s : Session) {u : UsageAnswer} (e : u ≡ sheetUsageOf (s .layout)) {r : Stepped} where
-  pub reported-done : {x : Float} → Sized (s .layout) → u ≡ Usage x
-      → Says s (reported (s .layout .used) (s .layout .held) (toBits binary64 x)) r → Steps s Report r
+  -- what the answer, or the refusal, asks for is said
+  pub reported-done : {x : Float} {r : Said} → Sized l → u ≡ Usage x → Says (reported (l .used) (l .held) (toBits binary64 x)) r
+      → Replies l Report (record { layout = l; said = r })
   reported-done {x} sized h y =
-      let a = answered (s .layout) e h in
-      let f = sound-says (s .layout) sized (a .0) in
-      let same : reported (s .layout .used) (s .layout .held) (toBits binary64 x) ≡ figures (s .layout) = cc (f .used, f .held, a .1) in
-      report-gives s (a .0) (rw same at y)
+      let a = answered h in
+      let f = sound-says l sized (a .0) in
+      let same : reported (l .used) (l .held) (toBits binary64 x) ≡ figures l = cc (f .used, f .held, a .1) in
+      report-gives l (a .0) (rw same at y)
 
-  pub reported-refused : {x : Refusal} → u ≡ Refused x → Says s (refused 7 x) r → Steps s Report r
+  pub reported-refused : {x : Refusal} {r : Said} → u ≡ Refused x → Says (refused 7 x) r → Replies l Report (record { layout = l; said = r })
   reported-refused h y =
-      let a = unsound (s .layout) e h in
-      report-gives s (a .0) (rw (a .1) at y)
+      let a = unsound h in
+      report-gives l (a .0) (rw (a .1) at y)

@@ -1,5 +1,5 @@
 -- An answer's line in its room: how long it is, and that its characters are those that stand first. Rests on the frames' `Answered`.
-use mathlib.Core.Path.{_≡_, refl, sym, ap, _∙_}
+use mathlib.Core.Path.{_≡_, sym, ap, _∙_}
 use mathlib.Core.List.{List, [], _∷_}
 use Prim.Native.Nat.{ℕ, zero, suc, _+_, _*_, _≤_}
 use native.Mathlib.Nat.{mul-suc}
@@ -10,7 +10,6 @@ use Rattle.frames.specs.Bytes.{charsOf, checkOf, framed}
 use Rattle.frames.specs.Answers.{Answer, each, contentOf, answerLine}
 use Rattle.frames.specs.Writing.{Answered}
 use Rattle.frames.proofs.Lists.{length-chars}
-use Rattle.session.specs.declared.Session.{Session}
 use Rattle.session.specs.Session.{longest, Says}
 
 -- what was stored from the first place on stands first
@@ -35,11 +34,10 @@ module _ {A : Type 0} (bytes : A → List ℕ) (k : ℕ) (same : (x : A) → len
       omega (arith, length-append (bytes x) (each bytes (take n xs)), same x, each-most xs n, mul-suc k n)
 
 -- what `write` left in a line of zeros
-pub said : {line : List ℕ} {n : ℕ} (t : Session) (a : Answer) → 2 * length (contentOf a) + 3 ≤ longest → Answered (replicate longest 0) a line n
-    → Says t a (record { session = t; line = line; count = n })
-said {line} {n} t a room w =
+pub said : {line : List ℕ} {n : ℕ} (a : Answer) → 2 * length (contentOf a) + 3 ≤ longest → Answered (replicate longest 0) a line n
+    → Says a (record { line = line; count = n })
+said {line} {n} a room w =
     record {
-      session = refl;
       count = w .count;
       written =
           ap (take n) (w .line)

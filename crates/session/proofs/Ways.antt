@@ -23,82 +23,146 @@ use Rattle.layout.specs.declared.replies.Outcome.{Outcome}
 use Rattle.layout.specs.declared.replies.Outcome.the-variants as outcomes
 use Rattle.layout.specs.declared.replies.Sought.{Sought}
 use Rattle.layout.specs.declared.replies.Sought.the-variants as sought
-use Rattle.layout.specs.declared.replies.OffersAnswer.{OffersAnswer}
 use Rattle.layout.specs.declared.insert.Inserted.{Inserted}
 use Rattle.layout.specs.declared.remove.Removed.{Removed}
 use Rattle.layout.specs.declared.restore.Restored.{Restored}
 use Rattle.layout.specs.Check.{limit, soundB}
 use Rattle.layout.specs.Open.{openOf}
-use Rattle.layout.specs.Answers.{partB, soughtOf, refusedOffers, offeredFor, offersCall}
+use Rattle.layout.specs.Asked.{partB, soughtOf}
 use Rattle.layout.specs.Insert.{InsertSays}
 use Rattle.layout.specs.Remove.{RemoveSays, numbersOut, numbersLeft}
 use Rattle.layout.specs.Restore.{restoreOf}
 use Rattle.layout.proofs.Answered.{TakenOut}
+use Rattle.looks.specs.declared.replies.OffersAnswer.{OffersAnswer}
+use Rattle.looks.specs.Answers.{refusedOffers, offeredFor, offersCall}
 use Rattle.frames.specs.declared.Request.{Request}
 use Rattle.frames.specs.declared.Request.the-variants.{Open, Offers, Insert, Remove, Keep, Restore, Report, Malformed}
-use Rattle.frames.specs.Answers.{done, malformed}
+use Rattle.frames.specs.Answers.{Answer, refused, removed, done, malformed}
 use Rattle.session.specs.declared.Session.{Session}
 use Rattle.session.specs.declared.Stepped.{Stepped}
-use Rattle.session.specs.Session.{Reply, reply, withLayout, answerBy, openedBy, afterOpen, offersSaid, afterOffers, marksSaid, afterInsert}
+use Rattle.session.specs.declared.replies.Scope.{Scope}
+use Rattle.session.specs.declared.replies.Scope.the-variants as scopes
+use Rattle.session.specs.declared.replies.Scope.the-variants.{Alone}
+use Rattle.session.specs.declared.replies.Said.{Said}
+use Rattle.session.specs.declared.replies.Response.{Response}
+use Rattle.session.specs.declared.replies.Keeping.{Keeping}
+use Rattle.session.specs.Session.{withLayout, reply, answerBy, openedBy, afterOpen, offersSaid, afterOffers, marksSaid, afterInsert}
 use Rattle.session.specs.Session.{numbersSaid, afterRemove, keptBy, afterKeep, afterRestore, reportBy, afterReport, Answers, Says, Steps}
+use Rattle.session.specs.Replies.{scopeOf, heardIn, heard, both, stepTo, Replies, Keeps, Restores}
 use Rattle.session.proofs.Spoken.{take-sets}
 
--- the state and the answer of a reply are those that are said
-abbrev Gives : Reply → Stepped → Type 0
-Gives p r = Says (p .session) (p .answer) r
+-- what is said is what the request gives
+steps : {s u : Session} {q : Request} {a : Answer} {r : Said} → Answers s q u a → Says a r → Steps s q (stepTo u r)
+steps h y = record { answer = _; answers = h; count = y .count; written = y .written; padded = y .padded }
 
-gives : {s : Session} {q : Request} {p : Reply} {r : Stepped} → Gives p r → Answers s q (p .session) (p .answer) → Steps s q r
-gives {s} {q} {p} {r} y h =
-    record { answer = p .answer; answers = rw (y .session) h; count = y .count; written = y .written; padded = y .padded }
+-- a request, by its scope
+abbrev askedIn : Scope → Request → Request
+askedIn Alone q = q
+askedIn scopes.Keep q = Keep
+askedIn scopes.Restore q = Restore
+
+asked-in : (q : Request) → q ≡ askedIn (scopeOf q) q
+asked-in (Open number size cut stages) = refl
+asked-in (Offers mark part) = refl
+asked-in (Insert mark part rotation shape) = refl
+asked-in (Remove mark) = refl
+asked-in Keep = refl
+asked-in Restore = refl
+asked-in Report = refl
+asked-in Malformed = refl
 
 -- the same request by another name
 pub asks : {s : Session} {p q : Request} {r : Stepped} → p ≡ q → Steps s q r → Steps s p r
 asks e h = rw e h
 
--- ---- one lemma for each op: the call's outcome was v, and what v asks for is said
-module _ (s : Session) {r : Stepped} where
-  pub open-gives : (number : ℕ) (size : Size) (cut : Orientation) (stages : ℕ) {o : Opened} {v : Opening} → o ≡ openOf number size cut stages
-      → o .outcome ≡ v → Gives (openedBy s (o .layout) v) r → Steps s (Open number size cut stages) r
-  unfolding Answers afterOpen
-  open-gives number size cut stages {o} e h y = gives y (ap (openedBy s (o .layout)) (sym h) ∙ ap (afterOpen s) e)
+pub hears : {l : Layout} {p q : Request} {r : Response} → p ≡ q → Replies l (heard q) r → Replies l (heard p) r
+hears e h = rw e h
 
-  pub offers-gives : (m : Mark) (p : PartType) {o : OffersAnswer} {v : Outcome} → o ≡ offersCall (s .layout) m p → o .outcome ≡ v
-      → Says s (answerBy 2 (offersSaid (o .offers)) v) r → Steps s (Offers m p) r
+-- an answer by its outcome
+by-outcome : (s : Session) (op : ℕ) (a : Answer) {u v : Outcome} → u ≡ v → reply s (answerBy op a v) ≡ reply s (answerBy op a u)
+by-outcome s op a h = ap (λ (x : Outcome). reply s (answerBy op a x)) (sym h)
+
+-- ---- one lemma for each op: the call's outcome was v, and what v asks for is said
+module _ (l : Layout) {r : Said} where
+  pub open-gives : (number : ℕ) (size : Size) (cut : Orientation) (stages : ℕ) {o : Opened} {v : Opening} {next : Layout} {a : Answer}
+      → o ≡ openOf number size cut stages → o .outcome ≡ v
+      → ((kept : Layout) → reply (both next kept) a ≡ openedBy (both l kept) (o .layout) v) → Says a r
+      → Replies l (Open number size cut stages) (record { layout = next; said = r })
+  unfolding Answers afterOpen
+  open-gives number size cut stages {o} e h f y =
+      record {
+        answer = _;
+        answers = λ kept. f kept ∙ ap (openedBy (both l kept) (o .layout)) (sym h) ∙ ap (afterOpen (both l kept)) e;
+        says = y;
+      }
+
+  pub offers-gives : (m : Mark) (p : PartType) {o : OffersAnswer} {v : Outcome} → o ≡ offersCall l m p → o .outcome ≡ v
+      → Says (answerBy 2 (offersSaid (o .offers)) v) r → Replies l (Offers m p) (record { layout = l; said = r })
   unfolding Answers afterOffers
   offers-gives m p {o} e h y =
-      gives y (ap (λ (x : Outcome). reply s (answerBy 2 (offersSaid (o .offers)) x)) (sym h) ∙ ap (afterOffers s) e)
+      record {
+        answer = _;
+        answers = λ kept. by-outcome (both l kept) 2 (offersSaid (o .offers)) h ∙ ap (afterOffers (both l kept)) e;
+        says = y;
+      }
 
   pub insert-gives : (m : Mark) (p : PartType) (rotation : Rotation) (shape : InsertionShape) (i : Inserted) {v : Outcome}
-      → InsertSays (s .layout) m p rotation shape i → i .outcome ≡ v
-      → Says (withLayout s (i .layout)) (answerBy 3 (marksSaid (i .marks)) v) r → Steps s (Insert m p rotation shape) r
+      → InsertSays l m p rotation shape i → i .outcome ≡ v → Says (answerBy 3 (marksSaid (i .marks)) v) r
+      → Replies l (Insert m p rotation shape) (record { layout = i .layout; said = r })
   unfolding Answers afterInsert
   insert-gives m p rotation shape i f h y =
-      gives y (i, f, ap (λ (x : Outcome). reply (withLayout s (i .layout)) (answerBy 3 (marksSaid (i .marks)) x)) (sym h))
+      record { answer = _; answers = λ kept. (i, f, by-outcome (both (i .layout) kept) 3 (marksSaid (i .marks)) h); says = y }
 
-  pub remove-gives : (m : Mark) (d : Removed) {v : Outcome} → RemoveSays (s .layout) m limit d → d .outcome ≡ v
-      → Says (withLayout s (d .layout)) (answerBy 4 (numbersSaid s m d) v) r → Steps s (Remove m) r
+  pub remove-gives : (m : Mark) (d : Removed) {v : Outcome} → RemoveSays l m limit d → d .outcome ≡ v
+      → Says (answerBy 4 (removed (d .free) (numbersOut l (m .place))) v) r → Replies l (Remove m) (record { layout = d .layout; said = r })
   unfolding Answers afterRemove
   remove-gives m d f h y =
-      gives y (d, f, ap (λ (x : Outcome). reply (withLayout s (d .layout)) (answerBy 4 (numbersSaid s m d) x)) (sym h))
+      record { answer = _; answers = λ kept. (d, f, by-outcome (both (d .layout) kept) 4 (numbersSaid (both l kept) m d) h); says = y }
 
   -- the check says b
-  pub keep-gives : {b v : Bool} → b ≡ soundB (s .layout) → b ≡ v → Gives (keptBy s v) r → Steps s Keep r
+  pub keep-gives : {b v : Bool} → b ≡ soundB l → b ≡ v → Says (cond v (done 5) (refused 5 NotSound)) r → Keeps l (record { sound = v; said = r })
   unfolding Answers afterKeep
-  keep-gives e h y = gives y (ap (keptBy s) (sym h ∙ e))
+  keep-gives {v = v} e h y =
+      let is = sym h ∙ e in
+      record { sound = is; answer = cond v (done 5) (refused 5 NotSound); answers = λ kept. rw (← is) (go v kept); says = y }
+    where
+      go : (x : Bool) (kept : Layout) → reply (both l (cond x l kept)) (cond x (done 5) (refused 5 NotSound)) ≡ keptBy (both l kept) x
+      go true kept = refl
+      go false kept = refl
 
-  pub restore-gives : {b : Restored} {v : Outcome} → b ≡ restoreOf (s .layout) (s .kept) → b .outcome ≡ v
-      → Says (withLayout s (b .layout)) (answerBy 6 (done 6) v) r → Steps s Restore r
+  pub restore-gives : (kept : Layout) {b : Restored} {v : Outcome} → b ≡ restoreOf l kept → b .outcome ≡ v → Says (answerBy 6 (done 6) v) r
+      → Restores l kept (record { layout = b .layout; said = r })
   unfolding Answers afterRestore
-  restore-gives {b} e h y =
-      gives y (ap (λ (x : Outcome). reply (withLayout s (b .layout)) (answerBy 6 (done 6) x)) (sym h) ∙ ap (afterRestore s) e)
+  restore-gives kept {b} e h y =
+      record { answer = _; answers = by-outcome (both (b .layout) kept) 6 (done 6) h ∙ ap (afterRestore (both l kept)) e; says = y }
 
-  pub report-gives : {v : Bool} → soundB (s .layout) ≡ v → Says s (reportBy (s .layout) v) r → Steps s Report r
+  pub report-gives : {v : Bool} → soundB l ≡ v → Says (reportBy l v) r → Replies l Report (record { layout = l; said = r })
   unfolding Answers afterReport
-  report-gives h y = gives y (ap (λ (x : Bool). reply s (reportBy (s .layout) x)) (sym h))
+  report-gives h y =
+      record { answer = _; answers = λ kept. ap (λ (x : Bool). reply (both l kept) (reportBy l x)) (sym h); says = y }
 
-  pub malformed-gives : Says s malformed r → Steps s Malformed r
+  pub malformed-gives : Says malformed r → Replies l Malformed (record { layout = l; said = r })
   unfolding Answers
-  malformed-gives y = gives y refl
+  malformed-gives y = record { answer = malformed; answers = λ kept. refl; says = y }
+
+-- ---- one lemma for each scope: from what is told of the layouts to what the request gives
+module _ (s : Session) (q : Request) {v : Scope} (e : v ≡ scopeOf q) where
+  scope-is : {w : Scope} → v ≡ w → q ≡ askedIn w q
+  scope-is h = asked-in q ∙ ap (λ (x : Scope). askedIn x q) (sym e ∙ h)
+
+  pub replied-steps : {r : Response} → v ≡ Alone → Replies (s .layout) (heard q) r → Steps s q (stepTo (withLayout s (r .layout)) (r .said))
+  replied-steps h t = let same : heard q ≡ q = ap (λ (x : Scope). heardIn x q) (sym e ∙ h) in rw (← same) (steps (t .answers (s .kept)) (t .says))
+
+  pub keep-steps : {r : Keeping} {b : Bool} → v ≡ scopes.Keep → Keeps (s .layout) r → r .sound ≡ b
+      → Steps s q (stepTo (both (s .layout) (cond b (s .layout) (s .kept))) (r .said))
+  keep-steps h k is = rw (scope-is h, sym is ∙ k .sound) (steps (k .answers (s .kept)) (k .says))
+
+  pub restore-steps : {r : Response} → v ≡ scopes.Restore → Restores (s .layout) (s .kept) r → Steps s q (stepTo (withLayout s (r .layout)) (r .said))
+  restore-steps h t = rw (scope-is h) (steps (t .answers) (t .says))
+
+pub malformed-steps : {s : Session} {r : Said} → Says malformed r → Steps s Malformed (stepTo s r)
+unfolding Answers
+malformed-steps y = steps refl y
 
 -- an answer to offers has at most four
 pub offers-four : (l : Layout) (m : Mark) (p : PartType) → offersCall l m p .offers .count ≤ 4

@@ -20,22 +20,23 @@ use Rattle.layout.specs.declared.open.Opening.the-variants as openings
 use Rattle.layout.specs.declared.open.Opened.{Opened}
 use Rattle.layout.specs.declared.replies.Outcome.{Outcome}
 use Rattle.layout.specs.declared.replies.Outcome.the-variants as outcomes
-use Rattle.layout.specs.declared.replies.OffersAnswer.{OffersAnswer}
 use Rattle.layout.specs.declared.insert.Inserted.{Inserted}
 use Rattle.layout.specs.declared.remove.Removed.{Removed}
 use Rattle.layout.specs.declared.restore.Restored.{Restored}
 use Rattle.layout.specs.Check.{limit, tree, soundB}
 use Rattle.layout.specs.Zero.{zeroLayout}
 use Rattle.layout.specs.Open.{openOf}
-use Rattle.layout.specs.Answers.{offersCall}
 use Rattle.layout.specs.Insert.{InsertSays}
 use Rattle.layout.specs.Remove.{RemoveSays, numbersOut}
 use Rattle.layout.specs.Restore.{restoreOf}
+use Rattle.looks.specs.declared.replies.OffersAnswer.{OffersAnswer}
+use Rattle.looks.specs.Answers.{offersCall}
 use Rattle.frames.specs.declared.Request.{Request}
 use Rattle.frames.specs.declared.Request.the-variants.{Open, Offers, Insert, Remove, Keep, Restore, Report, Malformed}
 use Rattle.frames.specs.Answers.{Answer, refused, opened, offered, inserted, removed, done, reported, malformed, answerLine}
 use Rattle.session.specs.declared.Session.{Session}
 use Rattle.session.specs.declared.Stepped.{Stepped}
+use Rattle.session.specs.declared.replies.Said.{Said}
 
 abbrev pub started : Session
 started = record { layout = zeroLayout; kept = zeroLayout }
@@ -127,9 +128,8 @@ longest = 1035
 abbrev pub held : Answer → List ℕ
 held a = sets (replicate longest 0) 0 (answerLine a)
 
--- the answer a, as a line, with the state t
-pub record Says (t : Session) (a : Answer) (r : Stepped) : Type 0 where
-  pub session : r .session ≡ t
+-- the answer a, as a line
+pub record Says (a : Answer) (r : Said) : Type 0 where
   pub count : r .count ≡ length (answerLine a)
   pub written : take (r .count) (r .line) ≡ answerLine a
   pub padded : r .line ≡ held a

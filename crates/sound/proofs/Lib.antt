@@ -8,6 +8,8 @@ pub mod Means
 pub mod Passing
 pub mod Lists
 pub mod Marks
+pub mod ByRows
 pub mod Sums
 pub mod Worth
 pub mod Serials
+pub mod Counted

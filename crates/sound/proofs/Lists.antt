@@ -30,13 +30,6 @@ agree-shown false false e = refl
 abbrev pub coveredAt : Bool → List ℕ → List ℕ → List ℕ → ℕ → Bool
 coveredAt free serial kind f i = agree (wanted free serial kind i) (eqb (getD f i 0) 1)
 
-module _ (free : Bool) (serial kind f : List ℕ) where
-  pub covered-yes : (i : ℕ) (r : Bool) → r ≡ wanted free serial kind i → r ≡ true → coveredAt free serial kind f i ≡ eqb (getD f i 0) 1
-  covered-yes i r w e = ap (λ (b : Bool). agree b (eqb (getD f i 0) 1)) (sym w ∙ e)
-
-  pub covered-no : (i : ℕ) (r : Bool) → r ≡ wanted free serial kind i → r ≡ false → coveredAt free serial kind f i ≡ not (eqb (getD f i 0) 1)
-  covered-no i r w e = ap (λ (b : Bool). agree b (eqb (getD f i 0) 1)) (sym w ∙ e)
-
 module _ (limit : ℕ) (free : Bool) (serial kind f : List ℕ) where
   -- a flag stands exactly where it is wanted
   pub covers-says : coversB limit free serial kind f ≡ true → (i : ℕ) → i < limit → wanted free serial kind i ≡ eqb (getD f i 0) 1

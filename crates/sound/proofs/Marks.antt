@@ -17,7 +17,8 @@ use Rattle.table.specs.declared.Node.{Node}
 use Rattle.table.specs.Table.{at, Held, zeroNode}
 use Rattle.table.specs.Build.{Among}
 use Rattle.sound.specs.Columns.{firstsOf, nextsOf, serialsOf}
-use Rattle.sound.specs.Hung.{markRow, markRows, markedAt, markedB, hungB}
+use Rattle.sound.specs.Rows.{parentB}
+use Rattle.sound.specs.Hung.{markRow, markRows, hangRows, markedAt, markedB, hungB}
 use Rattle.lists.proofs.Scan.{every-all, every-at}
 
 less-one : (n : ℕ) → suc n - 1 ≡ n
@@ -41,15 +42,6 @@ module _ (limit : ℕ) (next : List ℕ) where
   unfolding markRow
   row-on zero p f h l = absurd (not-suc-le-zero h)
   row-on (suc m) p f h l = rw (lt-leb limit p l, less-one m) refl
-
-  pub rows-none : (first f : List ℕ) → markRows limit first next 0 f ≡ f
-  unfolding markRows
-  rows-none first f = refl
-
-  pub rows-more : (first f : List ℕ) (n : ℕ)
-      → markRows limit first next (n + 1) f ≡ markRow limit next limit (getD first n 0) (markRows limit first next n f)
-  unfolding markRows
-  rows-more first f n = rw (add-one n) refl
 
   pub length-row : (m p : ℕ) (f : List ℕ) → length (markRow limit next m p f) ≡ length f
   unfolding markRow
@@ -82,16 +74,41 @@ module _ (limit : ℕ) (next : List ℕ) where
   length-rows first zero f = refl
   length-rows first (suc n) f = length-row limit (getD first n 0) (markRows limit first next n f) ∙ length-rows first n f
 
-next-at : (t : List Node) (p : ℕ) → getD (nextsOf t) p 0 ≡ at t p .next
+pub next-at : (t : List Node) (p : ℕ) → getD (nextsOf t) p 0 ≡ at t p .next
 next-at t p = List·getD-map (λ (n : Node). n .next) t p zeroNode
 
-first-at : (t : List Node) (p : ℕ) → getD (firstsOf t) p 0 ≡ at t p .first
+pub first-at : (t : List Node) (p : ℕ) → getD (firstsOf t) p 0 ≡ at t p .first
 first-at t p = List·getD-map (λ (n : Node). n .first) t p zeroNode
 
 zeros-unmarked : (n i : ℕ) → _≡_ {A = ℕ} (getD (replicate n 0) i 0) 1 → ⊥
 zeros-unmarked zero i e = omega arith
 zeros-unmarked (suc n) zero e = omega arith
 zeros-unmarked (suc n) (suc i) e = zeros-unmarked n i e
+
+-- the marks that `rows_ok` makes as it walks
+module _ (limit : ℕ) (t : List Node) where
+  -- a turn along a row, and its end
+  pub hang-on : (m p : ℕ) (f : List ℕ) → 0 < m → p < limit
+      → markRow limit (nextsOf t) m p f ≡ markRow limit (nextsOf t) (m - 1) (at t p .next) (set f p 1)
+  hang-on m p f h l = row-on limit (nextsOf t) m p f h l ∙ rw (next-at t p) refl
+
+  pub hang-over : (m p : ℕ) (f : List ℕ) → (limit ≤ p) ⊎ (m ≤ 0) → markRow limit (nextsOf t) m p f ≡ f
+  hang-over m p f = ⊎-elim (row-over limit (nextsOf t) m p f) (row-zero limit (nextsOf t) m p f)
+
+  pub hang-none : (f : List ℕ) → hangRows limit t 0 f ≡ f
+  unfolding hangRows
+  hang-none f = refl
+
+  -- a held structure's row is marked, and another place has none
+  pub hang-row : (n : ℕ) (f : List ℕ) {a : Bool} → a ≡ parentB (at t n) → a ≡ true
+      → hangRows limit t (n + 1) f ≡ markRow limit (nextsOf t) limit (at t n .first) (hangRows limit t n f)
+  unfolding hangRows
+  hang-row n f e y = rw (add-one n, sym e ∙ y) refl
+
+  pub hang-skip : (n : ℕ) (f : List ℕ) {a : Bool} → a ≡ parentB (at t n) → a ≡ false
+      → hangRows limit t (n + 1) f ≡ hangRows limit t n f
+  unfolding hangRows
+  hang-skip n f e y = rw (add-one n, sym e ∙ y) refl
 
 module _ (limit : ℕ) (t : List Node) where
   -- a mark of a row was there before, or is at one of the siblings

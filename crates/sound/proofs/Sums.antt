@@ -21,18 +21,6 @@ grows g step (suc m) n h = go (ℕ-discrete n (suc m)) (grows g step m n)
     go (no e) ih = let l = ih (omega arith) in omega (arith, step m)
 
 module _ (serial : List ℕ) where
-  pub held-none : heldIn serial 0 ≡ 0
-  unfolding heldIn
-  held-none = refl
-
-  pub held-here : (n : ℕ) → (getD serial n 0 ≡ 0 → ⊥) → heldIn serial (n + 1) ≡ heldIn serial n + 1
-  unfolding heldIn
-  held-here n e = rw (add-one n, ne-eqb (getD serial n 0) 0 e) refl
-
-  pub held-pass : (n : ℕ) → getD serial n 0 ≡ 0 → heldIn serial (n + 1) ≡ heldIn serial n
-  unfolding heldIn
-  held-pass n e = rw (add-one n, eq-eqb (getD serial n 0) 0 e) (omega arith)
-
   pub held-most : (n : ℕ) → heldIn serial n ≤ n
   unfolding heldIn
   held-most zero = omega arith
@@ -67,12 +55,6 @@ module _ (k : ℕ) (kind area : List ℕ) where
 
   pub area-le : (n m : ℕ) → areaIn k kind area n ≤ areaIn k kind area (n + m)
   area-le n m = area-grows (n + m) n (omega arith)
-
-  -- the sum passes what is left of `used`: it is not `used`
-  pub area-passes : (m n left used : ℕ) → n < m → left + areaIn k kind area n ≡ used → getD kind n 0 ≡ k → left < getD area n 0
-      → eqb (areaIn k kind area m) used ≡ false
-  area-passes m n left used h e here l =
-      ne-eqb (areaIn k kind area m) used (λ z. omega (arith, area-grows m (n + 1) (omega arith), area-here n here))
 
 -- nothing is left exactly where the sum is `used`
 pub none-left : (left sum used : ℕ) → left + sum ≡ used → eqb left 0 ≡ eqb sum used

@@ -6,6 +6,10 @@ use Prim.Native.Nat.{ℕ, zero, suc}
 use lib.Dec.{eqb, leb}
 use lib.ListN.{getD, set, replicate}
 use Rattle.lists.specs.Search.{every}
+use Rattle.table.specs.declared.Node.{Node}
+use Rattle.table.specs.Table.{at}
+use Rattle.sound.specs.Columns.{nextsOf}
+use Rattle.sound.specs.Rows.{parentB}
 
 -- the siblings from p on, at most so many, are marked
 unfoldable pub markRow : ℕ → List ℕ → ℕ → ℕ → List ℕ → List ℕ
@@ -17,6 +21,12 @@ markRow limit next (suc m) p f =
 unfoldable pub markRows : ℕ → List ℕ → List ℕ → ℕ → List ℕ → List ℕ
 markRows limit first next zero f = f
 markRows limit first next (suc n) f = markRow limit next limit (getD first n 0) (markRows limit first next n f)
+
+-- the rows of the held structures among the first n places; proofs/ByRows.antt says that this marks as much as `markRows`
+unfoldable pub hangRows : ℕ → List Node → ℕ → List ℕ → List ℕ
+hangRows limit t zero f = f
+hangRows limit t (suc n) f =
+    let r = hangRows limit t n f in cond (parentB (at t n)) (markRow limit (nextsOf t) limit (at t n .first) r) r
 
 -- held places but the top are marked
 abbrev pub markedAt : List ℕ → List ℕ → ℕ → Bool

@@ -3,3 +3,4 @@ pub mod Places
 pub mod Rows
 pub mod Hung
 pub mod Listed
+pub mod Census

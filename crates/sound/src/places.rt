@@ -2,12 +2,11 @@
 ghost use mathlib.Core.Path.{_≡_};
 ghost use Rattle.tree.specs.Tree.{isFree, isStructure};
 ghost use Rattle.lists.specs.Lists.{limit};
-ghost use Rattle.sound.specs.Places.{isHorizontal, kindB, leafB, placeB, placesB, sidedB, topB, zeroB, zeroDatumB, zeroLinksB};
+ghost use Rattle.sound.specs.Places.{isHorizontal, kindB, leafB, placeB, sidedB, topB, zeroB, zeroDatumB, zeroLinksB};
 use piece::node::Datum;
 use piece::node::Kind;
 use piece::orientation::Orientation;
 use piece::size::Size;
-use table::LIMIT;
 use table::NONE;
 use table::Node;
 
@@ -159,20 +158,6 @@ pub fn place_ok(n: Node) -> bool
     } else {
         kind_ok(n)
     }
-}
-
-pub fn places_ok(nodes: [Node; LIMIT]) -> bool
-    ensures { λ r. ⌜ r ≡ placesB limit nodes ⌝ }
-{
-    let mut i: usize = 0;
-    while i < LIMIT {
-        let n = nodes[i];
-        if place_ok(n) {} else {
-            return false;
-        }
-        i += 1;
-    }
-    true
 }
 
 // Whether the node at place 0 is a top with the sheet's size.

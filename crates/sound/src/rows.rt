@@ -1,6 +1,8 @@
 // The clauses that speak of a parent and its children: each row is walked by its links, within as many steps as there are places.
 ghost use mathlib.Core.Path.{_≡_};
+ghost use mathlib.Core.Bool.{true};
 ghost use Rattle.lists.specs.Lists.{limit};
+ghost use Rattle.sound.specs.Hung.{hangRows};
 ghost use Rattle.sound.specs.Rows.{childB, endB, parentB, room, rowsB, sameCut, step};
 use crate::places::is_structure;
 use piece::orientation::Orientation;
@@ -102,9 +104,10 @@ fn ends_ok(up: Node, pv: u16, p: u16, sum: u64) -> bool
     sum == room_of(up) as u64
 }
 
-// Every row of a held structure is linked and filled.
-pub fn rows_ok(nodes: [Node; LIMIT], stages: u8) -> bool
-    ensures { λ r. ⌜ r ≡ rowsB limit stages nodes ⌝ }
+// Every row of a held structure is linked and filled; where all are, their places are marked.
+pub fn rows_ok(nodes: [Node; LIMIT], stages: u8, hung: &mut [u8; LIMIT]) -> bool
+    ensures says { λ r. ⌜ r ≡ rowsB limit stages nodes ⌝ }
+    ensures marked { λ r. ⌜ (r ≡ true → now (hung .exit) ≡ hangRows limit nodes limit (now (hung .entry))) ⌝ }
 {
     let mut ok = true;
     let mut q: usize = 0;
@@ -125,6 +128,7 @@ pub fn rows_ok(nodes: [Node; LIMIT], stages: u8) -> bool
                     break 'all;
                 }
                 sum += step_of(n) as u64;
+                hung[here] = 1;
                 pv = p;
                 p = n.next;
                 left -= 1;

@@ -2,8 +2,10 @@ pub mod Touch
 pub mod Kids
 pub mod Rep
 pub mod Append
+pub mod Appended
 pub mod Open
 pub mod Unlink
+pub mod Unlinked
 pub mod Build
 pub mod Room
 pub mod Unique

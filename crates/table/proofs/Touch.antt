@@ -154,3 +154,21 @@ pub cut : (limit : ℕ) (t : List Node) (x q pv nx : ℕ) → at t x .parent ≡
 unfolding unlink
 cut limit t x q pv nx eq ep en len hx hq qx px nxx pq nq pn =
     rw (eq, ep, en) (cut-at limit t x q pv nx len hx hq qx px nxx pq nq pn)
+
+-- Neither changes how many places there are.
+module _ (limit : ℕ) (t : List Node) where
+  pub append-length : (q a : ℕ) (d : Datum) → length (append limit t q a d) ≡ length t
+  unfolding append
+  append-length q a d =
+      let l = at t q .last in
+      let e = enter limit t q a d in
+      length-set (tie limit e q l a) q _ ∙ led-len limit e q l a (leb limit l) ∙ length-set t a _
+
+  pub unlink-length : (x : ℕ) → length (unlink limit t x) ≡ length t
+  unfolding unlink
+  unlink-length x =
+      let n = at t x in
+      let u = joinBefore limit t (n .parent) (n .prev) (n .next) in
+      length-set (joinAfter limit u (n .parent) (n .prev) (n .next)) x _
+      ∙ trailed-len limit u (n .parent) (n .prev) (n .next) (leb limit (n .next))
+      ∙ led-len limit t (n .parent) (n .prev) (n .next) (leb limit (n .prev))

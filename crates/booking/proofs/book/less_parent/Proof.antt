@@ -14,7 +14,7 @@ returns : tie.Need-returns
 returns c = simp (c .strike .ensures, sym (c .before .before .no-child .ensures) ∙ c .before .if1 .taken)
 
 returns-2 : tie.Need-returns-2
-returns-2 c = c .before .before .pre .1 .zeros ∙ simp (sym (c .before .no-child .ensures) ∙ c .if1 .left)
+returns-2 c = c .before .before .pre .zeros ∙ simp (sym (c .before .no-child .ensures) ∙ c .if1 .left)
 
 pub less-parent-spec : {M : Type 1} → statement M
 less-parent-spec = tie.close (tie.spec no-child-requires strike-requires returns returns-2)

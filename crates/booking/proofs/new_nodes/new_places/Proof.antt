@@ -1,82 +1,113 @@
--- `new_places` meets its contract: each search starts past the one before, and no sum of a place and one overflows. Assumes nothing.
-use mathlib.Core.List.{List}
-use Prim.Native.Nat.{ℕ, _+_, _-_, _≤_}
+-- `new_places` meets its contract. The outer loop's invariant is `Found` of proofs/NewPlaces.antt; the inner one's: the answer from i on is the
+-- answer. The measures are what is left of the places. Assumes nothing.
+use mathlib.Core.Path.{_≡_, refl, sym, _∙_}
+use mathlib.Core.Logic.{⊎-elim}
+use Prim.Native.Nat.{_-_, _≤_}
 use native.Mathlib.Omega.{arith}
-use Rattle.lists.specs.Lists.{limit}
-use Rattle.lists.proofs.Scan.{first-most}
-use Rattle.table.specs.declared.Node.{Node}
-use Rattle.table.specs.Unheld.{isUnheld, lowestFrom}
-use Rattle.booking.specs.Book.{newPlaces}
 use borrow.Author.Needs.{needs}
+use borrow.Author.Tests.{eq-eqb, ne-eqb}
+use Rattle.lists.specs.Lists.{limit}
+use Rattle.table.specs.Unheld.{lowestFrom}
+use Rattle.table.proofs.Unheld.{lowest-past, lowest-here, lowest-on}
+use Rattle.booking.proofs.NewPlaces.{Found, found-none, found-more, found-most, found-all}
 use Rattle.booking.proofs.new_nodes.new_places.Statement.{statement}
 use Rattle.booking.proofs.new_nodes.new_places.Tie as tie
 
--- a search from within the limit and k more ends within it
-within : (t : List Node) (n k : ℕ) → n ≤ limit + k → lowestFrom limit t n ≤ limit + k
-unfolding lowestFrom
-within t n k h = omega (arith, first-most (isUnheld t) (limit - n) n)
+abbrev Inv-loop2 : tie.InvT-loop2
+Inv-loop2 nodes places from k i₀ i = lowestFrom limit nodes i ≡ lowestFrom limit nodes from
 
-first : (c : tie.After-unheld) → c .unheld .result ≤ limit
-first c = rw (c .unheld .ensures) (within (c .before .args .nodes) 0 0 (omega arith))
+abbrev μ-loop2 : tie.MeasureT-loop2
+μ-loop2 nodes places from k i₀ i = limit - i
 
-second : (c : tie.After-unheld2) → c .unheld2 .result ≤ 256
-second c = rw (c .unheld2 .ensures) (within (c .before .before .args .nodes) _ 1 (omega (arith, first (c .before))))
+abbrev Inv-loop : tie.InvT-loop
+Inv-loop nodes places₀ from₀ k₀ places from k = (k ≤ 5) × Found nodes k places from
 
-third : (c : tie.After-unheld3) → c .unheld3 .result ≤ 257
-third c = rw (c .unheld3 .ensures) (within (c .before .before .before .args .nodes) _ 2 (omega (arith, second (c .before))))
+abbrev μ-loop : tie.MeasureT-loop
+μ-loop nodes places₀ from₀ k₀ places from k = 5 - k
 
-fourth : (c : tie.After-unheld4) → c .unheld4 .result ≤ 258
-fourth c = rw (c .unheld4 .ensures) (within (c .before .before .before .before .args .nodes) _ 3 (omega (arith, third (c .before))))
+loop-holds : tie.Need-loop-holds Inv-loop2 μ-loop2 Inv-loop μ-loop
+loop-holds c = (omega arith, found-none (c .args .t1))
 
-unheld-requires : tie.Need-unheld-requires
-unheld-requires c κs = search needs
+loop2-holds : tie.Need-loop2-holds Inv-loop2 μ-loop2 Inv-loop μ-loop
+loop2-holds c = refl
 
-add-unheld : tie.Need-add-unheld
-add-unheld c = let h = first c in search needs
+cast-at : tie.Need-cast-at Inv-loop2 μ-loop2 Inv-loop μ-loop
+cast-at c = search needs
 
-unheld-requires-2 : tie.Need-unheld-requires-2
-unheld-requires-2 c κs = search needs
+mul-n : tie.Need-mul-n Inv-loop2 μ-loop2 Inv-loop μ-loop
+mul-n c = search needs
 
-add-unheld-2 : tie.Need-add-unheld-2
-add-unheld-2 c = let h = second c in search needs
+array-copy-out-n : tie.Need-array-copy-out-n Inv-loop2 μ-loop2 Inv-loop μ-loop
+array-copy-out-n c = search needs
 
-unheld-requires-3 : tie.Need-unheld-requires-3
-unheld-requires-3 c κs = search needs
+add-i : tie.Need-add-i Inv-loop2 μ-loop2 Inv-loop μ-loop
+add-i c = search needs
 
-add-unheld-3 : tie.Need-add-unheld-3
-add-unheld-3 c = let h = third c in search needs
+loop2-less : tie.Need-loop2-less Inv-loop2 μ-loop2 Inv-loop μ-loop
+loop2-less c = search needs
 
-unheld-requires-4 : tie.Need-unheld-requires-4
-unheld-requires-4 c κs = search needs
+loop2-again : tie.Need-loop2-again Inv-loop2 μ-loop2 Inv-loop μ-loop
+loop2-again c =
+    let l = c .before .before .before .before .loop2 in
+    let t = c .before .before .before .before .before .before .before .args .t1 in
+    sym (lowest-on limit t (l .i) (search needs) (ne-eqb _ _ (c .if2 .left))) ∙ l .inv
 
-add-unheld-4 : tie.Need-add-unheld-4
-add-unheld-4 c = let h = fourth c in search needs
+-- what the inner loop yields, by either exit
+found : (c : tie.Joined1 Inv-loop2 μ-loop2 Inv-loop μ-loop) →
+    c .if1 .place ≡ lowestFrom limit (c .before .before .before .before .args .t1) (c .before .before .before .loop .from)
+found c =
+    let l = c .before .loop2 in
+    let t = c .before .before .before .before .args .t1 in
+    ⊎-elim (λ w. w .1 ∙ sym (lowest-past limit t (l .i) (w .0 .taken)) ∙ l .inv)
+    (λ w. w .4 ∙ sym (lowest-here limit t (l .i) (w .0 .left) (eq-eqb _ _ (w .3 .taken))) ∙ l .inv)
+    (c .if1 .came)
 
-unheld-requires-5 : tie.Need-unheld-requires-5
-unheld-requires-5 c κs = search needs
+mul-places : tie.Need-mul-places Inv-loop2 μ-loop2 Inv-loop μ-loop
+mul-places c = search needs
 
-returns : tie.Need-returns
-unfolding newPlaces
-returns c =
-    simp (
-      c .unheld5 .ensures,
-      c .before .unheld4 .ensures,
-      c .before .before .unheld3 .ensures,
-      c .before .before .before .unheld2 .ensures,
-      c .before .before .before .before .unheld .ensures,
-    )
+array-write-places : tie.Need-array-write-places Inv-loop2 μ-loop2 Inv-loop μ-loop
+array-write-places c = search needs
+
+add-from : tie.Need-add-from Inv-loop2 μ-loop2 Inv-loop μ-loop
+add-from c =
+    let o = c .before .before .before .before in
+    let h = found-most (o .before .args .t1) (o .loop .inv .1) (c .before .before .before .loop-test .taken) (found (c .before)) in
+    search needs
+
+add-k : tie.Need-add-k Inv-loop2 μ-loop2 Inv-loop μ-loop
+add-k c = search needs
+
+loop-less : tie.Need-loop-less Inv-loop2 μ-loop2 Inv-loop μ-loop
+loop-less c = search needs
+
+loop-again : tie.Need-loop-again Inv-loop2 μ-loop2 Inv-loop μ-loop
+loop-again c =
+    let o = c .before .before .before .before in
+    (omega arith, found-more (o .before .args .t1) (o .loop .inv .1) (c .before .before .before .loop-test .taken) (found (c .before)))
+
+returns : tie.Need-returns Inv-loop2 μ-loop2 Inv-loop μ-loop
+returns c = found-all (c .before .before .args .t1) (c .before .loop .inv .1) (c .loop-test .left)
 
 pub new-places-spec : {M : Type 1} → statement M
 new-places-spec =
     tie.close
     (tie.spec
-    unheld-requires
-    add-unheld
-    unheld-requires-2
-    add-unheld-2
-    unheld-requires-3
-    add-unheld-3
-    unheld-requires-4
-    add-unheld-4
-    unheld-requires-5
+    Inv-loop2
+    μ-loop2
+    Inv-loop
+    μ-loop
+    loop-holds
+    loop2-holds
+    cast-at
+    mul-n
+    array-copy-out-n
+    add-i
+    loop2-less
+    loop2-again
+    mul-places
+    array-write-places
+    add-from
+    add-k
+    loop-less
+    loop-again
     returns)

@@ -9,7 +9,7 @@ use lib.ListN.{length, drop, take, getD}
 use borrow.Author.Needs.{needs}
 use Rattle.tree.specs.Tree.{isFree}
 use Rattle.register.specs.declared.listing.Listing.{Listing}
-use Rattle.register.specs.Listings.{areaIn, entriesOf, putAll}
+use Rattle.register.specs.Listings.{areaAt, entriesOf, putAll}
 use Rattle.register.specs.Enrolment.{when}
 use Rattle.booking.specs.declared.new_nodes.NewNode.{NewNode}
 use Rattle.booking.specs.declared.new_nodes.NewNodes.{NewNodes}
@@ -21,12 +21,12 @@ use Rattle.booking.proofs.new_nodes.put_frees.Statement.{statement}
 use Rattle.booking.proofs.new_nodes.put_frees.Tie as tie
 
 abbrev Inv-loop : tie.InvT-loop
-Inv-loop nodes count list l₀ i₀ l i =
+Inv-loop areas count list l₀ i₀ l i =
     (i ≤ count)
-    × Coming (putAll (areaIn nodes)) (putAll (areaIn nodes) (entriesOf l₀) (freesOf (take count list))) (freesOf (drop i (take count list))) l
+    × Coming (putAll (areaAt areas)) (putAll (areaAt areas) (entriesOf l₀) (freesOf (take count list))) (freesOf (drop i (take count list))) l
 
 abbrev μ-loop : tie.MeasureT-loop
-μ-loop nodes count list l₀ i₀ l i = count - i
+μ-loop areas count list l₀ i₀ l i = count - i
 
 -- what comes with the next node and after it
 module _ (c : tie.In-loop Inv-loop μ-loop) where
@@ -40,7 +40,7 @@ module _ (c : tie.In-loop Inv-loop μ-loop) where
   rest = freesOf (drop (c .before .loop .i + 1) (those new))
 
   abbrev areas : ℕ → ℕ
-  areas = areaIn (c .before .before .before .args .nodes)
+  areas = areaAt (c .before .before .before .args .areas .now)
 
   abbrev Brings : List ℕ → Listing → Type 0
   Brings = Coming (putAll areas) (putAll areas (entriesOf (c .before .before .before .args .free)) (freesOf (those new)))
@@ -63,7 +63,7 @@ loop-holds c =
     let s = c .before in
     let n = s .args .new in (
       search needs,
-      coming-start (putAll (areaIn (s .args .nodes))) (freesOf (those n)) (s .args .free) (s .pre .0)
+      coming-start (putAll (areaAt (s .args .areas .now))) (freesOf (those n)) (s .args .free) (s .pre .0)
           (omega (arith, frees-most (n .count) (n .list), s .pre .2)),
     )
 
@@ -98,7 +98,7 @@ returns : tie.Need-returns Inv-loop μ-loop
 returns c =
     let l = c .before .loop in
     let a = c .before .before .before .args in
-    coming-end (put-grows (areaIn (a .nodes)))
+    coming-end (put-grows (areaAt (a .areas .now)))
     (rw (none-left (a .new .list) (a .new .count) (l .i) (c .loop-test .left)) at (l .inv .1))
 
 pub put-frees-spec : {M : Type 1} → statement M

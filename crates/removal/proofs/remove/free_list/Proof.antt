@@ -3,6 +3,7 @@ use mathlib.Core.Path.{refl, ap, _∙_}
 use native.Mathlib.Omega.{arith}
 use Rattle.register.specs.declared.listing.Listing.{Listing}
 use Rattle.register.specs.Listings.{cutAll, entriesOf}
+use Rattle.register.proofs.Areas.{areas-are}
 use Rattle.register.proofs.Listed.{entries-are, kept-as}
 use Rattle.removal.specs.Going.{places}
 use borrow.Author.Needs.{needs}
@@ -12,18 +13,26 @@ use Rattle.removal.proofs.remove.free_list.Tie as tie
 cut-all-requires : tie.Need-cut-all-requires
 cut-all-requires c κs = search needs
 
+areas-of-requires : tie.Need-areas-of-requires
+areas-of-requires c κs = search needs
+
 put-requires : tie.Need-put-requires
 put-requires c κs =
-    let s = c .before .before .before in
+    let c1 = c .before .before in
+    let s = c1 .before .before .before in
     let xs = cutAll (entriesOf (s .args .free)) (places (s .args .g)) in
-    let n = ap (λ (l : Listing). l .count) (c .cut-all .ensures) in
-    (kept-as xs (c .cut-all .ensures) (omega (arith, s .pre .2)), omega (arith, s .pre .2))
+    let n = ap (λ (l : Listing). l .count) (c1 .cut-all .ensures) in
+    (kept-as xs (c1 .cut-all .ensures) (omega (arith, s .pre .2)), omega (arith, s .pre .2))
 
 returns : tie.Need-returns
 returns c =
-    let a = c .before .before .before .before .args in
+    let c2 = c .before .before in
+    let c1 = c2 .before in
+    let s = c1 .before .before .before in
+    let a = s .args in
     let xs = cutAll (entriesOf (a .free)) (places (a .g)) in
-    c .put .ensures ∙ rw (entries-are xs (c .before .cut-all .ensures)) refl
+    c .put .ensures
+    ∙ rw (c2 .areas-of .ensures, areas-are (a .nodes) (s .good .1 .1 .0 .1 .0 .1), entries-are xs (c1 .cut-all .ensures)) refl
 
 pub free-list-spec : {M : Type 1} → statement M
-free-list-spec = tie.close (tie.spec cut-all-requires put-requires returns)
+free-list-spec = tie.close (tie.spec cut-all-requires areas-of-requires put-requires returns)

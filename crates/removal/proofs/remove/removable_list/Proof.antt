@@ -23,45 +23,37 @@ room c = c .before .before .before .pre .2
 strike-all-requires : tie.Need-strike-all-requires
 strike-all-requires c κs = search needs
 
-mul-parent : tie.Need-mul-parent
-mul-parent c = search needs
-
-array-copy-out-parent : tie.Need-array-copy-out-parent
-array-copy-out-parent c = search needs
-
 strike-requires : tie.Need-strike-requires
 strike-requires c κs =
-    let c1 = c .before .before .before in
+    let c1 = c .before .before in
     kept-as (left c1) (c1 .strike-all .ensures) (omega (arith, room c1))
 
 push-requires : tie.Need-push-requires
 push-requires c κs =
-    let c1 = c .before .before .before .before in
+    let c1 = c .before .before .before in
     let a = c1 .before .before .before .args in (
-      struck-kept (a .t3) (a .q) (left c1) (c1 .strike-all .ensures) (c .strike .ensures) (room c1),
-      struck-room (a .t3) (a .q) (left c1) (c1 .strike-all .ensures) (c .strike .ensures) (room c1),
+      struck-kept (a .parent) (a .q) (left c1) (c1 .strike-all .ensures) (c .strike .ensures) (room c1),
+      struck-room (a .parent) (a .q) (left c1) (c1 .strike-all .ensures) (c .strike .ensures) (room c1),
     )
 
 returns : tie.Need-returns
 returns c =
     let c2 = c .before in
-    let c1 = c2 .before .before .before .before in
+    let c1 = c2 .before .before .before in
     let a = c1 .before .before .before .args in
-    comes-back (a .t3) (a .q) (left c1) (c1 .strike-all .ensures) (c2 .strike .ensures) (room c1) (c2 .before .if1 .taken) (c .push .ensures)
+    comes-back (a .parent) (a .q) (left c1) (c1 .strike-all .ensures) (c2 .strike .ensures) (room c1) (c2 .before .if1 .taken) (c .push .ensures)
 
 returns-2 : tie.Need-returns-2
 returns-2 c =
-    let c1 = c .before .before .before in
+    let c1 = c .before .before in
     let a = c1 .before .before .before .args in
-    c1 .strike-all .ensures ∙ stays (a .t3) (a .q) (left c1) (c .if1 .left)
+    c1 .strike-all .ensures ∙ stays (a .parent) (a .q) (left c1) (c .if1 .left)
 
 pub removable-list-spec : {M : Type 1} → statement M
 removable-list-spec =
     tie.close
     (tie.spec
     strike-all-requires
-    mul-parent
-    array-copy-out-parent
     strike-requires
     push-requires
     returns

@@ -1,106 +1,90 @@
--- `asked` meets its contract: each request goes to its op's function. Assumes nothing.
-use Rattle.session.proofs.Ways.{asks}
+-- `asked` meets its contract: a request goes by what it has to do with. Assumes nothing.
+use Rattle.session.proofs.Ways.{replied-steps, keep-steps, restore-steps}
 use borrow.Author.Needs.{needs}
 use Rattle.session.proofs.Session.asked.Statement.{statement}
 use Rattle.session.proofs.Session.asked.Tie as tie
 
-enum-known-request : tie.Need-enum-known-request
-enum-known-request c = search needs
-
-open-requires : tie.Need-open-requires
-open-requires c κs = search needs
-
-enum-known-request-2 : tie.Need-enum-known-request-2
-enum-known-request-2 c = search needs
-
-offers-requires : tie.Need-offers-requires
-offers-requires c κs = search needs
-
-enum-known-request-3 : tie.Need-enum-known-request-3
-enum-known-request-3 c = search needs
-
-insert-requires : tie.Need-insert-requires
-insert-requires c κs = search needs
-
-enum-known-request-4 : tie.Need-enum-known-request-4
-enum-known-request-4 c = search needs
-
-remove-requires : tie.Need-remove-requires
-remove-requires c κs = search needs
+scope-of-requires : tie.Need-scope-of-requires
+scope-of-requires c κs = search needs
 
 enum-told : tie.Need-enum-told
 enum-told c = search needs
 
-keep-requires : tie.Need-keep-requires
-keep-requires c κs = search needs
+replied-requires : tie.Need-replied-requires
+replied-requires c κs = search needs
+
+told-requires : tie.Need-told-requires
+told-requires c κs = search needs
 
 enum-told-2 : tie.Need-enum-told-2
 enum-told-2 c = search needs
 
-restore-requires : tie.Need-restore-requires
-restore-requires c κs = search needs
+keep-requires : tie.Need-keep-requires
+keep-requires c κs = search needs
+
+says-requires : tie.Need-says-requires
+says-requires c κs = search needs
+
+says-requires-2 : tie.Need-says-requires-2
+says-requires-2 c κs = search needs
 
 enum-told-3 : tie.Need-enum-told-3
 enum-told-3 c = search needs
 
-report-requires : tie.Need-report-requires
-report-requires c κs = search needs
+restore-requires : tie.Need-restore-requires
+restore-requires c κs = search needs
 
-enum-told-4 : tie.Need-enum-told-4
-enum-told-4 c = search needs
-
-malformed-requires : tie.Need-malformed-requires
-malformed-requires c κs = search needs
+told-requires-2 : tie.Need-told-requires-2
+told-requires-2 c κs = search needs
 
 returns : tie.Need-returns
-returns c = asks (c .before .before .request .given .1) (c .«open» .ensures)
+returns c =
+    let k = c .before .before in
+    let o = k .before .before in
+    let a = o .before .before .args in
+    rw (c .told .ensures) (replied-steps (a .self) (a .request) (o .scope-of .ensures) (k .enum-told .given .1) (c .before .replied .ensures))
 
 returns-2 : tie.Need-returns-2
-returns-2 c = asks (c .before .before .request2 .given .1) (c .offers .ensures)
+returns-2 c =
+    let t = c .before in
+    let k = t .before .before .before in
+    let o = k .before .before in
+    let a = o .before .before .args in
+    rw (c .says .ensures)
+    (keep-steps (a .self) (a .request) (o .scope-of .ensures) (k .enum-told2 .given .1) (t .before .before .keep .ensures) (t .if1 .taken))
 
 returns-3 : tie.Need-returns-3
-returns-3 c = asks (c .before .before .request3 .given .1) (c .insert .ensures)
+returns-3 c =
+    let t = c .before in
+    let k = t .before .before .before in
+    let o = k .before .before in
+    let a = o .before .before .args in
+    rw (c .says2 .ensures)
+    (keep-steps (a .self) (a .request) (o .scope-of .ensures) (k .enum-told2 .given .1) (t .before .before .keep .ensures) (t .if1 .left))
 
 returns-4 : tie.Need-returns-4
-returns-4 c = asks (c .before .before .request4 .given .1) (c .remove .ensures)
-
-returns-5 : tie.Need-returns-5
-returns-5 c = asks (c .before .enum-told .given .1) (c .keep .ensures)
-
-returns-6 : tie.Need-returns-6
-returns-6 c = asks (c .before .enum-told2 .given .1) (c .restore .ensures)
-
-returns-7 : tie.Need-returns-7
-returns-7 c = asks (c .before .enum-told3 .given .1) (c .report .ensures)
-
-returns-8 : tie.Need-returns-8
-returns-8 c = asks (c .before .enum-told4 .given .1) (c .malformed .ensures)
+returns-4 c =
+    let k = c .before .before .before in
+    let o = k .before .before in
+    let a = o .before .before .args in
+    rw (c .told2 .ensures) (restore-steps (a .self) (a .request) (o .scope-of .ensures) (k .enum-told3 .given .1) (c .before .restore .ensures))
 
 pub asked-spec : {M : Type 1} → statement M
 asked-spec =
     tie.close
     (tie.spec
-    enum-known-request
-    open-requires
-    enum-known-request-2
-    offers-requires
-    enum-known-request-3
-    insert-requires
-    enum-known-request-4
-    remove-requires
+    scope-of-requires
     enum-told
-    keep-requires
+    replied-requires
+    told-requires
     enum-told-2
-    restore-requires
+    keep-requires
+    says-requires
+    says-requires-2
     enum-told-3
-    report-requires
-    enum-told-4
-    malformed-requires
+    restore-requires
+    told-requires-2
     returns
     returns-2
     returns-3
-    returns-4
-    returns-5
-    returns-6
-    returns-7
-    returns-8)
+    returns-4)

@@ -1,14 +1,17 @@
 -- `malformed` meets its contract. Assumes nothing.
-use Rattle.session.proofs.Ways.{malformed-gives}
+use Rattle.session.proofs.Ways.{malformed-steps}
 use borrow.Author.Needs.{needs}
 use Rattle.session.proofs.Session.malformed.Statement.{statement}
 use Rattle.session.proofs.Session.malformed.Tie as tie
 
-say-malformed-requires : tie.Need-say-malformed-requires
-say-malformed-requires c κs = search needs
+malformed-requires : tie.Need-malformed-requires
+malformed-requires c κs = search needs
+
+says-requires : tie.Need-says-requires
+says-requires c κs = search needs
 
 returns : tie.Need-returns
-returns c = malformed-gives _ (c .say-malformed .ensures)
+returns c = rw (c .says .ensures) (malformed-steps (c .before .malformed .ensures))
 
 pub malformed-spec : {M : Type 1} → statement M
-malformed-spec = tie.close (tie.spec say-malformed-requires returns)
+malformed-spec = tie.close (tie.spec malformed-requires says-requires returns)

@@ -1,42 +1,23 @@
 -- `columns_of` meets its contract: each column is filled as far as the loop has come.
-use mathlib.Core.Path.{_≡_, refl, sym, _∙_}
-use Prim.Native.Nat.{ℕ, _-_, _≤_, _<_}
+use mathlib.Core.Path.{_≡_, refl}
+use Prim.Native.Nat.{_-_, _≤_, _<_}
 use native.Mathlib.Omega.{arith}
-use lib.ListN.{length, length-map}
+use lib.ListN.{length}
 use borrow.Author.Needs.{needs}
-use Rattle.piece.specs.Sides.{area}
-use Rattle.tree.specs.Snapshot.{kindNo}
-use Rattle.lists.specs.Lists.{limit}
-use Rattle.table.specs.declared.Node.{Node}
+use Rattle.lists.specs.Lists.{limit, zeros}
 use Rattle.sound.specs.Columns.{areasOf, serialsOf, firstsOf, nextsOf, kindsOf}
-use Rattle.sound.proofs.Filled.{filled, fill-more, fill-all, columns-are}
+use Rattle.sound.proofs.Filled.{areaOf, serialOf, firstOf, nextOf, kindOf, filled, fill-more, fill-column, columns-are}
 use Rattle.sound.proofs.columns.columns_of.Statement.{statement}
 use Rattle.sound.proofs.columns.columns_of.Tie as tie
-
--- the five fields
-abbrev areaOf : Node → ℕ
-areaOf n = area (n .datum .size)
-
-abbrev serialOf : Node → ℕ
-serialOf n = n .datum .serial
-
-abbrev firstOf : Node → ℕ
-firstOf n = n .first
-
-abbrev nextOf : Node → ℕ
-nextOf n = n .next
-
-abbrev kindOf : Node → ℕ
-kindOf n = kindNo (n .datum .kind)
 
 abbrev Inv-loop : tie.InvT-loop
 Inv-loop nodes area₀ serial₀ first₀ next₀ kind₀ i₀ area serial first next kind i =
     (i ≤ limit)
-    × (area ≡ filled (areasOf nodes) i)
-    × (serial ≡ filled (serialsOf nodes) i)
-    × (first ≡ filled (firstsOf nodes) i)
-    × (next ≡ filled (nextsOf nodes) i)
-    × (kind ≡ filled (kindsOf nodes) i)
+    × (area ≡ filled (zeros limit) (areasOf nodes) i)
+    × (serial ≡ filled (zeros limit) (serialsOf nodes) i)
+    × (first ≡ filled (zeros limit) (firstsOf nodes) i)
+    × (next ≡ filled (zeros limit) (nextsOf nodes) i)
+    × (kind ≡ filled (zeros limit) (kindsOf nodes) i)
 
 abbrev μ-loop : tie.MeasureT-loop
 μ-loop nodes area₀ serial₀ first₀ next₀ kind₀ i₀ area serial first next kind i = limit - i
@@ -97,11 +78,11 @@ loop-again c =
     let len : length t ≡ limit = s .good .0 .1 .0 .1 in
     let h : l .i < limit = omega arith in (
       omega arith,
-      fill-more areaOf t len (l .area) (l .i) _ (l .inv .1) h (c .before .area .ensures),
-      fill-more serialOf t len (l .serial) (l .i) _ (l .inv .2) h refl,
-      fill-more firstOf t len (l .first) (l .i) _ (l .inv .3) h refl,
-      fill-more nextOf t len (l .next) (l .i) _ (l .inv .4) h refl,
-      fill-more kindOf t len (l .kind) (l .i) _ (l .inv .5) h (c .kind-number .ensures),
+      fill-more areaOf t len (zeros limit) (l .area) (l .i) _ (l .inv .1) h (c .before .area .ensures),
+      fill-more serialOf t len (zeros limit) (l .serial) (l .i) _ (l .inv .2) h refl,
+      fill-more firstOf t len (zeros limit) (l .first) (l .i) _ (l .inv .3) h refl,
+      fill-more nextOf t len (zeros limit) (l .next) (l .i) _ (l .inv .4) h refl,
+      fill-more kindOf t len (zeros limit) (l .kind) (l .i) _ (l .inv .5) h (c .kind-number .ensures),
     )
 
 returns : tie.Need-returns Inv-loop μ-loop
@@ -111,11 +92,11 @@ returns c =
     let len : length t ≡ limit = c .before .before .good .0 .1 .0 .1 in
     let h : limit ≤ l .i = omega arith in
     columns-are t _ _ _ _ _
-    (fill-all areaOf t len (l .area) (l .i) (l .inv .1) h)
-    (fill-all serialOf t len (l .serial) (l .i) (l .inv .2) h)
-    (fill-all firstOf t len (l .first) (l .i) (l .inv .3) h)
-    (fill-all nextOf t len (l .next) (l .i) (l .inv .4) h)
-    (fill-all kindOf t len (l .kind) (l .i) (l .inv .5) h)
+    (fill-column areaOf t len (l .area) (l .i) (l .inv .1) h)
+    (fill-column serialOf t len (l .serial) (l .i) (l .inv .2) h)
+    (fill-column firstOf t len (l .first) (l .i) (l .inv .3) h)
+    (fill-column nextOf t len (l .next) (l .i) (l .inv .4) h)
+    (fill-column kindOf t len (l .kind) (l .i) (l .inv .5) h)
 
 pub columns-of-spec : {M : Type 1} → statement M
 columns-of-spec =

@@ -1,5 +1,5 @@
--- `rows_ok` meets its contract: the rows that the outer loop has passed are linked and filled, and what the rest of a walk says is what
--- the whole row says. A side is below 2^32 and a walk has at most `limit` steps, so the sum fits.
+-- `rows_ok` meets its contract: the rows that the outer loop has passed are linked, filled and marked, and what the rest of a walk says and
+-- marks is what the whole row says and marks. A side is below 2^32 and a walk has at most `limit` steps, so the sum fits.
 use mathlib.Core.Path.{_≡_, refl, sym, ap, _∙_}
 use mathlib.Core.Bool.{true, false}
 use mathlib.Core.Logic.{_⊎_, inl, inr, ⊎-elim}
@@ -10,30 +10,36 @@ use borrow.Author.Tests.{ltb-true, ltb-false}
 use Rattle.lists.specs.Lists.{limit}
 use Rattle.table.specs.Table.{at}
 use Rattle.lists.specs.Search.{every}
+use Rattle.sound.specs.Columns.{nextsOf}
 use Rattle.sound.specs.Rows.{chainB, rowB, rowsB}
+use Rattle.sound.specs.Hung.{markRow, hangRows}
 use Rattle.lists.proofs.Scan.{every-none, every-more, every-fails}
+use Rattle.sound.proofs.Says.{clash}
+use Rattle.sound.proofs.Marks.{hang-on, hang-over, hang-none, hang-row, hang-skip}
 use Rattle.sound.proofs.Walk.{chain-on, chain-bad, chain-fails, chain-ends, row-is, row-none}
 use Rattle.sound.proofs.rows.rows_ok.Statement.{statement}
 use Rattle.sound.proofs.rows.rows_ok.Tie as tie
 
 abbrev Inv-loop : tie.InvT-loop
-Inv-loop stages nodes ok₀ q up above pv₀ p₀ sum₀ left₀ ok pv p sum left =
+Inv-loop stages hung₀ nodes ok₀ q up above pv₀ p₀ sum₀ left₀ hung ok pv p sum left =
     (left ≤ limit)
     × (ok ≡ true)
     × (sum + left * 4294967296 ≤ limit * 4294967296)
     × (chainB limit stages nodes q left pv p sum ≡ chainB limit stages nodes q limit limit (at nodes q .first) 0)
+    × (markRow limit (nextsOf nodes) left p hung ≡ markRow limit (nextsOf nodes) limit (at nodes q .first) hung₀)
 
 abbrev μ-loop : tie.MeasureT-loop
-μ-loop stages nodes ok₀ q up above pv₀ p₀ sum₀ left₀ ok pv p sum left = left
+μ-loop stages hung₀ nodes ok₀ q up above pv₀ p₀ sum₀ left₀ hung ok pv p sum left = left
 
 abbrev Inv-all : tie.InvT-all
-Inv-all stages nodes ok₀ q₀ ok q = (q ≤ limit) × (ok ≡ true) × (every (rowB limit stages nodes) q ≡ true)
+Inv-all stages hung₀ nodes ok₀ q₀ hung ok q =
+    (q ≤ limit) × (ok ≡ true) × (every (rowB limit stages nodes) q ≡ true) × (hung ≡ hangRows limit nodes q hung₀)
 
 abbrev μ-all : tie.MeasureT-all
-μ-all stages nodes ok₀ q₀ ok q = limit - q
+μ-all stages hung₀ nodes ok₀ q₀ hung ok q = limit - q
 
 all-holds : tie.Need-all-holds Inv-loop μ-loop Inv-all μ-all
-all-holds c = (omega arith, refl, every-none _)
+all-holds c = (omega arith, refl, every-none _, sym (hang-none limit (c .args .t1) (c .args .hung .now)))
 
 mul-up : tie.Need-mul-up Inv-loop μ-loop Inv-all μ-all
 mul-up c = search needs
@@ -48,7 +54,7 @@ cast-above : tie.Need-cast-above Inv-loop μ-loop Inv-all μ-all
 cast-above c = search needs
 
 loop-holds : tie.Need-loop-holds Inv-loop μ-loop Inv-all μ-all
-loop-holds c = (omega arith, c .before .before .before .before .all .inv .1, omega arith, refl)
+loop-holds c = (omega arith, c .before .before .before .before .all .inv .1, omega arith, refl, refl)
 
 cast-here : tie.Need-cast-here Inv-loop μ-loop Inv-all μ-all
 cast-here c = search needs
@@ -75,6 +81,9 @@ some c = ltb-true 0 (c .before .before .before .before .before .before .loop .le
 add-sum : tie.Need-add-sum Inv-loop μ-loop Inv-all μ-all
 add-sum c = omega (arith, c .step-of .ok, some c)
 
+element-write-hung : tie.Need-element-write-hung Inv-loop μ-loop Inv-all μ-all
+element-write-hung c = search needs
+
 sub-left : tie.Need-sub-left Inv-loop μ-loop Inv-all μ-all
 sub-left c = omega (arith, some c)
 
@@ -97,6 +106,7 @@ loop-again c =
       ap (λ (s : ℕ). chainB limit (a .stages) (a .t1) (o .q) (l .left - 1) (l .p) (at (a .t1) (l .p) .next) (l .sum + s)) (c .step-of .ensures)
           ∙ sym on
           ∙ l .inv .3,
+      sym (hang-on limit (a .t1) (l .left) (l .p) (l .hung) h in-row) ∙ l .inv .4,
     )
 
 ends-ok-requires : tie.Need-ends-ok-requires Inv-loop μ-loop Inv-all μ-all
@@ -121,9 +131,22 @@ all-again c =
     ⊎-elim (λ v. inr (ltb-false 0 (l .left) (v .1 .left))) (λ v. inl (v .left)) (w .2 .came)
     in
     let ends = chain-ends limit (a .stages) (a .t1) (o .q) (l .left) (l .pv) (l .p) (l .sum) stopped in
-    let row = sym (l .inv .3) ∙ ends (w .3 .ensures) (w .4 .taken) (ltb-true 0 (l .left) (w .5 .taken)) in
-    (omega arith, w .6 ∙ l .inv .1, more (row-is limit (a .stages) (a .t1) (o .q) parent (w .0 .taken) row)))
-    (λ w. (omega arith, w .1 ∙ o .inv .1, more (row-none limit (a .stages) (a .t1) (o .q) parent (w .0 .left))))
+    let row = sym (l .inv .3) ∙ ends (w .3 .ensures) (w .4 .taken) (ltb-true 0 (l .left) (w .5 .taken)) in (
+      omega arith,
+      w .7 ∙ l .inv .1,
+      more (row-is limit (a .stages) (a .t1) (o .q) parent (w .0 .taken) row),
+      w .6
+          ∙ sym (hang-over limit (a .t1) (l .left) (l .p) (l .hung) stopped)
+          ∙ l .inv .4
+          ∙ ap (markRow limit (nextsOf (a .t1)) limit (at (a .t1) (o .q) .first)) (o .inv .3)
+          ∙ sym (hang-row limit (a .t1) (o .q) (a .hung .now) parent (w .0 .taken)),
+    ))
+    (λ w. (
+      omega arith,
+      w .2 ∙ o .inv .1,
+      more (row-none limit (a .stages) (a .t1) (o .q) parent (w .0 .left)),
+      w .1 ∙ o .inv .3 ∙ sym (hang-skip limit (a .t1) (o .q) (a .hung .now) parent (w .0 .left)),
+    ))
     (c .if1 .came)
 
 returns : tie.Need-returns Inv-loop μ-loop Inv-all μ-all
@@ -131,7 +154,7 @@ unfolding rowsB
 returns c =
     let o = c .before .all in
     let full : o .q ≡ limit = omega arith in
-    o .inv .1 ∙ sym (rw full at (o .inv .2))
+    (o .inv .1 ∙ sym (rw full at (o .inv .2)), λ e. rw full at (o .inv .3))
 
 returns-2 : tie.Need-returns-2 Inv-loop μ-loop Inv-all μ-all
 unfolding rowsB
@@ -142,10 +165,12 @@ returns-2 c =
     let o = t1 .before .before .before .before .all in
     let a = t1 .before .before .before .before .before .args in
     let bad = chain-bad limit (a .stages) (a .t1) (o .q) (l .left) (l .pv) (l .p) (l .sum) (t2 .before .loop-test .taken) in
-    let row = sym (l .inv .3) ∙ bad (c .before .child-ok .ensures) (c .if3 .left) in
-    sym
-    (every-fails (rowB limit (a .stages) (a .t1)) limit (o .q) (omega arith)
-    (row-is limit (a .stages) (a .t1) (o .q) (t1 .before .is-parent .ensures) (t1 .if1 .taken) row))
+    let row = sym (l .inv .3) ∙ bad (c .before .child-ok .ensures) (c .if3 .left) in (
+      sym
+          (every-fails (rowB limit (a .stages) (a .t1)) limit (o .q) (omega arith)
+          (row-is limit (a .stages) (a .t1) (o .q) (t1 .before .is-parent .ensures) (t1 .if1 .taken) row)),
+      λ e. absurd (clash e),
+    )
 
 returns-3 : tie.Need-returns-3 Inv-loop μ-loop Inv-all μ-all
 unfolding rowsB
@@ -161,9 +186,12 @@ returns-3 c =
     ⊎-elim (λ w. inr (ltb-false 0 (l .left) (w .1 .left))) (λ w. inl (w .left)) (c .if4 .came)
     in
     let fails = chain-fails limit (a .stages) (a .t1) (o .q) (l .left) (l .pv) (l .p) (l .sum) stopped (c .before .ends-ok .ensures) failed in
-    sym
-    (every-fails (rowB limit (a .stages) (a .t1)) limit (o .q) (omega arith)
-    (row-is limit (a .stages) (a .t1) (o .q) (t1 .before .is-parent .ensures) (t1 .if1 .taken) (sym (l .inv .3) ∙ fails)))
+    let row = sym (l .inv .3) ∙ fails in (
+      sym
+          (every-fails (rowB limit (a .stages) (a .t1)) limit (o .q) (omega arith)
+          (row-is limit (a .stages) (a .t1) (o .q) (t1 .before .is-parent .ensures) (t1 .if1 .taken) row)),
+      λ e. absurd (clash e),
+    )
 
 pub rows-ok-spec : {M : Type 1} → statement M
 rows-ok-spec =
@@ -186,6 +214,7 @@ rows-ok-spec =
     step-of-requires
     cast-sum
     add-sum
+    element-write-hung
     sub-left
     loop-less
     loop-again

@@ -1,13 +1,10 @@
--- `table::places::append` meets its contract: the leaf is entered, tied to what was last, and made the last. Assumes nothing.
-use mathlib.Core.Path.{_≡_, refl, ap, _∙_}
-use mathlib.Core.List.{List}
+-- `table::places::append` meets its contract: the leaf is entered, tied to what was last, and made the last, by proofs/Appended.antt.
+-- Assumes nothing.
+use mathlib.Core.Path.{_∙_}
 use mathlib.Core.Logic.{⊎-elim}
-use borrow.Author.Tests.{le-leb, lt-leb}
-use lib.ListN.{set}
-use Rattle.lists.specs.Lists.{limit}
-use Rattle.table.specs.declared.Node.{Node}
-use Rattle.table.specs.Table.{at, enter, tie, close, append}
 use borrow.Author.Needs.{needs}
+use Rattle.lists.specs.Lists.{limit}
+use Rattle.table.proofs.Appended.{tied-first, tied-next, appended}
 use Rattle.table.proofs.places.append.Statement.{statement}
 use Rattle.table.proofs.places.append.Tie as need
 
@@ -75,22 +72,15 @@ array-set-from-t-4 : need.Need-array-set-from-t-4
 array-set-from-t-4 c = search needs
 
 returns : need.Need-returns
-unfolding append
 returns c =
     let s = c .before .before .before .before .before .args in
-    let l = at (s .nodes) (s .q) .last in
-    let leaf = c .before .before .before .leaf in
-    let e = set (s .nodes) (s .a) (leaf .result) in
-    let t = c .before .before .if1 .t in
-    let entered : e ≡ enter limit (s .nodes) (s .q) (s .a) (s .d) = ap (λ (n : Node). set (s .nodes) (s .a) n) (leaf .ensures) in
-    let tied : t ≡ tie limit e (s .q) l (s .a) =
-    ⊎-elim
-    (λ w. w .3 ∙ ap (λ (n : Node). set e (s .q) n) (w .2 .ensures) ∙ rw (le-leb limit l (w .0 .taken)) refl)
-    (λ w. w .3 ∙ ap (λ (n : Node). set e l n) (w .2 .ensures) ∙ rw (lt-leb limit l (w .0 .left)) refl)
-    (c .before .before .if1 .came)
-    in
-    ap (λ (n : Node). set t (s .q) n) (c .with-last .ensures)
-    ∙ ap (λ (u : List Node). close u (s .q) (s .a)) (tied ∙ ap (λ (u : List Node). tie limit u (s .q) l (s .a)) entered)
+    let new = c .before .before .before .leaf .ensures in
+    appended limit (s .nodes) (s .q) (s .a) (s .d) new
+    (⊎-elim
+    (λ w. w .3 ∙ tied-first limit (s .nodes) (s .q) (s .a) (s .d) new (w .0 .taken) (w .2 .ensures))
+    (λ w. w .3 ∙ tied-next limit (s .nodes) (s .q) (s .a) (s .d) new (w .0 .left) (w .2 .ensures))
+    (c .before .before .if1 .came))
+    (c .with-last .ensures)
 
 pub append-spec : {M : Type 1} → statement M
 append-spec =

@@ -1,12 +1,8 @@
 -- `table::places::unlink` meets its contract: what was before x and what comes after it are joined, and then x is zero. Assumes nothing.
-use mathlib.Core.Path.{_≡_, refl, ap, _∙_}
-use mathlib.Core.List.{List}
 use mathlib.Core.Logic.{⊎-elim}
-use borrow.Author.Tests.{le-leb, lt-leb}
-use lib.ListN.{set}
 use Rattle.lists.specs.Lists.{limit}
-use Rattle.table.specs.declared.Node.{Node}
-use Rattle.table.specs.Table.{at, zeroNode, joinBefore, joinAfter, unlink}
+use Rattle.table.specs.Table.{at}
+use Rattle.table.proofs.Unlinked.{first-joined, next-joined, last-joined, prev-joined, unlinked}
 use borrow.Author.Needs.{needs}
 use Rattle.table.proofs.places.unlink.Statement.{statement}
 use Rattle.table.proofs.places.unlink.Tie as tie
@@ -96,27 +92,23 @@ array-set-from-t-5 : tie.Need-array-set-from-t-5
 array-set-from-t-5 c = search needs
 
 returns : tie.Need-returns
-unfolding unlink
 returns c =
     let s = c .before .before .before .before .before .args in
     let n = at (s .nodes) (s .x) in
     let t = c .before .before .if1 .t in
-    let u = c .before .if2 .t in
-    let first : t ≡ joinBefore limit (s .nodes) (n .parent) (n .prev) (n .next) =
+    let first =
     ⊎-elim
-    (λ w. w .3 ∙ ap (λ (m : Node). set (s .nodes) (n .parent) m) (w .2 .ensures) ∙ rw (le-leb limit (n .prev) (w .0 .taken)) refl)
-    (λ w. w .3 ∙ ap (λ (m : Node). set (s .nodes) (n .prev) m) (w .2 .ensures) ∙ rw (lt-leb limit (n .prev) (w .0 .left)) refl)
+    (λ w. first-joined limit (s .nodes) n (w .0 .taken) (w .2 .ensures) (w .3))
+    (λ w. next-joined limit (s .nodes) n (w .0 .left) (w .2 .ensures) (w .3))
     (c .before .before .if1 .came)
     in
-    let second : u ≡ joinAfter limit t (n .parent) (n .prev) (n .next) =
+    let second =
     ⊎-elim
-    (λ w. w .3 ∙ ap (λ (m : Node). set t (n .parent) m) (w .2 .ensures) ∙ rw (le-leb limit (n .next) (w .0 .taken)) refl)
-    (λ w. w .3 ∙ ap (λ (m : Node). set t (n .next) m) (w .2 .ensures) ∙ rw (lt-leb limit (n .next) (w .0 .left)) refl)
+    (λ w. last-joined limit t n (w .0 .taken) (w .2 .ensures) (w .3))
+    (λ w. prev-joined limit t n (w .0 .left) (w .2 .ensures) (w .3))
     (c .before .if2 .came)
     in
-    ap (λ (m : Node). set u (s .x) m) (c .no-node .ensures)
-    ∙ ap (λ (v : List Node). set v (s .x) zeroNode)
-    (second ∙ ap (λ (v : List Node). joinAfter limit v (n .parent) (n .prev) (n .next)) first)
+    unlinked limit (s .nodes) (s .x) first second (c .no-node .ensures)
 
 pub unlink-spec : {M : Type 1} → statement M
 unlink-spec =

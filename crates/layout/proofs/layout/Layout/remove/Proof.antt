@@ -6,7 +6,7 @@ use borrow.Author.Needs.{needs}
 use lib.ListN.{length}
 use Rattle.layout.specs.declared.replies.Sought.the-variants as sought
 use Rattle.layout.specs.Check.{soundB}
-use Rattle.layout.specs.Answers.{soughtOf}
+use Rattle.layout.specs.Asked.{soughtOf}
 use Rattle.layout.specs.Remove.{goNo}
 use Rattle.layout.proofs.Typed.{typed-sized}
 use Rattle.layout.proofs.RemoveEnds.{outcome-refused, outcome-done, not-sound, no-mark, may-not, may-go, refused-so, taken-so, takeable}

@@ -3,7 +3,7 @@ use mathlib.Core.Path.{refl, ap}
 use mathlib.Core.Bool.{not}
 use borrow.Author.Tests.{eq-eqb, ne-eqb, le-leb, lt-leb}
 use borrow.Author.Needs.{needs}
-use Rattle.layout.specs.Answers.{soughtOf}
+use Rattle.layout.specs.Asked.{soughtOf}
 use Rattle.layout.proofs.Ways.{onward, ended, either, or-else}
 use Rattle.layout.proofs.layout.Layout.sought.Statement.{statement}
 use Rattle.layout.proofs.layout.Layout.sought.Tie as tie

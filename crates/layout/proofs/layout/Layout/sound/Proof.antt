@@ -1,52 +1,115 @@
--- `sound` meets its contract: each way out is one outcome of the tests of `soundB`, the last of them at the columns of the table.
-use mathlib.Core.Path.{ap, _∙_}
+-- `sound` meets its contract: `sound-is` says what the answers of the passes make of the tests behind them.
+use mathlib.Core.Path.{_≡_, sym, ap, _∙_}
+use mathlib.Core.Bool.{_&&_}
 use borrow.Author.Needs.{needs}
-use Rattle.layout.specs.Check.{columnsB, soundB}
-use Rattle.sound.proofs.Chain.{pass-by, stop-by}
+use Rattle.lists.specs.declared.flags.Flags.{Flags}
+use Rattle.sound.proofs.Chain.{pass, stop}
+use Rattle.sound.proofs.Filled.{areaOf, serialOf, fill-zeros}
+use Rattle.layout.specs.Check.{soundB}
+use Rattle.layout.proofs.Typed.{typed-sized}
+use Rattle.layout.proofs.Passes.{first-of, listsB, sound-is}
 use Rattle.layout.proofs.layout.Layout.sound.Statement.{statement}
 use Rattle.layout.proofs.layout.Layout.sound.Tie as tie
 
-domain-ok-requires : tie.Need-domain-ok-requires
-domain-ok-requires c κs = search needs
+array-copy-out-top : tie.Need-array-copy-out-top
+array-copy-out-top c = search needs
+
+cast-held : tie.Need-cast-held
+cast-held c = search needs
+
+cast-frees : tie.Need-cast-frees
+cast-frees c = search needs
+
+cast-removables : tie.Need-cast-removables
+cast-removables c = search needs
+
+flags-of-requires : tie.Need-flags-of-requires
+flags-of-requires c κs = search needs
+
+flags-of-requires-2 : tie.Need-flags-of-requires-2
+flags-of-requires-2 c κs = search needs
+
+rows-ok-requires : tie.Need-rows-ok-requires
+rows-ok-requires c κs = search needs
+
+census-ok-requires : tie.Need-census-ok-requires
+census-ok-requires c κs = search needs
+
+all-differ-requires : tie.Need-all-differ-requires
+all-differ-requires c κs = search needs
+
+frame-ok-requires : tie.Need-frame-ok-requires
+frame-ok-requires c κs = search needs
+
+-- where all passes are through
+passed :
+    (c : tie.After-frame-ok) →
+    let d = c .before in
+    let n = d .before .before in
+    let r = n .before .before .before .before .before .before in
+    let k = r .before .before .before .before in
+    let f = k .before .before in
+    let l = f .before .before .before .before .before .before .before .before .before .before .args .self in
+    soundB l
+    ≡ ((((((f .flags-of .result .ok && k .flags-of2 .result .ok) && r .rows-ok .result) && n .census-ok .result) && d .all-differ .result)
+    && c .frame-ok .result)
+    && listsB l (n .census-ok .last .1 .1 .1 .1 .1 .1 .1 .0) (n .census-ok .last .1 .1 .1 .1 .1 .1 .1 .1 .0))
+passed c =
+    let d = c .before in
+    let n = d .before .before in
+    let r = n .before .before .before .before .before .before in
+    let k = r .before .before .before .before in
+    let f = k .before .before in
+    let s = f .before .before .before .before .before .before .before .before .before .before in
+    let l = s .args .self in
+    let len = typed-sized l _ (s .good .0) .nodes in
+    sound-is l
+    (f .flags-of .ensures)
+    (k .flags-of2 .ensures)
+    (r .rows-ok .ensures .0)
+    (r .rows-ok .ensures .1)
+    (n .census-ok .ensures .0)
+    (n .census-ok .ensures .1 .0 ∙ fill-zeros serialOf (l .nodes) len)
+    (n .census-ok .ensures .1 .1 ∙ fill-zeros areaOf (l .nodes) len)
+    (d .all-differ .ensures)
+    (c .frame-ok .ensures)
+
+lists-ok-requires : tie.Need-lists-ok-requires
+lists-ok-requires c κs =
+    let t = c .before .before .before .before in
+    let w = t .before .before .before in
+    let d = w .before in
+    let n = d .before .before in
+    let r = n .before .before .before .before .before .before in
+    let k = r .before .before .before .before in
+    let f = k .before .before in
+    let all =
+    first-of (f .flags-of .result .ok) (k .flags-of2 .result .ok) (r .rows-ok .result) (n .census-ok .result) (d .all-differ .result)
+    (w .frame-ok .result) (t .if1 .taken) in
+    sym (ap (λ (x : Flags). x .ok) (f .flags-of .ensures)) ∙ all
 
 returns : tie.Need-returns
-unfolding soundB
-returns c = stop-by _ (c .before .domain-ok .ensures) (c .if1 .left)
-
-table-ok-requires : tie.Need-table-ok-requires
-table-ok-requires c κs = search needs
+returns c =
+    let t = c .before .before .before .before .before in
+    pass (t .if1 .taken) (c .lists-ok .ensures) ∙ sym (passed (t .before .before .before))
 
 returns-2 : tie.Need-returns-2
-unfolding soundB
-returns-2 c =
-    let c1 = c .before .before in
-    pass-by (c1 .before .domain-ok .ensures) (c1 .if1 .taken)
-    (stop-by _ (c .before .table-ok .ensures) (c .if2 .left))
-
-columns-of-requires : tie.Need-columns-of-requires
-columns-of-requires c κs = search needs
-
-columns-ok-requires : tie.Need-columns-ok-requires
-columns-ok-requires c κs = search needs
-
-returns-3 : tie.Need-returns-3
-unfolding soundB
-returns-3 c =
-    let c2 = c .before .before .before in
-    let c1 = c2 .before .before in
-    let a = c1 .before .before .before .args in
-    pass-by (c1 .before .domain-ok .ensures) (c1 .if1 .taken)
-    (pass-by (c2 .before .table-ok .ensures) (c2 .if2 .taken)
-    (c .columns-ok .ensures ∙ ap (columnsB (a .self)) (c .before .columns-of .ensures)))
+returns-2 c = stop _ (c .if1 .left) ∙ sym (passed (c .before .before .before))
 
 pub sound-spec : {M : Type 1} → statement M
 sound-spec =
     tie.close
     (tie.spec
-    domain-ok-requires
+    array-copy-out-top
+    cast-held
+    cast-frees
+    cast-removables
+    flags-of-requires
+    flags-of-requires-2
+    rows-ok-requires
+    census-ok-requires
+    all-differ-requires
+    frame-ok-requires
+    lists-ok-requires
     returns
-    table-ok-requires
-    returns-2
-    columns-of-requires
-    columns-ok-requires
-    returns-3)
+    returns-2)

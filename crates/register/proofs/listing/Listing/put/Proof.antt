@@ -1,7 +1,7 @@
 -- `Listing::put` meets its contract: the place goes in where the search says. Assumes nothing.
 use native.Mathlib.Omega.{arith}
 use borrow.Author.Needs.{needs}
-use Rattle.register.specs.Listings.{areaIn, entriesOf}
+use Rattle.register.specs.Listings.{areaAt, entriesOf}
 use Rattle.register.proofs.Listed.{length-entries, berth-most, put-one}
 use Rattle.register.proofs.listing.Listing.put.Statement.{statement}
 use Rattle.register.proofs.listing.Listing.put.Tie as tie
@@ -14,7 +14,7 @@ insert-at-requires c κs =
     let s = c .before .before .before in
     let e = c .before .berth .ensures in
     let n = length-entries (s .pre .0) in
-    let m = berth-most (areaIn (s .args .nodes)) (entriesOf (s .args .self)) (s .args .place) in
+    let m = berth-most (areaAt (s .args .areas .now)) (entriesOf (s .args .self)) (s .args .place) in
     (omega arith, s .pre .1)
 
 add-t10 : tie.Need-add-t10
@@ -24,7 +24,7 @@ returns : tie.Need-returns
 returns c =
     let s = c .before .before .before .before in
     let b = c .before .before .berth in
-    put-one (s .pre .0) (s .args .place) (areaIn (s .args .nodes)) (b .ensures) (s .pre .1) (c .insert-at .ensures)
+    put-one (s .pre .0) (s .args .place) (areaAt (s .args .areas .now)) (b .ensures) (s .pre .1) (c .insert-at .ensures)
 
 pub put-spec : {M : Type 1} → statement M
 put-spec = tie.close (tie.spec berth-requires insert-at-requires add-t10 returns)

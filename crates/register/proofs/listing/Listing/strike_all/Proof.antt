@@ -1,31 +1,71 @@
--- `Listing::strike_all` meets its contract: the places that the loop has passed are struck out. The measure is what is left of the count.
--- Assumes nothing.
+-- `Listing::strike_all` meets its contract: the places that the loop has passed are struck out, and the column says where each entry that is left
+-- stands. The measure is what is left of the count. Assumes nothing.
 use mathlib.Core.Path.{_≡_}
-use Prim.Native.Nat.{_-_, _≤_}
+use mathlib.Core.Logic.{⊎-elim}
+use Prim.Native.Nat.{_-_, _≤_, _<_}
 use native.Mathlib.Omega.{arith}
 use borrow.Author.Needs.{needs}
-use Rattle.register.specs.Listings.{strikeAll, entriesOf}
-use Rattle.register.proofs.Listed.{strike-each, Left, left-start, left-more, left-end}
+use lib.ListN.{take}
+use Rattle.lists.specs.Lists.{limit}
+use Rattle.register.proofs.Listed.{strike-each, left-end}
+use Rattle.register.proofs.Lookup.{Struck, struck-start, struck-one, struck-none}
 use Rattle.register.proofs.listing.Listing.strike_all.Statement.{statement}
 use Rattle.register.proofs.listing.Listing.strike_all.Tie as tie
 
 abbrev Inv-loop : tie.InvT-loop
-Inv-loop order count l₀ i₀ l i = (i ≤ count) × Left strikeAll (entriesOf l₀) order i l
+Inv-loop order count list₀ n₀ spots₀ i₀ list n spots i =
+    (i ≤ count) × Struck (take n₀ list₀) order i (record { list = list; count = n }) spots
 
 abbrev μ-loop : tie.MeasureT-loop
-μ-loop order count l₀ i₀ l i = count - i
+μ-loop order count list₀ n₀ spots₀ i₀ list n spots i = count - i
+
+-- there are entries, no more than the array has
+room : (c : tie.Then1 Inv-loop μ-loop) → c .before .before .before .before .before .before .loop .n ≤ limit
+room c = c .before .before .before .before .before .before .loop .inv .1 .left .kept .room
+
+-- the final one is a place
+final-low : (c : tie.After-wide Inv-loop μ-loop) → c .wide .result < limit
+final-low c =
+    let l = c .before .before .before .before .before .before .before .loop in
+    rw (c .wide .ensures) (l .inv .1 .spotted .low (l .n - 1) (omega arith))
+
+spots-of-requires : tie.Need-spots-of-requires Inv-loop μ-loop
+spots-of-requires c κs = search needs
 
 loop-holds : tie.Need-loop-holds Inv-loop μ-loop
-loop-holds c = (omega arith, left-start strike-each (c .args .order .now) (c .pre .0))
+loop-holds c =
+    let s = c .before .before .before in
+    (omega arith, struck-start (s .args .order .now) (s .pre .0) (s .pre .2) (c .spots-of .ensures))
 
-mul-strike : tie.Need-mul-strike Inv-loop μ-loop
-mul-strike c = search needs
+mul-spot-in : tie.Need-mul-spot-in Inv-loop μ-loop
+mul-spot-in c = search needs
 
-element-copy-out-strike : tie.Need-element-copy-out-strike Inv-loop μ-loop
-element-copy-out-strike c = search needs
+element-copy-out-spot-in : tie.Need-element-copy-out-spot-in Inv-loop μ-loop
+element-copy-out-spot-in c = search needs
 
-strike-requires : tie.Need-strike-requires Inv-loop μ-loop
-strike-requires c κs = c .before .before .loop .inv .1 .kept
+spot-in-requires : tie.Need-spot-in-requires Inv-loop μ-loop
+spot-in-requires c κs = let w = c .before .before .before .before .loop .inv .1 in (w .left .kept .room, w .spotted)
+
+sub-last : tie.Need-sub-last Inv-loop μ-loop
+sub-last c = search needs
+
+mul-wide : tie.Need-mul-wide Inv-loop μ-loop
+mul-wide c = omega (arith, room c)
+
+array-read-wide : tie.Need-array-read-wide Inv-loop μ-loop
+array-read-wide c = omega (arith, room c)
+
+wide-requires : tie.Need-wide-requires Inv-loop μ-loop
+wide-requires c κs = search needs
+
+mul-spots : tie.Need-mul-spots Inv-loop μ-loop
+mul-spots c = omega (arith, final-low c)
+
+array-write-spots : tie.Need-array-write-spots Inv-loop μ-loop
+array-write-spots c = final-low c
+
+swap-out-requires : tie.Need-swap-out-requires Inv-loop μ-loop
+swap-out-requires c κs = let t = c .before .before in (t .if1 .taken, room t)
 
 add-i : tie.Need-add-i Inv-loop μ-loop
 add-i c = search needs
@@ -35,16 +75,21 @@ loop-less c = search needs
 
 loop-again : tie.Need-loop-again Inv-loop μ-loop
 loop-again c =
-    let l = c .before .before .before .loop in
-    let a = c .before .before .before .before .args in
-    (omega arith, left-more strike-each (a .order .now) (l .inv .1) (c .strike .ensures))
+    let p = c .before .spot-in .ensures in
+    let w = c .before .before .before .before .before .before .loop .inv .1 in (
+      omega arith,
+      ⊎-elim
+          (λ v. rw (v .4, v .5, v .6) (struck-one w p (v .0 .taken) (v .1 .ensures) (v .3 .ensures)))
+          (λ v. rw (v .1, v .2, v .3) (struck-none w p (v .0 .left)))
+          (c .if1 .came),
+    )
 
 returns : tie.Need-returns Inv-loop μ-loop
 returns c =
     let l = c .before .loop in
-    let a = c .before .before .args in
+    let a = c .before .before .before .before .before .args in
     let e : l .i ≡ a .count = omega arith in
-    left-end strike-each (a .order .now) (l .inv .1) e
+    left-end strike-each (a .order .now) (l .inv .1 .left) e
 
 pub strike-all-spec : {M : Type 1} → statement M
 strike-all-spec =
@@ -52,10 +97,18 @@ strike-all-spec =
     (tie.spec
     Inv-loop
     μ-loop
+    spots-of-requires
     loop-holds
-    mul-strike
-    element-copy-out-strike
-    strike-requires
+    mul-spot-in
+    element-copy-out-spot-in
+    spot-in-requires
+    sub-last
+    mul-wide
+    array-read-wide
+    wide-requires
+    mul-spots
+    array-write-spots
+    swap-out-requires
     add-i
     loop-less
     loop-again

@@ -1,0 +1,13 @@
+-- `cut_of` meets its contract. Assumes nothing.
+use borrow.Author.Tests.{eq-eqb, ne-eqb}
+use Rattle.kiosk.proofs.records.cut_of.Statement.{statement}
+use Rattle.kiosk.proofs.records.cut_of.Tie as tie
+
+returns : tie.Need-returns
+returns c = simp (eq-eqb _ _ (c .if1 .taken))
+
+returns-2 : tie.Need-returns-2
+returns-2 c = simp (ne-eqb _ _ (c .if1 .left))
+
+pub cut-of-spec : {M : Type 1} → statement M
+cut-of-spec = tie.close (tie.spec returns returns-2)

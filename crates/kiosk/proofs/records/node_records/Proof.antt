@@ -1,0 +1,80 @@
+-- `node_records` meets its contract: the array is filled as far as the loop has come.
+use mathlib.Core.Path.{_≡_}
+use Prim.Native.Nat.{_-_, _≤_, _<_}
+use native.Mathlib.Omega.{arith}
+use lib.ListN.{length}
+use borrow.Author.Needs.{needs}
+use Rattle.lists.specs.Lists.{limit}
+use Rattle.table.specs.Table.{zeroNode}
+use Rattle.kiosk.specs.Records.{noRecord, nodeRecord, nodeRecords}
+use Rattle.kiosk.proofs.Fill.{filled, fill-more, fill-all}
+use Rattle.kiosk.proofs.records.node_records.Statement.{statement}
+use Rattle.kiosk.proofs.records.node_records.Tie as tie
+
+abbrev Inv-loop : tie.InvT-loop
+Inv-loop nodes records₀ i₀ records i = (i ≤ limit) × (records ≡ filled noRecord (nodeRecords nodes) i)
+
+abbrev μ-loop : tie.MeasureT-loop
+μ-loop nodes records₀ i₀ records i = limit - i
+
+no-records-requires : tie.Need-no-records-requires Inv-loop μ-loop
+no-records-requires c κs = search needs
+
+loop-holds : tie.Need-loop-holds Inv-loop μ-loop
+loop-holds c = (omega arith, c .no-records .ensures)
+
+mul-n : tie.Need-mul-n Inv-loop μ-loop
+mul-n c = search needs
+
+array-copy-out-n : tie.Need-array-copy-out-n Inv-loop μ-loop
+array-copy-out-n c = search needs
+
+node-record-requires : tie.Need-node-record-requires Inv-loop μ-loop
+node-record-requires c κs = search needs
+
+mul-records : tie.Need-mul-records Inv-loop μ-loop
+mul-records c = search needs
+
+array-set-from-records : tie.Need-array-set-from-records Inv-loop μ-loop
+array-set-from-records c = search needs
+
+add-i : tie.Need-add-i Inv-loop μ-loop
+add-i c = search needs
+
+loop-less : tie.Need-loop-less Inv-loop μ-loop
+loop-less c = search needs
+
+loop-again : tie.Need-loop-again Inv-loop μ-loop
+loop-again c =
+    let l = c .before .before .before .loop in
+    let s = c .before .before .before .before .before in
+    let t = s .args .t1 in
+    let len : length t ≡ limit = s .good .0 .1 .0 .1 in
+    let h : l .i < limit = omega arith in
+    (omega arith, fill-more nodeRecord noRecord zeroNode t len (l .records) (l .i) _ (l .inv .1) h (c .node-record .ensures))
+
+returns : tie.Need-returns Inv-loop μ-loop
+returns c =
+    let l = c .before .loop in
+    let s = c .before .before .before in
+    let t = s .args .t1 in
+    let len : length t ≡ limit = s .good .0 .1 .0 .1 in
+    fill-all nodeRecord noRecord zeroNode t len (l .records) (l .i) (l .inv .1) (omega arith)
+
+pub node-records-spec : {M : Type 1} → statement M
+node-records-spec =
+    tie.close
+    (tie.spec
+    Inv-loop
+    μ-loop
+    no-records-requires
+    loop-holds
+    mul-n
+    array-copy-out-n
+    node-record-requires
+    mul-records
+    array-set-from-records
+    add-i
+    loop-less
+    loop-again
+    returns)

@@ -1,0 +1,80 @@
+-- `nodes_of` meets its contract: the array is filled as far as the loop has come.
+use mathlib.Core.Path.{_≡_}
+use Prim.Native.Nat.{_-_, _≤_, _<_}
+use native.Mathlib.Omega.{arith}
+use lib.ListN.{length}
+use borrow.Author.Needs.{needs}
+use Rattle.lists.specs.Lists.{limit}
+use Rattle.table.specs.Table.{zeroNode}
+use Rattle.kiosk.specs.Records.{noRecord, nodeOf, nodesOf}
+use Rattle.kiosk.proofs.Fill.{filled, fill-more, fill-all}
+use Rattle.kiosk.proofs.records.nodes_of.Statement.{statement}
+use Rattle.kiosk.proofs.records.nodes_of.Tie as tie
+
+abbrev Inv-loop : tie.InvT-loop
+Inv-loop records nodes₀ i₀ nodes i = (i ≤ limit) × (nodes ≡ filled zeroNode (nodesOf records) i)
+
+abbrev μ-loop : tie.MeasureT-loop
+μ-loop records nodes₀ i₀ nodes i = limit - i
+
+empty-table-requires : tie.Need-empty-table-requires Inv-loop μ-loop
+empty-table-requires c κs = search needs
+
+loop-holds : tie.Need-loop-holds Inv-loop μ-loop
+loop-holds c = (omega arith, c .empty-table .ensures)
+
+mul-given : tie.Need-mul-given Inv-loop μ-loop
+mul-given c = search needs
+
+array-copy-out-given : tie.Need-array-copy-out-given Inv-loop μ-loop
+array-copy-out-given c = search needs
+
+node-of-requires : tie.Need-node-of-requires Inv-loop μ-loop
+node-of-requires c κs = search needs
+
+mul-nodes : tie.Need-mul-nodes Inv-loop μ-loop
+mul-nodes c = search needs
+
+array-set-from-nodes : tie.Need-array-set-from-nodes Inv-loop μ-loop
+array-set-from-nodes c = search needs
+
+add-i : tie.Need-add-i Inv-loop μ-loop
+add-i c = search needs
+
+loop-less : tie.Need-loop-less Inv-loop μ-loop
+loop-less c = search needs
+
+loop-again : tie.Need-loop-again Inv-loop μ-loop
+loop-again c =
+    let l = c .before .before .before .loop in
+    let s = c .before .before .before .before .before in
+    let t = s .args .t1 in
+    let len : length t ≡ limit = s .good .0 .1 .0 .1 in
+    let h : l .i < limit = omega arith in
+    (omega arith, fill-more nodeOf zeroNode noRecord t len (l .nodes) (l .i) _ (l .inv .1) h (c .node-of .ensures))
+
+returns : tie.Need-returns Inv-loop μ-loop
+returns c =
+    let l = c .before .loop in
+    let s = c .before .before .before in
+    let t = s .args .t1 in
+    let len : length t ≡ limit = s .good .0 .1 .0 .1 in
+    fill-all nodeOf zeroNode noRecord t len (l .nodes) (l .i) (l .inv .1) (omega arith)
+
+pub nodes-of-spec : {M : Type 1} → statement M
+nodes-of-spec =
+    tie.close
+    (tie.spec
+    Inv-loop
+    μ-loop
+    empty-table-requires
+    loop-holds
+    mul-given
+    array-copy-out-given
+    node-of-requires
+    mul-nodes
+    array-set-from-nodes
+    add-i
+    loop-less
+    loop-again
+    returns)

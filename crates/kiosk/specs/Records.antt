@@ -1,0 +1,154 @@
+-- A session as plain numbers, and back. Kinds and cuts are as in document 01, "Tree snapshot": "kind (0 free, 1 part, 2 structure), cut (0
+-- Horizontal, 1 Vertical)". Every record is read as some session: a kind above 1 is a structure's, a cut above 0 is Vertical.
+use mathlib.Core.Bool.{cond}
+use mathlib.Core.List.{List, map}
+use Prim.Native.Nat.{ℕ, _≤_}
+use lib.Dec.{eqb}
+use lib.ListN.{getD, replicate}
+use Rattle.piece.specs.declared.node.Kind.{Kind}
+use Rattle.piece.specs.declared.node.Kind.the-variants.{Free, Part, Structure}
+use Rattle.piece.specs.declared.node.Datum.{Datum}
+use Rattle.piece.specs.Sides.{sized}
+use Rattle.tree.specs.Snapshot.{kindNo, cutNo}
+use Rattle.lists.specs.Lists.{limit, zeros}
+use Rattle.table.specs.declared.Node.{Node}
+use Rattle.frames.specs.Fields.{cutOf}
+use Rattle.layout.specs.declared.layout.Layout.{Layout}
+use Rattle.session.specs.declared.Session.{Session}
+use Rattle.kiosk.specs.declared.records.DatumRecord.{DatumRecord}
+use Rattle.kiosk.specs.declared.records.NodeRecord.{NodeRecord}
+use Rattle.kiosk.specs.declared.records.LayoutRecord.{LayoutRecord}
+use Rattle.kiosk.specs.declared.records.SessionRecord.{SessionRecord}
+
+-- ---- from a record
+
+abbrev pub kindOf : ℕ → Kind
+kindOf n = cond (eqb n 0) Free (cond (eqb n 1) Part Structure)
+
+abbrev pub datumOf : DatumRecord → Datum
+datumOf d =
+    record {
+      serial = d .serial;
+      size = sized (d .width) (d .height);
+      number = d .number;
+      level = d .level;
+      kind = kindOf (d .kind);
+      cut = cutOf (d .cut);
+    }
+
+unfoldable pub nodeOf : NodeRecord → Node
+nodeOf r =
+    record {
+      datum = datumOf (r .datum);
+      parent = r .parent;
+      first = r .first;
+      last = r .last;
+      prev = r .prev;
+      next = r .next;
+    }
+
+abbrev pub nodesOf : List NodeRecord → List Node
+nodesOf rs = map nodeOf rs
+
+unfoldable pub layoutOf : LayoutRecord → Layout
+layoutOf r =
+    record {
+      nodes = nodesOf (r .nodes);
+      free = r .free;
+      removable = r .removable;
+      held = r .held;
+      frees = r .frees;
+      removables = r .removables;
+      used = r .used;
+      serial = r .serial;
+      number = r .number;
+      stages = r .stages;
+      sheet = sized (r .width) (r .height);
+    }
+
+abbrev pub sessionOf : SessionRecord → Session
+sessionOf r = record { layout = layoutOf (r .layout); kept = layoutOf (r .kept) }
+
+-- ---- to a record
+
+abbrev pub datumRecord : Datum → DatumRecord
+datumRecord d =
+    record {
+      serial = d .serial;
+      width = d .size .width;
+      height = d .size .height;
+      number = d .number;
+      level = d .level;
+      kind = kindNo (d .kind);
+      cut = cutNo (d .cut);
+    }
+
+unfoldable pub nodeRecord : Node → NodeRecord
+nodeRecord n =
+    record {
+      datum = datumRecord (n .datum);
+      parent = n .parent;
+      first = n .first;
+      last = n .last;
+      prev = n .prev;
+      next = n .next;
+    }
+
+abbrev pub nodeRecords : List Node → List NodeRecord
+nodeRecords ns = map nodeRecord ns
+
+unfoldable pub layoutRecord : Layout → LayoutRecord
+layoutRecord l =
+    record {
+      nodes = nodeRecords (l .nodes);
+      free = l .free;
+      removable = l .removable;
+      held = l .held;
+      frees = l .frees;
+      removables = l .removables;
+      used = l .used;
+      serial = l .serial;
+      number = l .number;
+      stages = l .stages;
+      width = l .sheet .width;
+      height = l .sheet .height;
+    }
+
+abbrev pub recordOf : Session → SessionRecord
+recordOf s = record { layout = layoutRecord (s .layout); kept = layoutRecord (s .kept) }
+
+-- ---- the record of zeros
+
+abbrev pub noDatum : DatumRecord
+noDatum = record { serial = 0; width = 0; height = 0; number = 0; level = 0; kind = 0; cut = 0 }
+
+abbrev pub noRecord : NodeRecord
+noRecord = record { datum = noDatum; parent = 0; first = 0; last = 0; prev = 0; next = 0 }
+
+abbrev pub noLayout : LayoutRecord
+noLayout =
+    record {
+      nodes = replicate limit noRecord;
+      free = zeros limit;
+      removable = zeros limit;
+      held = 0;
+      frees = 0;
+      removables = 0;
+      used = 0;
+      serial = 0;
+      number = 0;
+      stages = 0;
+      width = 0;
+      height = 0;
+    }
+
+abbrev pub noSession : SessionRecord
+noSession = record { layout = noLayout; kept = noLayout }
+
+-- ---- a kind and a cut that are listed, as in every record that is written
+
+unfoldable pub Listed : NodeRecord → Type 0
+Listed r = (r .datum .kind ≤ 2) × (r .datum .cut ≤ 1)
+
+abbrev pub AllListed : LayoutRecord → Type 0
+AllListed r = (i : ℕ) → Listed (getD (r .nodes) i noRecord)

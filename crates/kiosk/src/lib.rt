@@ -1,0 +1,93 @@
+// The session step for programs in C and Rust: the session crosses as a record of plain numbers, in the session's own order. The kept layout is read
+// from its record by restore alone, and keep alone writes one. Rests on records.rt for the records and on `session` for the answers.
+ghost use mathlib.Core.Path.{_≡_};
+ghost use Rattle.kiosk.specs.Step.{Answered, stepTo, withLayout};
+use frames::read::request;
+use frames::write::LONGEST;
+use records::SessionRecord;
+use records::layout_of;
+use records::layout_record;
+use session::replies::Response;
+use session::replies::Said;
+use session::replies::Scope;
+use session::replies::keep;
+use session::replies::replied;
+use session::replies::restore;
+use session::replies::scope_of;
+
+pub mod records; // records.rt: the session as plain numbers, read and written
+
+// The next state, and the answer: the first count characters of line, its newline among them; the rest is zero.
+#[repr(C)]
+pub struct SteppedRecord {
+    pub session: SessionRecord,
+    pub line: [u8; LONGEST],
+    pub count: usize,
+}
+
+// The state as it is, and what is said.
+fn says(session: SessionRecord, said: Said) -> SteppedRecord
+    ensures { λ r. ⌜ r ≡ stepTo session said ⌝ }
+{
+    let line = said.line;
+    SteppedRecord {
+        session,
+        line,
+        count: said.count,
+    }
+}
+
+// The state with the layout of an answer, and what that says. The kept record stays.
+fn told(mut given: SessionRecord, answer: Response) -> SteppedRecord
+    ensures { λ r. ⌜ r ≡ stepTo (withLayout given (answer .layout)) (answer .said) ⌝ }
+{
+    let layout = answer.layout;
+    let said = answer.said;
+    given.layout = layout_record(layout);
+    says(given, said)
+}
+
+// The step by value: the characters of a line, without its newline.
+fn stepped(given: SessionRecord, line: &[u8]) -> SteppedRecord
+    ensures { λ r. ⌜ Answered given (now (line .entry)) (r .session) (r .line) (r .count) ⌝ }
+{
+    let before = given.layout;
+    let kept = given.kept;
+    let layout = layout_of(before);
+    let asked = request(line);
+    match scope_of(asked) {
+        Scope::Alone => told(given, replied(layout, asked)),
+        Scope::Keep => {
+            let answer = keep(layout);
+            let said = answer.said;
+            let next = layout_record(layout);
+            if answer.sound {
+                says(
+                    SessionRecord {
+                        layout: next,
+                        kept: next,
+                    },
+                    said,
+                )
+            } else {
+                says(SessionRecord { layout: next, kept }, said)
+            }
+        }
+        Scope::Restore => told(given, restore(layout, layout_of(kept))),
+    }
+}
+
+// The step on a lent session: the answer's characters are the first of `answer`, as many as the result says.
+#[no_mangle]
+pub extern "C" fn nickelgrove_step(
+    session: &mut SessionRecord,
+    line: &[u8],
+    answer: &mut [u8; LONGEST],
+) -> usize
+    ensures { λ r. ⌜ Answered (now (session .entry)) (now (line .entry)) (now (session .exit)) (now (answer .exit)) r ⌝ }
+{
+    let next = stepped(*session, line);
+    *session = next.session;
+    *answer = next.line;
+    next.count
+}

@@ -1,0 +1,241 @@
+// A session as plain numbers: records that a program in C or Rust can hold and lend. Each stands for the struct of its name (Datum, Node, Layout,
+// Session), field by field in its order, so that both have one layout in memory; a kind and a cut are their numbers in snapshots (document 01, "Tree
+// snapshot"). Rests on those structs.
+ghost use mathlib.Core.Path.{_≡_};
+ghost use lib.ListN.{replicate};
+ghost use Rattle.lists.specs.Lists.{limit};
+ghost use Rattle.tree.specs.Snapshot.{cutNo};
+ghost use Rattle.frames.specs.Fields.{cutOf};
+ghost use Rattle.kiosk.specs.Records.{kindOf, nodeOf, nodesOf, layoutOf, nodeRecord, nodeRecords, layoutRecord, noRecord};
+use layout::layout::Layout;
+use piece::node::Datum;
+use piece::node::Kind;
+use piece::orientation::Orientation;
+use piece::size::Size;
+use sound::columns::kind_number;
+use table::LIMIT;
+use table::Node;
+use table::nodes::empty_table;
+
+#[repr(C)]
+pub struct DatumRecord {
+    pub serial: u32,
+    pub width: u32,
+    pub height: u32,
+    pub number: u16,
+    pub level: u8,
+    pub kind: u8,
+    pub cut: u8,
+}
+
+#[repr(C)]
+pub struct NodeRecord {
+    pub datum: DatumRecord,
+    pub parent: u16,
+    pub first: u16,
+    pub last: u16,
+    pub prev: u16,
+    pub next: u16,
+}
+
+#[repr(C)]
+pub struct LayoutRecord {
+    pub nodes: [NodeRecord; LIMIT],
+    pub free: [u16; LIMIT],
+    pub removable: [u16; LIMIT],
+    pub held: u16,
+    pub frees: u16,
+    pub removables: u16,
+    pub used: u64,
+    pub serial: u32,
+    pub number: u16,
+    pub stages: u8,
+    pub width: u32,
+    pub height: u32,
+}
+
+#[repr(C)]
+pub struct SessionRecord {
+    pub layout: LayoutRecord,
+    pub kept: LayoutRecord,
+}
+
+// ---- Reading. Every record is read as some session: a kind above 1 is a structure, a cut above 0 is vertical.
+
+fn kind_of(n: u8) -> Kind
+    ensures { λ r. ⌜ r ≡ kindOf n ⌝ }
+{
+    if n == 0 {
+        Kind::Free
+    } else if n == 1 {
+        Kind::Part
+    } else {
+        Kind::Structure
+    }
+}
+
+fn cut_of(n: u8) -> Orientation
+    ensures { λ r. ⌜ r ≡ cutOf n ⌝ }
+{
+    if n == 0 {
+        Orientation::Horizontal
+    } else {
+        Orientation::Vertical
+    }
+}
+
+fn node_of(given: NodeRecord) -> Node
+    ensures { λ r. ⌜ r ≡ nodeOf given ⌝ }
+{
+    let d = given.datum;
+    Node {
+        datum: Datum {
+            serial: d.serial,
+            size: Size {
+                width: d.width,
+                height: d.height,
+            },
+            number: d.number,
+            level: d.level,
+            kind: kind_of(d.kind),
+            cut: cut_of(d.cut),
+        },
+        parent: given.parent,
+        first: given.first,
+        last: given.last,
+        prev: given.prev,
+        next: given.next,
+    }
+}
+
+fn nodes_of(records: [NodeRecord; LIMIT]) -> [Node; LIMIT]
+    ensures { λ r. ⌜ r ≡ nodesOf records ⌝ }
+{
+    let mut nodes = empty_table();
+    let mut i: usize = 0;
+    while i < LIMIT {
+        let given = records[i];
+        nodes[i] = node_of(given);
+        i += 1;
+    }
+    nodes
+}
+
+pub fn layout_of(given: LayoutRecord) -> Layout
+    ensures { λ r. ⌜ r ≡ layoutOf given ⌝ }
+{
+    let table = given.nodes;
+    let nodes = nodes_of(table);
+    let free = given.free;
+    let removable = given.removable;
+    Layout {
+        nodes,
+        free,
+        removable,
+        held: given.held,
+        frees: given.frees,
+        removables: given.removables,
+        used: given.used,
+        serial: given.serial,
+        number: given.number,
+        stages: given.stages,
+        sheet: Size {
+            width: given.width,
+            height: given.height,
+        },
+    }
+}
+
+// ---- Writing.
+
+fn cut_number(cut: Orientation) -> u8
+    ensures { λ r. ⌜ r ≡ cutNo cut ⌝ }
+{
+    match cut {
+        Orientation::Horizontal => 0,
+        Orientation::Vertical => 1,
+    }
+}
+
+fn node_record(n: Node) -> NodeRecord
+    ensures { λ r. ⌜ r ≡ nodeRecord n ⌝ }
+{
+    let d = n.datum;
+    let kind = d.kind;
+    let cut = d.cut;
+    NodeRecord {
+        datum: DatumRecord {
+            serial: d.serial,
+            width: d.size.width,
+            height: d.size.height,
+            number: d.number,
+            level: d.level,
+            kind: kind_number(kind),
+            cut: cut_number(cut),
+        },
+        parent: n.parent,
+        first: n.first,
+        last: n.last,
+        prev: n.prev,
+        next: n.next,
+    }
+}
+
+// Records of zeros.
+fn no_records() -> [NodeRecord; LIMIT]
+    ensures { λ r. ⌜ r ≡ replicate limit noRecord ⌝ }
+{
+    let zero = NodeRecord {
+        datum: DatumRecord {
+            serial: 0,
+            width: 0,
+            height: 0,
+            number: 0,
+            level: 0,
+            kind: 0,
+            cut: 0,
+        },
+        parent: 0,
+        first: 0,
+        last: 0,
+        prev: 0,
+        next: 0,
+    };
+    [zero; LIMIT]
+}
+
+fn node_records(nodes: [Node; LIMIT]) -> [NodeRecord; LIMIT]
+    ensures { λ r. ⌜ r ≡ nodeRecords nodes ⌝ }
+{
+    let mut records = no_records();
+    let mut i: usize = 0;
+    while i < LIMIT {
+        let n = nodes[i];
+        records[i] = node_record(n);
+        i += 1;
+    }
+    records
+}
+
+pub fn layout_record(l: Layout) -> LayoutRecord
+    ensures { λ r. ⌜ r ≡ layoutRecord l ⌝ }
+{
+    let table = l.nodes;
+    let nodes = node_records(table);
+    let free = l.free;
+    let removable = l.removable;
+    LayoutRecord {
+        nodes,
+        free,
+        removable,
+        held: l.held,
+        frees: l.frees,
+        removables: l.removables,
+        used: l.used,
+        serial: l.serial,
+        number: l.number,
+        stages: l.stages,
+        width: l.sheet.width,
+        height: l.sheet.height,
+    }
+}

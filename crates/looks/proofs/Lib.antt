@@ -1,0 +1,8 @@
+pub mod SizedBy
+pub mod Entries
+pub mod ListMarks
+pub mod Figured
+pub mod FiguresSay
+pub mod Lent
+pub mod Snapshots
+pub mod Determined

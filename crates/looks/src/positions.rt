@@ -1,0 +1,51 @@
+// The two lists of a layout: a position gives the mark of the piece there (refusals 1 and 12).
+ghost use mathlib.Core.Path.{_≡_};
+ghost use Prim.Native.Nat.{_<_};
+ghost use Rattle.lists.specs.Lists.{limit};
+ghost use Rattle.looks.specs.Answers.{freeMarkOf, markOf, removableMarkOf};
+use crate::replies::MarkAnswer;
+use answers::Mark;
+use answers::Refusal;
+use layout::layout::Layout;
+
+// The mark of the piece at a place.
+fn mark_of(layout: Layout, place: u16) -> Mark
+    requires { ⌜ place < limit ⌝ }
+    ensures { λ r. ⌜ r ≡ markOf layout place ⌝ }
+{
+    let at = place as usize;
+    let n = layout.nodes[at];
+    Mark {
+        layout: layout.number,
+        place,
+        serial: n.datum.serial,
+    }
+}
+
+// The mark at a position of the free list.
+pub fn free_mark(layout: Layout, position: u16) -> MarkAnswer
+    ensures { λ r. ⌜ r ≡ freeMarkOf layout position ⌝ }
+{
+    if layout.sound() {} else {
+        return MarkAnswer::Refused(Refusal::NotSound);
+    }
+    if layout.frees <= position {
+        return MarkAnswer::Refused(Refusal::PastTheEnd);
+    }
+    let k = position as usize;
+    MarkAnswer::Found(mark_of(layout, layout.free[k]))
+}
+
+// The mark at a position of the removable list.
+pub fn removable_mark(layout: Layout, position: u16) -> MarkAnswer
+    ensures { λ r. ⌜ r ≡ removableMarkOf layout position ⌝ }
+{
+    if layout.sound() {} else {
+        return MarkAnswer::Refused(Refusal::NotSound);
+    }
+    if layout.removables <= position {
+        return MarkAnswer::Refused(Refusal::PastTheEnd);
+    }
+    let k = position as usize;
+    MarkAnswer::Found(mark_of(layout, layout.removable[k]))
+}

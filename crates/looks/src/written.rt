@@ -1,0 +1,56 @@
+// The calls that write into a lent buffer: the tree snapshot (Rust: core/insertion/node_blueprint.rs) and the part numbers held
+// (Rust: included_part_ids of core/entities/layout.rs; ours are by place).
+ghost use mathlib.Core.Path.{_≡_};
+ghost use lib.ListN.{length};
+ghost use Rattle.looks.specs.Written.{answerTo, heldNumbers, leftIn, snapshotBytes};
+use crate::replies::CountAnswer;
+use answers::Refusal;
+use layout::layout::Layout;
+use sound::columns::columns_of;
+use table::LIMIT;
+use walks::numbers::count_numbers;
+use walks::numbers::every_place;
+use walks::numbers::put_numbers;
+use walks::order::order_out;
+use walks::snapshot::put_nodes;
+
+// The snapshot of the tree, 13 bytes a node, and how many bytes it has. It recurses over the tree by the columns of links alone.
+pub fn snapshot(layout: Layout, out: &mut [u8]) -> CountAnswer
+    ensures answer { λ r. ⌜ r ≡ answerTo layout (snapshotBytes layout) (length (now (out .entry))) ⌝ }
+    ensures written { λ r. ⌜ now (out .exit) ≡ leftIn layout (snapshotBytes layout) (now (out .entry)) ⌝ }
+{
+    if layout.sound() {} else {
+        return CountAnswer::Refused(Refusal::NotSound);
+    }
+    let held = layout.held as usize;
+    let bytes = 13 * held;
+    if out.len() < bytes {
+        return CountAnswer::Refused(Refusal::BufferTooShort);
+    }
+    let nodes = layout.nodes;
+    let c = columns_of(nodes);
+    let first = c.first;
+    let next = c.next;
+    let mut order = [0u16; LIMIT];
+    order_out(&first, &next, 0, held, true, &mut order, 0);
+    put_nodes(nodes, &order, held, out);
+    CountAnswer::Count(bytes as u16)
+}
+
+// The numbers of the parts held, by place, and how many there are.
+pub fn part_numbers(layout: Layout, out: &mut [u16]) -> CountAnswer
+    ensures answer { λ r. ⌜ r ≡ answerTo layout (heldNumbers layout) (length (now (out .entry))) ⌝ }
+    ensures written { λ r. ⌜ now (out .exit) ≡ leftIn layout (heldNumbers layout) (now (out .entry)) ⌝ }
+{
+    if layout.sound() {} else {
+        return CountAnswer::Refused(Refusal::NotSound);
+    }
+    let nodes = layout.nodes;
+    let order = every_place();
+    let count = count_numbers(nodes, &order, LIMIT);
+    if out.len() < count {
+        return CountAnswer::Refused(Refusal::BufferTooShort);
+    }
+    put_numbers(nodes, &order, LIMIT, out);
+    CountAnswer::Count(count as u16)
+}

@@ -1,0 +1,63 @@
+-- `spots::spot_in` meets its contract: where the column leads to the place, there it stands first; else it stands nowhere. Assumes nothing.
+use borrow.Author.Needs.{needs}
+use native.Mathlib.Omega.{arith}
+use Rattle.register.proofs.Lookup.{spot-found, spot-missing}
+use Rattle.register.proofs.spots.spot_in.Statement.{statement}
+use Rattle.register.proofs.spots.spot_in.Tie as tie
+
+wide-requires : tie.Need-wide-requires
+wide-requires c κs = search needs
+
+returns : tie.Need-returns
+returns c =
+    let s = c .before .before in
+    let h = rw (c .before .wide .ensures) at (c .if1 .taken) in
+    spot-missing (s .pre .1) (s .args .place) (λ b d e. omega arith)
+
+mul-at : tie.Need-mul-at
+mul-at c = search needs
+
+element-copy-out-at : tie.Need-element-copy-out-at
+element-copy-out-at c = search needs
+
+returns-2 : tie.Need-returns-2
+returns-2 c =
+    let w = c .before .before .before in
+    let s = w .before in
+    let h = rw (w .wide .ensures) at (c .if2 .taken) in
+    spot-missing (s .pre .1) (s .args .place) (λ b d e. omega arith)
+
+mul-if3 : tie.Need-mul-if3
+mul-if3 c = search needs
+
+element-copy-out-if3 : tie.Need-element-copy-out-if3
+element-copy-out-if3 c = search needs
+
+returns-3 : tie.Need-returns-3
+returns-3 c =
+    let e = c .before .before in
+    let w = e .before .before .before in
+    let s = w .before in
+    rw (w .wide .ensures)
+    (spot-found (s .pre .1) (s .args .place) (rw (w .wide .ensures) at (e .if2 .left)) (rw (w .wide .ensures) at (c .if3 .taken)))
+
+returns-4 : tie.Need-returns-4
+returns-4 c =
+    let w = c .before .before .before .before .before in
+    let s = w .before in
+    let h = rw (w .wide .ensures) at (c .if3 .left) in
+    spot-missing (s .pre .1) (s .args .place) (λ b d e. h e)
+
+pub spot-in-spec : {M : Type 1} → statement M
+spot-in-spec =
+    tie.close
+    (tie.spec
+    wide-requires
+    returns
+    mul-at
+    element-copy-out-at
+    returns-2
+    mul-if3
+    element-copy-out-if3
+    returns-3
+    returns-4)

@@ -1,0 +1,80 @@
+-- `spots::spots_of` meets its contract: the column says where the entries that the loop has passed stand first. The measure is the index that it
+-- stands at. Assumes nothing.
+use Prim.Native.Nat.{_-_, _≤_}
+use native.Mathlib.Omega.{arith}
+use borrow.Author.Needs.{needs}
+use Rattle.register.proofs.Lookup.{Spotting, spotting-none, spotting-more, spotting-past, spotting-all}
+use Rattle.register.proofs.spots.spots_of.Statement.{statement}
+use Rattle.register.proofs.spots.spots_of.Tie as tie
+
+abbrev Inv-loop : tie.InvT-loop
+Inv-loop list count spots₀ i₀ spots i = (i ≤ count) × Spotting list count i spots
+
+abbrev μ-loop : tie.MeasureT-loop
+μ-loop list count spots₀ i₀ spots i = i
+
+loop-holds : tie.Need-loop-holds Inv-loop μ-loop
+loop-holds c = (omega arith, spotting-none (c .args .list .now) (c .args .count))
+
+sub-j : tie.Need-sub-j Inv-loop μ-loop
+sub-j c = search needs
+
+mul-wide : tie.Need-mul-wide Inv-loop μ-loop
+mul-wide c = search needs
+
+element-copy-out-wide : tie.Need-element-copy-out-wide Inv-loop μ-loop
+element-copy-out-wide c = search needs
+
+wide-requires : tie.Need-wide-requires Inv-loop μ-loop
+wide-requires c κs = search needs
+
+mul-spots : tie.Need-mul-spots Inv-loop μ-loop
+mul-spots c = search needs
+
+array-write-spots : tie.Need-array-write-spots Inv-loop μ-loop
+array-write-spots c = search needs
+
+loop-less : tie.Need-loop-less Inv-loop μ-loop
+loop-less c = search needs
+
+loop-again : tie.Need-loop-again Inv-loop μ-loop
+loop-again c =
+    let l = c .before .before .before .before .loop in
+    let a = c .before .before .before .before .before .args in
+    let w = c .before .wide in
+    let low = rw (w .ensures) at (c .if1 .taken) in
+    (omega arith, rw (w .ensures) (spotting-more (a .list .now) (a .count) (l .i - 1) (omega arith) (omega arith) (l .inv .1) low))
+
+loop-less-2 : tie.Need-loop-less-2 Inv-loop μ-loop
+loop-less-2 c = search needs
+
+loop-again-2 : tie.Need-loop-again-2 Inv-loop μ-loop
+loop-again-2 c =
+    let l = c .before .before .before .before .loop in
+    let a = c .before .before .before .before .before .args in
+    let high = rw (c .before .wide .ensures) at (c .if1 .left) in
+    (omega arith, spotting-past (a .list .now) (a .count) (l .i - 1) (omega arith) (omega arith) (l .inv .1) high)
+
+returns : tie.Need-returns Inv-loop μ-loop
+returns c =
+    let a = c .before .before .args in
+    spotting-all (a .list .now) (a .count) (omega arith) (c .before .loop .inv .1)
+
+pub spots-of-spec : {M : Type 1} → statement M
+spots-of-spec =
+    tie.close
+    (tie.spec
+    Inv-loop
+    μ-loop
+    loop-holds
+    sub-j
+    mul-wide
+    element-copy-out-wide
+    wide-requires
+    mul-spots
+    array-write-spots
+    loop-less
+    loop-again
+    loop-less-2
+    loop-again-2
+    returns)

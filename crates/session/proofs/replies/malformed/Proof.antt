@@ -1,0 +1,14 @@
+-- `malformed` meets its contract. Assumes nothing.
+use Rattle.session.proofs.Ways.{malformed-gives}
+use borrow.Author.Needs.{needs}
+use Rattle.session.proofs.replies.malformed.Statement.{statement}
+use Rattle.session.proofs.replies.malformed.Tie as tie
+
+malformed-requires : tie.Need-malformed-requires
+malformed-requires c κs = search needs
+
+returns : tie.Need-returns
+returns c = malformed-gives _ (c .malformed .ensures)
+
+pub malformed-spec : {M : Type 1} → statement M
+malformed-spec = tie.close (tie.spec malformed-requires returns)

@@ -1,0 +1,49 @@
+-- `offers` meets its contract, accepted and refused. Assumes nothing.
+use Rattle.session.proofs.Ways.{offers-gives, offers-four}
+use borrow.Author.Needs.{needs}
+use Rattle.session.proofs.replies.offers.Statement.{statement}
+use Rattle.session.proofs.replies.offers.Tie as tie
+
+offers-requires : tie.Need-offers-requires
+offers-requires c κs = search needs
+
+enum-told : tie.Need-enum-told
+enum-told c = search needs
+
+offered-requires : tie.Need-offered-requires
+offered-requires c κs =
+    let o = c .before .before .before in
+    let a = o .before .args in
+    rw (o .offers .ensures) (offers-four (a .layout) (a .mark) (a .part))
+
+enum-known-outcome : tie.Need-enum-known-outcome
+enum-known-outcome c = search needs
+
+refused-requires : tie.Need-refused-requires
+refused-requires c κs = search needs
+
+returns : tie.Need-returns
+returns c =
+    let k = c .before in
+    let o = k .before .before .before in
+    let a = o .before .args in
+    offers-gives (a .layout) (a .mark) (a .part) (o .offers .ensures) (k .enum-told .given .1) (c .offered .ensures)
+
+returns-2 : tie.Need-returns-2
+returns-2 c =
+    let k = c .before .before in
+    let o = k .before .before .before in
+    let a = o .before .args in
+    offers-gives (a .layout) (a .mark) (a .part) (o .offers .ensures) (k .outcome .given .1) (c .refused .ensures)
+
+pub offers-spec : {M : Type 1} → statement M
+offers-spec =
+    tie.close
+    (tie.spec
+    offers-requires
+    enum-told
+    offered-requires
+    enum-known-outcome
+    refused-requires
+    returns
+    returns-2)

@@ -1,0 +1,49 @@
+-- `open` meets its contract, accepted and refused. Assumes nothing.
+use mathlib.Core.Path.{refl}
+use Rattle.session.proofs.Ways.{open-gives}
+use borrow.Author.Needs.{needs}
+use Rattle.session.proofs.replies.open.Statement.{statement}
+use Rattle.session.proofs.replies.open.Tie as tie
+
+open-requires : tie.Need-open-requires
+open-requires c κs = search needs
+
+enum-known-outcome : tie.Need-enum-known-outcome
+enum-known-outcome c = search needs
+
+opened-requires : tie.Need-opened-requires
+opened-requires c κs = search needs
+
+enum-known-outcome-2 : tie.Need-enum-known-outcome-2
+enum-known-outcome-2 c = search needs
+
+refused-requires : tie.Need-refused-requires
+refused-requires c κs = search needs
+
+returns : tie.Need-returns
+returns c =
+    let k = c .before .before in
+    let o = k .before .before .before in
+    let a = o .before .args in
+    open-gives (a .layout) (a .number) (a .size) (a .cut) (a .stages) (o .«open» .ensures) (k .before .outcome .given .1) (λ _. refl)
+    (c .opened .ensures)
+
+returns-2 : tie.Need-returns-2
+returns-2 c =
+    let k = c .before .before in
+    let o = k .before .before in
+    let a = o .before .args in
+    open-gives (a .layout) (a .number) (a .size) (a .cut) (a .stages) (o .«open» .ensures) (k .outcome2 .given .1) (λ _. refl)
+    (c .refused .ensures)
+
+pub open-spec : {M : Type 1} → statement M
+open-spec =
+    tie.close
+    (tie.spec
+    open-requires
+    enum-known-outcome
+    opened-requires
+    enum-known-outcome-2
+    refused-requires
+    returns
+    returns-2)

@@ -1,0 +1,46 @@
+-- `restore` meets its contract, accepted and refused. Assumes nothing.
+use Rattle.session.proofs.Ways.{restore-gives}
+use borrow.Author.Needs.{needs}
+use Rattle.session.proofs.replies.restore.Statement.{statement}
+use Rattle.session.proofs.replies.restore.Tie as tie
+
+restore-requires : tie.Need-restore-requires
+restore-requires c κs = search needs
+
+enum-told : tie.Need-enum-told
+enum-told c = search needs
+
+done-requires : tie.Need-done-requires
+done-requires c κs = search needs
+
+enum-known-outcome : tie.Need-enum-known-outcome
+enum-known-outcome c = search needs
+
+refused-requires : tie.Need-refused-requires
+refused-requires c κs = search needs
+
+returns : tie.Need-returns
+returns c =
+    let k = c .before in
+    let b = k .before .before .before in
+    let a = b .before .args in
+    restore-gives (a .layout) (a .kept) (b .restore .ensures) (k .enum-told .given .1) (c .done .ensures)
+
+returns-2 : tie.Need-returns-2
+returns-2 c =
+    let k = c .before .before in
+    let b = k .before .before .before in
+    let a = b .before .args in
+    restore-gives (a .layout) (a .kept) (b .restore .ensures) (k .outcome .given .1) (c .refused .ensures)
+
+pub restore-spec : {M : Type 1} → statement M
+restore-spec =
+    tie.close
+    (tie.spec
+    restore-requires
+    enum-told
+    done-requires
+    enum-known-outcome
+    refused-requires
+    returns
+    returns-2)

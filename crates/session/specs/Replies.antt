@@ -1,0 +1,69 @@
+-- What a request gives where only the layouts that it has to do with are at hand: the kept one is asked for by restore alone, and keep says whether the
+-- layout takes its place. Rests on specs/Session.
+use mathlib.Core.Path.{_≡_}
+use mathlib.Core.Bool.{cond}
+use Rattle.layout.specs.declared.layout.Layout.{Layout}
+use Rattle.layout.specs.Check.{soundB}
+use Rattle.frames.specs.declared.Request.{Request}
+use Rattle.frames.specs.declared.Request.the-variants.{Open, Offers, Insert, Remove, Keep, Restore, Report, Malformed}
+use Rattle.frames.specs.Answers.{Answer}
+use Rattle.session.specs.declared.Session.{Session}
+use Rattle.session.specs.declared.Stepped.{Stepped}
+use Rattle.session.specs.declared.replies.Scope.{Scope}
+use Rattle.session.specs.declared.replies.Scope.the-variants as scopes
+use Rattle.session.specs.declared.replies.Scope.the-variants.{Alone}
+use Rattle.session.specs.declared.replies.Said.{Said}
+use Rattle.session.specs.declared.replies.Response.{Response}
+use Rattle.session.specs.declared.replies.Keeping.{Keeping}
+use Rattle.session.specs.Session.{Answers, Says}
+
+abbrev pub scopeOf : Request → Scope
+scopeOf (Open number size cut stages) = Alone
+scopeOf (Offers mark part) = Alone
+scopeOf (Insert mark part rotation shape) = Alone
+scopeOf (Remove mark) = Alone
+scopeOf Keep = scopes.Keep
+scopeOf Restore = scopes.Restore
+scopeOf Report = Alone
+scopeOf Malformed = Alone
+
+-- what the layout alone answers: keep and restore are malformed there
+abbrev pub heardIn : Scope → Request → Request
+heardIn Alone q = q
+heardIn scopes.Keep q = Malformed
+heardIn scopes.Restore q = Malformed
+
+abbrev pub heard : Request → Request
+heard q = heardIn (scopeOf q) q
+
+-- what is kept afterwards: keep alone changes it, where the layout is sound
+abbrev pub keptIn : Session → Scope → Layout
+keptIn s Alone = s .kept
+keptIn s scopes.Keep = cond (soundB (s .layout)) (s .layout) (s .kept)
+keptIn s scopes.Restore = s .kept
+
+abbrev pub both : Layout → Layout → Session
+both l kept = record { layout = l; kept = kept }
+
+-- the state s, and what is said
+abbrev pub stepTo : Session → Said → Stepped
+stepTo s said = record { session = s; line = said .line; count = said .count }
+
+-- the request q, at the layout l: whatever is kept, it stays, and the answer is the same
+pub record Replies (l : Layout) (q : Request) (r : Response) : Type 0 where
+  pub answer : Answer
+  pub answers : (kept : Layout) → Answers (both l kept) q (both (r .layout) kept) answer
+  pub says : Says answer (r .said)
+
+-- keep, at the layout l: where that is sound it takes the place of whatever is kept
+pub record Keeps (l : Layout) (r : Keeping) : Type 0 where
+  pub sound : r .sound ≡ soundB l
+  pub answer : Answer
+  pub answers : (kept : Layout) → Answers (both l kept) Keep (both l (cond (soundB l) l kept)) answer
+  pub says : Says answer (r .said)
+
+-- restore, at the layout l
+pub record Restores (l kept : Layout) (r : Response) : Type 0 where
+  pub answer : Answer
+  pub answers : Answers (both l kept) Restore (both (r .layout) kept) answer
+  pub says : Says answer (r .said)

@@ -1,0 +1,237 @@
+// The counter's answers over layouts: what each op does to the layout, and what it says (document 01, "Counter frames"). Only keep and restore have to
+// do with the kept layout, so that all others leave it out. Rests on `layout` and `looks` for what a request does, and on say.rt for the lines.
+ghost use mathlib.Core.Path.{_≡_};
+ghost use Rattle.frames.specs.declared.Request.the-variants as requests;
+ghost use Rattle.session.specs.Replies.{scopeOf, heard, Replies, Keeps, Restores};
+use crate::say;
+use answers::Mark;
+use answers::Refusal;
+use frames::Request;
+use frames::write::LONGEST;
+use layout::layout::Layout;
+use layout::open::Opening;
+use layout::replies::Outcome;
+use looks::replies::UsageAnswer;
+use piece::insertion_blueprint::InsertionShape;
+use piece::orientation::Orientation;
+use piece::parttype::PartType;
+use piece::rotation::Rotation;
+use piece::size::Size;
+use table::LIMIT;
+
+// What of a session a request has to do with: the layout alone, or the kept one too.
+pub enum Scope {
+    Alone,
+    Keep,
+    Restore,
+}
+
+// An answer's line: the first count characters of it, its newline among them; the rest is zero.
+pub struct Said {
+    pub line: [u8; LONGEST],
+    pub count: usize,
+}
+
+// The layout afterwards, and the answer.
+pub struct Response {
+    pub layout: Layout,
+    pub said: Said,
+}
+
+// Whether the layout is sound, so that it is kept, and the answer.
+pub struct Keeping {
+    pub sound: bool,
+    pub said: Said,
+}
+
+// ---- One function for each op.
+
+// A refused opening keeps the layout that stood.
+fn open(layout: Layout, number: u16, size: Size, cut: Orientation, stages: u8) -> Response
+    ensures { λ r. ⌜ Replies layout (requests.Open number size cut stages) r ⌝ }
+{
+    let opened = Layout::open(number, size, cut, stages);
+    let outcome = opened.outcome;
+    match outcome {
+        Opening::Free(mark) => {
+            let next = opened.layout;
+            let said = say::opened(mark);
+            Response { layout: next, said }
+        }
+        Opening::Refused(refusal) => {
+            let said = say::refused(1, refusal);
+            Response { layout, said }
+        }
+    }
+}
+
+fn offers(layout: Layout, mark: Mark, part: PartType) -> Response
+    ensures { λ r. ⌜ Replies layout (requests.Offers mark part) r ⌝ }
+{
+    let answer = looks::room::offers(layout, mark, part);
+    let offers = answer.offers;
+    let outcome = answer.outcome;
+    match outcome {
+        Outcome::Done => {
+            let said = say::offered(offers);
+            Response { layout, said }
+        }
+        Outcome::Refused(refusal) => {
+            let said = say::refused(2, refusal);
+            Response { layout, said }
+        }
+    }
+}
+
+fn insert(
+    layout: Layout,
+    mark: Mark,
+    part: PartType,
+    rotation: Rotation,
+    shape: InsertionShape,
+) -> Response
+    ensures { λ r. ⌜ Replies layout (requests.Insert mark part rotation shape) r ⌝ }
+{
+    let answer = layout.insert(mark, part, rotation, shape);
+    let next = answer.layout;
+    let marks = answer.marks;
+    let outcome = answer.outcome;
+    match outcome {
+        Outcome::Done => {
+            let said = say::inserted(marks);
+            Response { layout: next, said }
+        }
+        Outcome::Refused(refusal) => {
+            let said = say::refused(3, refusal);
+            Response { layout: next, said }
+        }
+    }
+}
+
+// The buffer has room for as many part numbers as there are places, so refusal 13 is never given.
+fn remove(layout: Layout, mark: Mark) -> Response
+    ensures { λ r. ⌜ Replies layout (requests.Remove mark) r ⌝ }
+{
+    let mut numbers = [0u16; LIMIT];
+    let answer = layout.remove(mark, &mut numbers);
+    let next = answer.layout;
+    let free = answer.free;
+    let many = answer.count as usize;
+    let outcome = answer.outcome;
+    match outcome {
+        Outcome::Done => {
+            let said = say::removed(free, &numbers, many);
+            Response { layout: next, said }
+        }
+        Outcome::Refused(refusal) => {
+            let said = say::refused(4, refusal);
+            Response { layout: next, said }
+        }
+    }
+}
+
+pub fn keep(layout: Layout) -> Keeping
+    ensures { λ r. ⌜ Keeps layout r ⌝ }
+{
+    if layout.sound() {
+        let said = say::done(5);
+        Keeping { sound: true, said }
+    } else {
+        let said = say::refused(5, Refusal::NotSound);
+        Keeping { sound: false, said }
+    }
+}
+
+pub fn restore(layout: Layout, kept: Layout) -> Response
+    ensures { λ r. ⌜ Restores layout kept r ⌝ }
+{
+    let answer = layout.restore(kept);
+    let next = answer.layout;
+    let outcome = answer.outcome;
+    match outcome {
+        Outcome::Done => {
+            let said = say::done(6);
+            Response { layout: next, said }
+        }
+        Outcome::Refused(refusal) => {
+            let said = say::refused(6, refusal);
+            Response { layout: next, said }
+        }
+    }
+}
+
+// A layout that answers is sound, so that its record has the area of its parts and how many nodes it holds.
+fn report(layout: Layout) -> Response
+    ensures { λ r. ⌜ Replies layout requests.Report r ⌝ }
+{
+    match looks::figures::sheet_usage(layout) {
+        UsageAnswer::Usage(usage) => {
+            let said = say::reported(layout.used, layout.held, f64::to_bits(usage));
+            Response { layout, said }
+        }
+        UsageAnswer::Refused(refusal) => {
+            let said = say::refused(7, refusal);
+            Response { layout, said }
+        }
+    }
+}
+
+fn malformed(layout: Layout) -> Response
+    ensures { λ r. ⌜ Replies layout requests.Malformed r ⌝ }
+{
+    let said = say::malformed();
+    Response { layout, said }
+}
+
+// ---- The answer to a request.
+
+pub fn scope_of(request: Request) -> Scope
+    ensures { λ r. ⌜ r ≡ scopeOf request ⌝ }
+{
+    match request {
+        Request::Open {
+            layout: _,
+            size: _,
+            cut: _,
+            stages: _,
+        } => Scope::Alone,
+        Request::Offers { mark: _, part: _ } => Scope::Alone,
+        Request::Insert {
+            mark: _,
+            part: _,
+            rotation: _,
+            shape: _,
+        } => Scope::Alone,
+        Request::Remove { mark: _ } => Scope::Alone,
+        Request::Keep => Scope::Keep,
+        Request::Restore => Scope::Restore,
+        Request::Report => Scope::Alone,
+        Request::Malformed => Scope::Alone,
+    }
+}
+
+// What the layout alone answers: keep and restore are malformed here.
+pub fn replied(layout: Layout, request: Request) -> Response
+    ensures { λ r. ⌜ Replies layout (heard request) r ⌝ }
+{
+    match request {
+        Request::Open {
+            layout: number,
+            size,
+            cut,
+            stages,
+        } => open(layout, number, size, cut, stages),
+        Request::Offers { mark, part } => offers(layout, mark, part),
+        Request::Insert {
+            mark,
+            part,
+            rotation,
+            shape,
+        } => insert(layout, mark, part, rotation, shape),
+        Request::Remove { mark } => remove(layout, mark),
+        Request::Keep => malformed(layout),
+        Request::Restore => malformed(layout),
+        Request::Report => report(layout),
+        Request::Malformed => malformed(layout),
+    }
+}
