@@ -66,11 +66,15 @@ impl FromStr for Kind {
     }
 }
 
-/// The frames of some sessions of a kind; `mixed` goes through the short kinds in turn, `long` through the long ones.
+/// How often `all` goes through the short kinds before it goes through the long ones, whose sessions have ten times as many lines.
+const ROUNDS: usize = 20;
+
+/// The frames of some sessions of a kind; `mixed` goes through the short kinds in turn, `long` through the long ones, `all` through both.
 pub fn lines(seed: u64, sessions: u32, kind: &str) -> Result<Vec<String>, String> {
     let kinds = match kind {
         "mixed" => MIXED.to_vec(),
         "long" => LONG.to_vec(),
+        "all" => [MIXED.repeat(ROUNDS), LONG.to_vec()].concat(),
         word => vec![word.parse()?],
     };
     let mut generator = Generator::new(seed);

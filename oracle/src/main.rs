@@ -1,5 +1,7 @@
 //! The Rust as judge: its own layout code, compiled unchanged, answering counter frames as our programs will.
 
+#[cfg(feature = "bench")]
+mod bench;
 mod coverage;
 mod differences;
 mod frame;
@@ -86,6 +88,10 @@ fn command(words: &[&str]) -> Result<bool, String> {
             differences::show();
             Ok(true)
         }
+        #[cfg(feature = "bench")]
+        ["count", times, sides @ ..] => bench::count(number(times)?, sides),
+        #[cfg(feature = "bench")]
+        ["bench", sides @ ..] => bench::run(sides),
         _ => Err(USAGE.to_string()),
     }
 }

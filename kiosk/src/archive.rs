@@ -1,0 +1,18 @@
+//! The call into the archive: the only unsafe code of this crate.
+#![allow(unsafe_code)]
+
+use crate::records::{SessionRecord, LONGEST};
+
+extern "C" {
+    /// `nickelgrove_step` of crates/kiosk. A lent slice crosses as its address and its length.
+    fn nickelgrove_step(session: *mut SessionRecord, line: *const u8, length: usize, answer: *mut [u8; LONGEST]) -> usize;
+}
+
+/// Answers a line, and gives how many characters of `answer` are the answer, its newline among them.
+pub fn step(session: &mut SessionRecord, line: &[u8], answer: &mut [u8; LONGEST]) -> usize {
+    // SAFETY: the function is proved to meet its contract on every session, line and buffer, and asks nothing of them but what their types say: it
+    // has no `requires`, and takes any numbers in a record. It reads and writes through these three references alone, which are valid for the call and
+    // apart from each other, as Rust has it of two `&mut` and a `&`; it keeps none of them and has no state of its own. The records have the
+    // layout that it expects (records.rs).
+    unsafe { nickelgrove_step(session, line.as_ptr(), line.len(), answer) }
+}

@@ -1,0 +1,135 @@
+//! A session as the archive has it: the records of crates/kiosk/src/records.rt, number by number. No code here reads one; the archive does.
+
+use std::mem::{align_of, offset_of, size_of};
+
+/// The most nodes that a layout holds.
+const LIMIT: usize = 255;
+
+/// The characters of the longest answer, its newline among them.
+pub const LONGEST: usize = 1035;
+
+#[derive(Clone, Copy)]
+#[repr(C)]
+struct DatumRecord {
+    serial: u32,
+    width: u32,
+    height: u32,
+    number: u16,
+    level: u8,
+    kind: u8,
+    cut: u8,
+}
+
+#[derive(Clone, Copy)]
+#[repr(C)]
+struct NodeRecord {
+    datum: DatumRecord,
+    parent: u16,
+    first: u16,
+    last: u16,
+    prev: u16,
+    next: u16,
+}
+
+#[derive(Clone, Copy)]
+#[repr(C)]
+struct LayoutRecord {
+    nodes: [NodeRecord; LIMIT],
+    free: [u16; LIMIT],
+    removable: [u16; LIMIT],
+    held: u16,
+    frees: u16,
+    removables: u16,
+    used: u64,
+    serial: u32,
+    number: u16,
+    stages: u8,
+    width: u32,
+    height: u32,
+}
+
+/// The sheet on the counter, and the kept one.
+#[repr(C)]
+pub struct SessionRecord {
+    layout: LayoutRecord,
+    kept: LayoutRecord,
+}
+
+impl DatumRecord {
+    const ZERO: Self = DatumRecord { serial: 0, width: 0, height: 0, number: 0, level: 0, kind: 0, cut: 0 };
+}
+
+impl NodeRecord {
+    const ZERO: Self = NodeRecord { datum: DatumRecord::ZERO, parent: 0, first: 0, last: 0, prev: 0, next: 0 };
+}
+
+impl LayoutRecord {
+    const ZERO: Self = LayoutRecord {
+        nodes: [NodeRecord::ZERO; LIMIT],
+        free: [0; LIMIT],
+        removable: [0; LIMIT],
+        held: 0,
+        frees: 0,
+        removables: 0,
+        used: 0,
+        serial: 0,
+        number: 0,
+        stages: 0,
+        width: 0,
+        height: 0,
+    };
+}
+
+impl SessionRecord {
+    /// A session starts with zeros: no sheet and no snapshot.
+    pub const ZERO: Self = SessionRecord { layout: LayoutRecord::ZERO, kept: LayoutRecord::ZERO };
+}
+
+/// Each record's size, its alignment and the place of each field, as the archive has them.
+macro_rules! laid_out {
+    ($record:ty, $size:literal, $align:literal, $($field:ident $at:literal),+) => {
+        const _: () = {
+            assert!(size_of::<$record>() == $size);
+            assert!(align_of::<$record>() == $align);
+            $(assert!(offset_of!($record, $field) == $at);)+
+        };
+    };
+}
+laid_out!(DatumRecord, 20, 4, serial 0, width 4, height 8, number 12, level 14, kind 15, cut 16);
+laid_out!(NodeRecord, 32, 4, datum 0, parent 20, first 22, last 24, prev 26, next 28);
+laid_out!(
+    LayoutRecord, 9216, 8, nodes 0, free 8160, removable 8670, held 9180, frees 9182, removables 9184, used 9192, serial 9200, number 9204,
+    stages 9206, width 9208, height 9212
+);
+laid_out!(SessionRecord, 18432, 8, layout 0, kept 9216);
+
+#[cfg(test)]
+mod tests {
+    use super::*;
+    use crate::archive;
+
+    /// The archive writes each number where this side reads it: document 01's sheet with a part on it, kept.
+    #[test]
+    fn the_archive_has_the_same_records() {
+        let (mut session, mut answer) = (SessionRecord::ZERO, [0; LONGEST]);
+        for line in ["010001000000640000003c01035a", "03000101000000020007000000280000003c0000018d", "05fb"] {
+            assert!(archive::step(&mut session, line.as_bytes(), &mut answer) > 0);
+        }
+        for layout in [&session.layout, &session.kept] {
+            let [top, part, free] = [0, 1, 2].map(|place| layout.nodes[place]);
+            let datum = |node: NodeRecord| {
+                let datum = node.datum;
+                (datum.serial, datum.width, datum.height, datum.number, datum.level, datum.kind, datum.cut)
+            };
+            let links = |node: NodeRecord| [node.parent, node.first, node.last, node.prev, node.next];
+            let none = LIMIT as u16;
+            assert_eq!((datum(top), links(top)), ((1, 100, 60, 0, 0, 2, 1), [none, 1, 2, none, none]));
+            assert_eq!((datum(part), links(part)), ((3, 40, 60, 7, 1, 1, 0), [0, none, none, none, 2]));
+            assert_eq!((datum(free), links(free)), ((4, 60, 60, 0, 1, 0, 0), [0, none, none, 1, none]));
+            assert_eq!((layout.free[0], layout.removable[0], layout.removable[1]), (2, 1, 0));
+            assert_eq!((layout.held, layout.frees, layout.removables), (3, 1, 2));
+            assert_eq!((layout.used, layout.serial, layout.number, layout.stages), (2400, 4, 1, 3));
+            assert_eq!((layout.width, layout.height), (100, 60));
+        }
+    }
+}

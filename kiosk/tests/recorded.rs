@@ -1,0 +1,74 @@
+//! The Rust's recorded answers, line by line (recorded/README.md), and the counter's own recorded run.
+
+use std::fs;
+use std::path::Path;
+use std::thread;
+
+use nickelgrove_kiosk::Counter;
+
+/// Frames with their answers, from two files of the checkout; of a line of `inspect` the first field alone.
+fn pairs(frames: &str, answers: &str) -> Vec<(Vec<u8>, String)> {
+    let read =
+        |file: &str| fs::read(Path::new(env!("CARGO_MANIFEST_DIR")).join("..").join(file)).expect("a file of the checkout");
+    let (frames, answers) = (read(frames), String::from_utf8(read(answers)).expect("hexadecimal"));
+    let frames: Vec<&[u8]> = frames.strip_suffix(b"\n").expect("whole lines").split(|byte| *byte == b'\n').collect();
+    let answers: Vec<&str> = answers.lines().map(|line| line.split(' ').next().expect("a field")).collect();
+    assert_eq!(frames.len(), answers.len());
+    frames.into_iter().zip(answers).map(|(frame, answer)| (frame.to_vec(), answer.to_string())).collect()
+}
+
+fn long() -> Vec<(Vec<u8>, String)> {
+    pairs("recorded/long.in", "recorded/long.out")
+}
+
+fn short() -> Vec<(Vec<u8>, String)> {
+    pairs("recorded/sessions.in", "recorded/sessions.out")
+}
+
+fn replay(pairs: &[(Vec<u8>, String)]) {
+    let mut counter = Counter::new();
+    for (place, (frame, answer)) in pairs.iter().enumerate() {
+        assert_eq!(counter.answer(frame), answer, "line {}", place + 1);
+    }
+}
+
+#[test]
+fn long_sessions() {
+    replay(&long());
+}
+
+#[test]
+fn short_sessions() {
+    replay(&short());
+}
+
+/// Document 01's session, a frame for each refusal that a few lines can reach, a line of each malformed kind, and the long sessions.
+#[test]
+fn the_counters_own_run() {
+    replay(&pairs("crates/counter/stdin", "crates/counter/stdout"));
+}
+
+#[test]
+fn two_sessions_line_by_line_in_turn() {
+    let (mut one, mut other) = (Counter::new(), Counter::new());
+    for ((frame, answer), (frame_of_other, answer_of_other)) in long().iter().zip(&short()) {
+        assert_eq!(one.answer(frame), answer);
+        assert_eq!(other.answer(frame_of_other), answer_of_other);
+    }
+}
+
+#[test]
+fn counters_on_threads_of_their_own() {
+    thread::scope(|scope| {
+        for pairs in [long(), short(), long()] {
+            scope.spawn(move || replay(&pairs));
+        }
+    });
+}
+
+/// The deepest trees that calls can make, on a quarter of what a thread has by default. tools/stack finds the least.
+#[test]
+fn long_sessions_on_a_small_stack() {
+    let thread = thread::Builder::new().stack_size(512 << 10).spawn(|| replay(&long()));
+    thread.expect("a thread").join().expect("every answer was right");
+}
