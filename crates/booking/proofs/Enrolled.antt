@@ -21,24 +21,11 @@ use Rattle.tree.proofs.Rows.{in-eq, at-in}
 use Rattle.tree.proofs.Blocks.{block-count}
 use Rattle.register.specs.Listings.{Names}
 use Rattle.register.specs.Enrolment.{when, enrolled}
+use Rattle.register.proofs.Naming.{names-cases, names-first, names-second}
 
 -- ---- the places that a list names
 
 module _ (i : ℕ) where
-  pub names-in : (xs ys : List ℕ) → Names i (xs ++ ys) → Names i xs ⊎ Names i ys
-  names-in [] ys n = inr n
-  names-in (p ∷ xs) ys (inl e) = inl (inl e)
-  names-in (p ∷ xs) ys (inr n) = ⊎-elim (λ z. inl (inr z)) inr (names-in xs ys n)
-
-  pub names-first : (xs ys : List ℕ) → Names i xs → Names i (xs ++ ys)
-  names-first [] ys n = absurd n
-  names-first (p ∷ xs) ys (inl e) = inl e
-  names-first (p ∷ xs) ys (inr n) = inr (names-first xs ys n)
-
-  pub names-second : (xs ys : List ℕ) → Names i ys → Names i (xs ++ ys)
-  names-second [] ys n = n
-  names-second (p ∷ xs) ys n = inr (names-second xs ys n)
-
   names-when : (b : Bool) (p : ℕ) → Names i (when b p) → (b ≡ true) × (i ≡ p)
   names-when true p (inl e) = (refl, e)
   names-when true p (inr n) = absurd n
@@ -52,7 +39,7 @@ Once (p ∷ ps) = (Names p ps → ⊥) × Once ps
 once-both : (xs ys : List ℕ) → Once xs → Once ys → ((i : ℕ) → Names i xs → Names i ys → ⊥) → Once (xs ++ ys)
 once-both [] ys u v n = v
 once-both (p ∷ xs) ys u v n =
-    ((λ m. ⊎-elim (u .0) (n p (inl refl)) (names-in p xs ys m)), once-both xs ys (u .1) v (λ i a c. n i (inr a) c))
+    ((λ m. ⊎-elim (u .0) (n p (inl refl)) (names-cases p xs ys m)), once-both xs ys (u .1) v (λ i a c. n i (inr a) c))
 
 once-when : (b : Bool) (p : ℕ) → Once (when b p)
 once-when true p = ((λ n. n), tt)
@@ -102,8 +89,8 @@ named : (p : ℕ) (d : Datum) (k r : Tree) (q : ℕ) (none : Bool) (i : ℕ) →
     → Names i (enrolled q none (grow p d k r)) → ((none ≡ true) × (i ≡ q)) ⊎ Solid i (grow p d k r)
 named p d k r q none i h f g n =
     ⊎-elim (λ z. let y = names-when i (isPart (d .kind)) p z in inr (d, inl (y .1, refl), part-solid (d .kind) (y .0)))
-    (λ m. ⊎-elim (λ z. inl (names-when i none q z)) (λ l. ⊎-elim below later (names-in i (enrolled p true k) (enrolled q false r) l))
-    (names-in i (when none q) _ m)) (names-in i (when (isPart (d .kind)) p) _ n)
+    (λ m. ⊎-elim (λ z. inl (names-when i none q z)) (λ l. ⊎-elim below later (names-cases i (enrolled p true k) (enrolled q false r) l))
+    (names-cases i (when none q) _ m)) (names-cases i (when (isPart (d .kind)) p) _ n)
   where
     below : Names i (enrolled p true k) → ((none ≡ true) × (i ≡ q)) ⊎ Solid i (grow p d k r)
     below z =
@@ -164,7 +151,7 @@ enrolled-once (grow p d k r) h u q n none =
     under i y z =
         let e : i ≡ q = names-when i none q y .1 in
         n (⊎-elim (λ v. ⊎-elim (λ s. inl (sym e ∙ s)) (λ s. inr (inl (in-eq k e s))) (below i v)) (λ v. inr (inr (in-eq r e (later i v))))
-        (names-in i (enrolled p true k) (enrolled q false r) z))
+        (names-cases i (enrolled p true k) (enrolled q false r) z))
 
     own : (i : ℕ) → Names i (when (isPart (d .kind)) p) → Names i (when none q ++ (enrolled p true k ++ enrolled q false r)) → ⊥
     own i y z =
@@ -173,7 +160,7 @@ enrolled-once (grow p d k r) h u q n none =
         let e : i ≡ p = f .1 in
         ⊎-elim (λ v. n (inl (sym (names-when i none q v .1) ∙ e)))
         (λ v. ⊎-elim (λ s. subst (λ (t : Tree). Names i (enrolled p true t) → ⊥) (sym bare) (λ a. a) s) (λ s. u .1 (in-eq r e (later i s)))
-        (names-in i (enrolled p true k) (enrolled q false r) v)) (names-in i (when none q) _ z)
+        (names-cases i (enrolled p true k) (enrolled q false r) v)) (names-cases i (when none q) _ z)
 
 -- ---- the block of a booking is so built
 

@@ -1,22 +1,20 @@
 -- Demand 3: "booking and then removing the first piece made gives the same tree". Over the calls, wherever both are accepted: the second is given
 -- the first mark that the first one answered. It rests on tree's law `book-then-remove`.
-use mathlib.Core.Path.{_≡_, refl, ap, _∙_}
-use mathlib.Core.Bool.{true}
+use mathlib.Core.Path.{_≡_, ap, _∙_}
 use Prim.Native.Nat.{ℕ, _+_, _≤_}
 use native.Mathlib.Omega.{arith}
 use Rattle.piece.specs.declared.rotation.Rotation.{Rotation}
 use Rattle.piece.specs.declared.parttype.PartType.{PartType}
 use Rattle.piece.specs.declared.node.Datum.{Datum}
-use Rattle.piece.specs.declared.node.Kind.{Kind}
 use Rattle.piece.specs.declared.insertion_blueprint.InsertionShape.{InsertionShape}
 use Rattle.piece.specs.declared.insertion_blueprint.InsertionShape.the-variants.{AlongCurrentCut, AcrossCurrentCut, AlongThenAcross, AcrossThenAlong}
-use Rattle.piece.specs.Insertion.{blockOf, newNodes, table}
+use Rattle.piece.specs.Insertion.{newNodes}
 use Rattle.tree.specs.Snapshot.{Same}
-use Rattle.tree.specs.Booking.{Booking, block, book, planted}
+use Rattle.tree.specs.Booking.{Booking, block, book}
 use Rattle.tree.specs.Removal.{remove}
 use Rattle.tree.proofs.Laws.BookThenRemove.{book-then-remove}
 use Rattle.booking.specs.declared.marks.NewMarks.{NewMarks}
-use Rattle.booking.specs.Marks.{blockMarks, headMark, marksIn}
+use Rattle.booking.specs.Marks.{blockMarks}
 use Rattle.answers.specs.declared.Mark.{Mark}
 use Rattle.layout.specs.declared.layout.Layout.{Layout}
 use Rattle.layout.specs.declared.insert.Inserted.{Inserted}
@@ -28,6 +26,7 @@ use Rattle.layout.specs.Remove.{placeFor}
 use Rattle.looks.specs.Written.{snapshotBytes}
 use Rattle.demands.specs.Calls.{InsertAccepted, RemoveAccepted, SameTree}
 use Rattle.demands.proofs.Accepted.{InsertMeans, RemoveMeans, accepted-insert, accepted-remove}
+use Rattle.demands.proofs.MarksNamed.{block-first-is}
 
 -- every shape makes at least two nodes
 pub new-some : (s : InsertionShape) → 2 ≤ newNodes s
@@ -37,17 +36,8 @@ new-some AlongThenAcross = omega arith
 new-some AcrossThenAlong = omega arith
 
 -- the first mark of a block names the place of the first node
-first-made : (number : ℕ) (b : Booking) (d : Datum) (s : InsertionShape)
-    → headMark (marksIn number (λ (k : Kind). true) (planted b (d .level) (d .cut) (blockOf s (d .cut) (d .size) (b .size)))) .place ≡ b .place 0
-unfolding blockOf table
-first-made number b d AlongCurrentCut = refl
-first-made number b d AcrossCurrentCut = refl
-first-made number b d AlongThenAcross = refl
-first-made number b d AcrossThenAlong = refl
-
 pub first-place : (number : ℕ) (b : Booking) (d : Datum) → blockMarks number (block b d) .first .place ≡ b .place 0
-unfolding blockMarks block
-first-place number b d = first-made number b d (b .shape)
+first-place number b d = ap (λ (m : Mark). m .place) (block-first-is number b d)
 
 module _ (l : Layout) (sized : Sized l) (m : Mark) (p : PartType) (r : Rotation) (s : InsertionShape) (a : Inserted) (room : ℕ) (c : Removed) where
   abbrev x : ℕ

@@ -1,6 +1,7 @@
 -- Demand 1, the life of one layout: every state is sound and has the same number, the last serial issued never falls, and no serial is
 -- issued twice. Each call's step is looked at once (`Step`), and what holds of all of them goes along the states (`Run`). It rests on the pieces
--- of a booking and of a removal (crates booking and removal), on their parents (Parents) and on what a call has done (Outcomes). Assumes nothing.
+-- of a booking and of a removal (crates booking and removal), on their parents (Parents) and on what a call has done (Outcomes, Accepted).
+-- Assumes nothing.
 use mathlib.Core.Path.{_≡_, refl, sym, ap, _∙_}
 use mathlib.Core.List.{List, [], _∷_}
 use mathlib.Core.Logic.{_⊎_, inl, inr, ⊎-elim}
@@ -13,7 +14,7 @@ use Rattle.piece.specs.declared.rotation.Rotation.{Rotation}
 use Rattle.piece.specs.declared.parttype.PartType.{PartType}
 use Rattle.piece.specs.declared.node.Datum.{Datum}
 use Rattle.piece.specs.declared.insertion_blueprint.InsertionShape.{InsertionShape}
-use Rattle.tree.specs.Tree.{In, At}
+use Rattle.tree.specs.Tree.{Tree, In, At}
 use Rattle.tree.specs.Booking.{Booking}
 use Rattle.tree.specs.Removal.{cleared}
 use Rattle.tree.specs.Accepted.{Fresh}
@@ -23,7 +24,7 @@ use Rattle.table.specs.Table.{zeroDatum, zeroNode}
 use Rattle.table.specs.Steps.{less}
 use Rattle.table.proofs.Removal.{cleared-at}
 use Rattle.register.specs.Family.{parentOf}
-use Rattle.register.proofs.Family.{fresh-booking, fresh-removal}
+use Rattle.register.proofs.Family.{fresh-removal}
 use Rattle.booking.proofs.Pieces.{less-was, book-pieces}
 use Rattle.booking.proofs.Issued.{newer}
 use Rattle.removal.specs.Remove.{newFree}
@@ -36,6 +37,7 @@ use Rattle.layout.specs.declared.insert.Inserted.{Inserted}
 use Rattle.layout.specs.declared.remove.Removed.{Removed}
 use Rattle.layout.specs.Check.{limit, tree}
 use Rattle.layout.specs.SoundLayout.{SoundLayout, Sized}
+use Rattle.layout.specs.Next.{Next}
 use Rattle.layout.specs.Open.{openOf}
 use Rattle.layout.specs.Insert.{bookingFor, pieceAt, Insertable, InsertDone, InsertSays}
 use Rattle.layout.specs.Remove.{placeFor, RemoveDone, RemoveSays, Takeable}
@@ -45,6 +47,7 @@ use Rattle.layout.proofs.Opened.{fresh-sized, fresh-sound}
 use Rattle.layout.proofs.Restored.{greater-left, restored-sound}
 use Rattle.demands.specs.Life.{OneOf, Life, opened, inserted, removed, restored, Later}
 use Rattle.demands.proofs.Parents.{SameParent, book-parent, remove-parent}
+use Rattle.demands.proofs.Accepted.{insertable-fresh}
 use Rattle.demands.proofs.Outcomes.{opened-so, inserted-so, removed-so, restored-so}
 
 -- ---- a piece in two layouts
@@ -100,6 +103,20 @@ module _ (l : Layout) (ls : List Layout) (h : Right l) (among : OneOf l ls) wher
         pieces = λ i f y. inl (l, among, record { there = y; parent = refl; parentPiece = refl });
       })
 
+  -- accepted, each piece was there or is new
+  module _ {w : Tree} {ys : List ℕ} {last : ℕ} {n : Layout} (next : Next l w ys last n) where
+    next-right : Right n
+    next-right = record { sound = next .sound; sized = next .sized }
+
+    next-step : l .serial ≤ last → ((i : ℕ) (e : Datum) → At i e (tree n) → Kept l n i e ⊎ (l .serial < e .serial)) → Step l ls n
+    next-step rises pieces =
+        record {
+          right = next-right;
+          number = next .number;
+          rises = let z = next .serial in omega arith;
+          pieces = λ i e y. ⊎-elim (λ z. inl (l, among, z)) inr (pieces i e y);
+        }
+
   -- a booking in the free piece at x
   module _ (x : ℕ) (p : PartType) (r : Rotation) (s : InsertionShape) (can : Insertable l x p r s) (a : Inserted)
       (done : InsertDone l x (bookingFor l x p r s) a) where
@@ -110,12 +127,7 @@ module _ (l : Layout) (ls : List Layout) (h : Right l) (among : OneOf l ls) wher
     d = pieceAt l x
 
     fresh : Fresh limit x b (tree l)
-    fresh =
-        fresh-booking limit (l .stages) (l .sheet) (tree l) (h .sound .sound) x d (can .there) (can .free) b (λ j o. refl)
-        (omega (arith, h .sound .held, can .room))
-
-    booked-right : Right (a .layout)
-    booked-right = record { sound = done .next .sound; sized = done .next .sized }
+    fresh = insertable-fresh l x p r s can
 
     booked-pieces : (i : ℕ) (e : Datum) → At i e (tree (a .layout)) → Kept l (a .layout) i e ⊎ (l .serial < e .serial)
     booked-pieces i e y =
@@ -128,27 +140,18 @@ module _ (l : Layout) (ls : List Layout) (h : Right l) (among : OneOf l ls) wher
       where
         left : At i e (less x (tree l)) → Kept l (a .layout) i e
         left z =
-            kept-so l (a .layout) h booked-right i e
+            kept-so l (a .layout) h (next-right (done .next)) i e
             (less-was limit (l .stages) (l .sheet) (tree l) (h .sound .sound) x d (can .there) (can .free) i e z .0)
             (rw (done .next .tree)
             (book-parent limit (l .stages) (l .sheet) (tree l) (h .sound .sound) x d (can .there) (can .free) b fresh i e z))
 
     insert-step : Step l ls (a .layout)
-    insert-step =
-        record {
-          right = booked-right;
-          number = done .next .number;
-          rises = let z = done .next .serial in omega arith;
-          pieces = λ i e y. ⊎-elim (λ z. inl (l, among, z)) inr (booked-pieces i e y);
-        }
+    insert-step = next-step (done .next) (omega arith) booked-pieces
 
   -- a removal of the piece at x
   module _ (x : ℕ) (can : Takeable l x) (a : Removed) (done : RemoveDone l x a) where
     unheld : In (placeFor l x) (cleared x (tree l)) → ⊥
     unheld = fresh-removal limit (l .stages) (l .sheet) (tree l) (h .sound .sound) x (can .removable) .1
-
-    removed-right : Right (a .layout)
-    removed-right = record { sound = done .next .sound; sized = done .next .sized }
 
     removed-pieces : (i : ℕ) (e : Datum) → At i e (tree (a .layout)) → Kept l (a .layout) i e ⊎ (l .serial < e .serial)
     removed-pieces i e y =
@@ -158,20 +161,14 @@ module _ (l : Layout) (ls : List Layout) (h : Right l) (among : OneOf l ls) wher
       where
         left : At i e (cleared x (tree l)) → Kept l (a .layout) i e
         left z =
-            kept-so l (a .layout) h removed-right i e (cleared-at i e x (tree l) z)
+            kept-so l (a .layout) h (next-right (done .next)) i e (cleared-at i e x (tree l) z)
             (rw (done .next .tree) (remove-parent limit x (placeFor l x) (l .serial + 1) (tree l) (h .sound .sound .distinct) unheld i e z))
 
         new : e ≡ newFree (l .nodes) x (l .serial) → l .serial < e .serial
         new z = let s = ap (λ (f : Datum). f .serial) z ∙ new-serial (l .nodes) x (l .serial) in omega arith
 
     remove-step : Step l ls (a .layout)
-    remove-step =
-        record {
-          right = removed-right;
-          number = done .next .number;
-          rises = let z = done .next .serial in omega arith;
-          pieces = λ i e y. ⊎-elim (λ z. inl (l, among, z)) inr (removed-pieces i e y);
-        }
+    remove-step = next-step (done .next) (omega arith) removed-pieces
 
   -- an earlier state is put back: its pieces are all there, and no other
   restore-step : (s : Layout) → Right s → OneOf s ls → s .number ≡ l .number → Step l ls (withSerial s (greater (l .serial) (s .serial)))

@@ -17,7 +17,7 @@ use Rattle.piece.specs.declared.rotation.Rotation.{Rotation}
 use Rattle.piece.specs.declared.parttype.PartType.{PartType}
 use Rattle.piece.specs.declared.node.Datum.{Datum}
 use Rattle.piece.specs.declared.node.Kind.{Kind}
-use Rattle.piece.specs.declared.node.Kind.the-variants.{Free, Part}
+use Rattle.piece.specs.declared.node.Kind.the-variants.{Free, Part, Structure}
 use Rattle.piece.specs.declared.insertion_blueprint.InsertionShape.{InsertionShape}
 use Rattle.piece.specs.declared.insertion_blueprint.InsertionShape.the-variants.{AlongCurrentCut, AcrossCurrentCut, AlongThenAcross, AcrossThenAlong}
 use Rattle.piece.specs.Insertion.{blockOf, table}
@@ -48,13 +48,14 @@ use Rattle.layout.specs.Open.{freshLayout, openOf}
 use Rattle.layout.specs.Insert.{bookingFor, pieceAt, Insertable, InsertDone, InsertSays}
 use Rattle.layout.specs.Remove.{placeFor, RemoveSays}
 use Rattle.layout.proofs.Listed.{piece-is}
+use Rattle.layout.proofs.Admitted.{is-free}
 use Rattle.layout.proofs.Opened.{fresh-tree, fresh-sound}
 use Rattle.looks.specs.declared.replies.MarkAnswer.{MarkAnswer}
 use Rattle.looks.specs.declared.replies.MarkAnswer.the-variants as answer
 use Rattle.looks.specs.Answers.{freeMarkOf, removableMarkOf}
 use Rattle.looks.proofs.ListMarks.{free-mark-names, removable-mark-names}
 use Rattle.demands.specs.Life.{Names}
-use Rattle.demands.proofs.Outcomes.{is-free, is-part, opened-so, insert-done, remove-done}
+use Rattle.demands.proofs.Outcomes.{opened-so, insert-done, remove-done}
 
 -- the mark names a piece of this kind
 pub record NamesKind (k : Kind) (l : Layout) (m : Mark) : Type 0 where
@@ -164,7 +165,7 @@ module _ (number : ℕ) (b : Booking) (d : Datum) where
   abbrev marks : NewMarks
   marks = blockMarks number (block b d)
 
-  block-first-is : marks .first ≡ record { layout = number; place = b .place 0; serial = b .serial }
+  pub block-first-is : blockMarks number (block b d) .first ≡ record { layout = number; place = b .place 0; serial = b .serial }
   unfolding blockMarks block
   block-first-is = first-is number b (d .level) (d .cut) (d .size) (b .size) (b .shape) ∙ rw (add-zero (b .serial)) refl
 
@@ -183,6 +184,11 @@ module _ (number : ℕ) (b : Booking) (d : Datum) where
       marks-of number isFree (block b d) k (rw (padded-whole zeroMark 2 2 (marksIn number isFree (block b d)) few) at m)
 
 -- ---- insert
+
+is-part : (κ : Kind) → isPart κ ≡ true → κ ≡ Part
+is-part Free h = absurd (clash h)
+is-part Part h = refl
+is-part Structure h = absurd (clash h)
 
 -- the marks that an accepted booking in the piece at x answers: the first of the new nodes, the part, and the free pieces
 pub record BookedMarks (l : Layout) (x : ℕ) (p : PartType) (r : Rotation) (s : InsertionShape) (a : Inserted) : Type 0 where

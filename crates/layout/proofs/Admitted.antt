@@ -15,7 +15,7 @@ use Rattle.piece.specs.declared.node.Kind.the-variants.{Free, Part, Structure}
 use Rattle.piece.specs.declared.insertion_blueprint.InsertionShape.{InsertionShape}
 use Rattle.piece.specs.Insertion.{newNodes}
 use Rattle.piece.specs.Row.{nil, grow}
-use Rattle.tree.specs.Tree.{Tree, At, count, isFree}
+use Rattle.tree.specs.Tree.{Tree, count, isFree}
 use Rattle.tree.specs.Sound.{Topped}
 use Rattle.sound.proofs.Says.{clash}
 use Rattle.answers.specs.declared.Mark.{Mark}
@@ -34,7 +34,7 @@ use Rattle.layout.specs.Refusing.{outcomeOf}
 use Rattle.layout.specs.Insert.{InsertDone, InsertSays, Insertable, bookNo, bookingFor, insertNo, pieceAt, pieceNo, refusedInsert}
 use Rattle.layout.proofs.Exactly.{sound-says}
 use Rattle.layout.proofs.Listed.{piece-is}
-use Rattle.layout.proofs.Marks.{sought-names}
+use Rattle.layout.proofs.Marks.{Names, sought-names}
 
 -- ---- a refusal, and none
 
@@ -57,10 +57,10 @@ outcome-none (some x) h = absurd (clash (cc))
 
 -- ---- an insertion
 
-free-kind : (κ : Kind) → isFree κ ≡ true → κ ≡ Free
-free-kind Free h = refl
-free-kind Part h = absurd (clash h)
-free-kind Structure h = absurd (clash h)
+pub is-free : (κ : Kind) → isFree κ ≡ true → κ ≡ Free
+is-free Free h = refl
+is-free Part h = absurd (clash h)
+is-free Structure h = absurd (clash h)
 
 -- there is a top
 some-piece : (stages : ℕ) (sheet : Size) (w : Tree) → Topped stages sheet w → 1 ≤ count w
@@ -102,30 +102,36 @@ module _ (l : Layout) (m : Mark) (p : PartType) (r : Rotation) (s : InsertionSha
       let n = passed (leb (l .held - 1 + newNodes s) limit) _ TooManyNodes (o .1) in
       let k = passed (leb (l .serial + newNodes s) maxSerial) none SerialsSpent (n .1) in
       record {
-        free = free-kind (d .kind) (f .0);
+        free = is-free (d .kind) (f .0);
         offered = o .0;
         room = leb-true (l .held - 1 + newNodes s) limit (n .0);
         spent = leb-true (l .serial + newNodes s) maxSerial (k .0);
       }
 
-  -- an insertion that nothing refuses can be made
-  pub insertable : Sized l → insertNo l m p r s ≡ none → Insertable l (m .place) p r s
+  -- of an insertion that nothing refuses the mark names the piece, and the part may be booked in it
+  pub admitted : Sized l → insertNo l m p r s ≡ none → Names l m (pieceAt l (m .place)) × Insertable l (m .place) p r s
   unfolding insertNo
-  insertable sized h =
+  admitted sized h =
       let c = passed (soundB l) _ NotSound h in
       let q = passed (partB p) _ PartOutside (c .1) in
       let g = found-piece (soughtOf l m) (q .1) in
       let sound = sound-says l sized (c .0) in
-      let there : At (m .place) (g .0) (tree l) = sought-names l sound m (g .0) (g .1) .there in
-      let is : pieceAt l (m .place) ≡ g .0 = piece-is (l .nodes) (tree l) (sound .holds) (m .place) (g .0) there in
-      let y : Passes (pieceAt l (m .place)) = rw is (book-passes (g .0) (g .2)) in
-      record {
-        sized = sized;
-        sound = sound;
-        there = rw is there;
-        free = y .free;
-        part = q .0;
-        offered = y .offered;
-        room = y .room;
-        spent = y .spent;
-      }
+      let found = sought-names l sound m (g .0) (g .1) in
+      let is : pieceAt l (m .place) ≡ g .0 = piece-is (l .nodes) (tree l) (sound .holds) (m .place) (g .0) (found .there) in
+      let named : Names l m (pieceAt l (m .place)) = rw is found in
+      let y : Passes (pieceAt l (m .place)) = rw is (book-passes (g .0) (g .2)) in (
+        named,
+        record {
+          sized = sized;
+          sound = sound;
+          there = named .there;
+          free = y .free;
+          part = q .0;
+          offered = y .offered;
+          room = y .room;
+          spent = y .spent;
+        },
+      )
+
+  pub insertable : Sized l → insertNo l m p r s ≡ none → Insertable l (m .place) p r s
+  insertable sized h = admitted sized h .1

@@ -47,18 +47,18 @@ refused-means (some f) l x a e h d =
     (ap some same, h ∙ ap (refusedRemove l) same)
 
 -- past every test
-record Passed (l : Layout) (m : Mark) (room : ℕ) : Type 0 where
-  piece : Datum
-  checked : soundB l ≡ true
-  named : soughtOf l m ≡ sought.Piece piece
-  allowed : goNo l (m .place) piece ≡ none
-  roomy : roomNo l (m .place) room ≡ none
+pub record Passed (l : Layout) (m : Mark) (room : ℕ) : Type 0 where
+  pub piece : Datum
+  pub checked : soundB l ≡ true
+  pub named : soughtOf l m ≡ sought.Piece piece
+  pub allowed : goNo l (m .place) piece ≡ none
+  pub roomy : roomNo l (m .place) room ≡ none
 
 neither-refuses : (o p : Option Refusal) → orElse o p ≡ none → (o ≡ none) × (p ≡ none)
 neither-refuses none p h = (refl, h)
 neither-refuses (some e) p h = absurd (clash (cc))
 
-none-passes : (l : Layout) (m : Mark) (room : ℕ) → removeNo l m room ≡ none → Passed l m room
+pub none-passes : (l : Layout) (m : Mark) (room : ℕ) → removeNo l m room ≡ none → Passed l m room
 unfolding removeNo
 none-passes l m room h = go (soundB l) refl (soughtOf l m) refl h
   where
@@ -69,6 +69,11 @@ none-passes l m room h = go (soundB l) refl (soughtOf l m) refl h
         record { piece = d; checked = e; named = f; allowed = n .0; roomy = n .1 }
     go true e (sought.Refused r) f h = absurd (clash (cc))
     go false e f g h = absurd (clash (cc))
+
+-- a removal that nothing refuses can be made
+pub may-take : (l : Layout) (m : Mark) (room : ℕ) → Sized l → removeNo l m room ≡ none → Takeable l (m .place)
+may-take l m room sized h =
+    let p = none-passes l m room h in takeable l m (p .piece) sized (p .checked) (p .named) (p .allowed)
 
 -- ---- an answer that meets the contract
 
@@ -87,11 +92,11 @@ module _ (l : Layout) (m : Mark) (room : ℕ) (a : Removed) (says : RemoveSays l
   refused-untouched e d out n = rw (n, refused-means (removeNo l m room) l (m .place) a e told d .0) refl
 
   module _ (done : a .outcome ≡ Done) where
-    accepted : removeNo l m room ≡ none
-    accepted = done-means (removeNo l m room) l (m .place) a told done .0
+    pub remove-accepted : (removeNo l m room ≡ none) × RemoveDone l (m .place) a
+    remove-accepted = done-means (removeNo l m room) l (m .place) a told done
 
     pub removed-done : RemoveDone l (m .place) a
-    removed-done = done-means (removeNo l m room) l (m .place) a told done .1
+    removed-done = remove-accepted .1
 
     -- the next layout is sound, and passes the check of the next call
     pub removed-sound : SoundLayout (a .layout)
@@ -112,12 +117,11 @@ module _ (l : Layout) (m : Mark) (room : ℕ) (a : Removed) (says : RemoveSays l
     -- the numbers stand at the start of the buffer, and nothing else in it changes
     pub numbers-left : (out : List ℕ) → length out ≡ room → numbersLeft l m out ≡ sets out 0 (numbersOut l (m .place))
     unfolding numbersLeft
-    numbers-left out n = rw (n, accepted) refl
+    numbers-left out n = rw (n, remove-accepted .0) refl
 
     module _ (sized : Sized l) where
       removal-takeable : Takeable l (m .place)
-      removal-takeable =
-          let p = none-passes l m room accepted in takeable l m (p .piece) sized (p .checked) (p .named) (p .allowed)
+      removal-takeable = may-take l m room sized (remove-accepted .0)
 
       -- of parts and structures all stay but the removed one and what is below it
       pub solid-stays : (i : ℕ) (e : Datum) → At i e (tree l) → isFree (e .kind) ≡ false → (i ≡ m .place → ⊥)

@@ -3,7 +3,7 @@
 use mathlib.Core.Path.{_≡_, refl}
 use mathlib.Core.Bool.{Bool, true, false, cond}
 use mathlib.Core.List.{List}
-use mathlib.Core.Option.{Option, none, some}
+use mathlib.Core.Option.{none, some}
 use Prim.Native.Nat.{ℕ, _+_, _≤_, _<_}
 use lib.Dec.{eqb, leb}
 use lib.ListN.{length}
@@ -15,26 +15,14 @@ use Rattle.answers.specs.declared.Refusal.{Refusal}
 use Rattle.answers.specs.declared.Refusal.the-variants.{NotSound, TheTop, FreePiece, SerialsSpent, BufferTooShort}
 use Rattle.sound.proofs.Says.{clash}
 use Rattle.layout.specs.declared.layout.Layout.{Layout}
-use Rattle.layout.specs.declared.replies.Outcome.the-variants.{Done, Refused}
 use Rattle.layout.specs.declared.replies.Sought.the-variants as sought
 use Rattle.layout.specs.declared.remove.Removed.{Removed}
 use Rattle.layout.specs.Check.{soundB, maxSerial}
 use Rattle.layout.specs.Asked.{soughtOf}
 use Rattle.layout.specs.SoundLayout.{Sized}
-use Rattle.layout.specs.Refusing.{outcomeOf}
 use Rattle.layout.specs.Remove.{RemoveSays, Takeable, goNo, numbersLeft, numbersOut, outAfter, refusedRemove, removeIs, removeNo, roomNo}
 use Rattle.layout.proofs.Exactly.{sound-says}
 use Rattle.layout.proofs.Marks.{sought-names}
-
--- ---- what a callee's outcome says
-
-pub outcome-refused : (o : Option Refusal) {e : Refusal} → outcomeOf o ≡ Refused e → o ≡ some e
-outcome-refused none h = absurd (clash (cc))
-outcome-refused (some e) h = cc
-
-pub outcome-done : (o : Option Refusal) → outcomeOf o ≡ Done → o ≡ none
-outcome-done none h = refl
-outcome-done (some e) h = absurd (clash (cc))
 
 -- ---- the buffer
 

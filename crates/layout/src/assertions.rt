@@ -1,10 +1,12 @@
-// The soundness check. Rust: util/assertions.rs, made complete by document 01, "Sound layout". The table is gone through twice: by its rows, which marks
-// what hangs, and by its places. The answers are looked at together, since the compiler takes what stands behind an early return for rare. Only the
-// order of the free list waits for them: it is asked for where the list names places.
+// The soundness check. Rust: util/assertions.rs, made complete by document 01, "Sound layout". The table is gone through twice: by its rows, which
+// marks what hangs, and by its places. The answers are looked at together, since the compiler takes what stands behind an early return for rare.
+// `rest_ok` waits for them: the order of the free list is asked for where the list names places, and whether the serials differ where none is above
+// MAX_SERIAL.
 ghost use mathlib.Core.Path.{_≡_};
 ghost use mathlib.Core.Bool.{true, _&&_};
 ghost use lib.Dec.{leb};
-ghost use Rattle.lists.specs.Search.{zeroTail};
+ghost use Rattle.lists.specs.Search.{differ, zeroTail};
+ghost use Rattle.lists.specs.Classes.{Low};
 ghost use Rattle.lists.specs.Flags.{okB};
 ghost use Rattle.sound.specs.Places.{topB};
 ghost use Rattle.sound.specs.Listed.{sortedB};
@@ -64,8 +66,8 @@ fn frame_ok(stages: u8, sheet: Size, top: Node, last: u32) -> bool
     }
 }
 
-// The free list is in order, and both lists have a zero tail.
-fn lists_ok<'a>(
+// What waits for the passes: the serials differ, the free list is in order, and both lists have a zero tail.
+fn rest_ok<'a>(
     area: &'a [u64; LIMIT],
     serial: &'a [u32; LIMIT],
     free: &'a [u16; LIMIT],
@@ -73,10 +75,13 @@ fn lists_ok<'a>(
     removable: &'a [u16; LIMIT],
     removables: usize,
 ) -> bool
-    requires { ⌜ okB limit (now free) frees ≡ true ⌝ }
-    ensures { λ r. ⌜ r ≡ (sortedB (now (area .entry)) (now (serial .entry)) (now (free .entry)) frees
-        && (zeroTail limit (now (free .entry)) frees && zeroTail limit (now (removable .entry)) removables)) ⌝ }
+    requires { ⌜ (okB limit (now free) frees ≡ true) × Low (now serial) ⌝ }
+    ensures { λ r. ⌜ r ≡ (differ limit (now (serial .entry)) && (sortedB (now (area .entry)) (now (serial .entry)) (now (free .entry)) frees
+        && (zeroTail limit (now (free .entry)) frees && zeroTail limit (now (removable .entry)) removables))) ⌝ }
 {
+    if all_differ(serial) {} else {
+        return false;
+    }
     if is_sorted(area, serial, free, frees) {} else {
         return false;
     }
@@ -119,10 +124,9 @@ impl Layout {
             &mut serial,
             &mut area,
         );
-        let apart = all_differ(&serial);
         let framed = frame_ok(self.stages, sheet, top, self.serial);
-        if named.ok & kept.ok & linked & counted & apart & framed {
-            lists_ok(&area, &serial, &free, frees, &removable, removables)
+        if named.ok & kept.ok & linked & counted & framed {
+            rest_ok(&area, &serial, &free, frees, &removable, removables)
         } else {
             false
         }

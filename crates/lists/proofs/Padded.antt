@@ -39,10 +39,10 @@ take-out-parts l n k h m =
 
 -- ---- zeros
 
-length-zeros : (n : ℕ) → length (zeros n) ≡ n
+pub length-zeros : (n : ℕ) → length (zeros n) ≡ n
 length-zeros n = length-replicate n 0
 
-getD-zeros : (n j : ℕ) → getD (zeros n) j 0 ≡ 0
+pub getD-zeros : (n j : ℕ) → getD (zeros n) j 0 ≡ 0
 getD-zeros zero j = refl
 getD-zeros (suc n) zero = refl
 getD-zeros (suc n) (suc j) = getD-zeros n j

@@ -1,3 +1,4 @@
 pub mod Lists
 pub mod Search
 pub mod Flags
+pub mod Classes

@@ -9,6 +9,7 @@ use lib.Seq.{getD-take}
 use Rattle.piece.specs.declared.node.Datum.{Datum}
 use Rattle.piece.specs.declared.node.Kind.the-variants.{Free}
 use Rattle.tree.specs.Tree.{At, isFree}
+use Rattle.walks.specs.Along.{Placed}
 use Rattle.layout.specs.declared.layout.Layout.{Layout}
 use Rattle.layout.specs.Check.{limit, tree, soundB}
 use Rattle.layout.specs.SoundLayout.{Pieces, Holding, SoundLayout, Sized}
@@ -32,8 +33,8 @@ module _ (l : Layout) (sized : Sized l) (ok : soundB l ≡ true) where
   low : {P : Datum → Type 0} {p : ℕ} → ((d : Datum) × At p d (tree l) × P d) → p < limit
   low e = piece-low (l .nodes) (tree l) (sound-says l sized ok .holds) _ (e .0) (e .1)
 
-  pub free-low : (k : ℕ) → k < l .frees → (k < limit) × (getD (l .free) k 0 < limit)
-  free-low k b = let s = sound-says l sized ok in (omega arith, low (free-entry l sized s k b))
+  pub free-low : (l .frees ≤ limit) × Placed limit (l .frees) (l .free)
+  free-low = let s = sound-says l sized ok in (omega arith, λ k b. low (free-entry l sized s k b))
 
-  pub removable-low : (k : ℕ) → k < l .removables → (k < limit) × (getD (l .removable) k 0 < limit)
-  removable-low k b = let s = sound-says l sized ok in (omega arith, low (removable-entry l sized s k b))
+  pub removable-low : (l .removables ≤ limit) × Placed limit (l .removables) (l .removable)
+  removable-low = let s = sound-says l sized ok in (omega arith, λ k b. low (removable-entry l sized s k b))

@@ -4,16 +4,16 @@ use mathlib.Core.Path.{_≡_, refl, sym, ap, _∙_}
 use mathlib.Core.List.{List, [], _∷_, _++_}
 use mathlib.Core.Bool.{Bool, true, false, cond, not}
 use Prim.Native.Nat.{ℕ, zero, suc, _+_, _<_, _≤_}
-use native.Mathlib.Nat.{add-zero, add-suc, suc-add}
 use native.Mathlib.Omega.{arith}
 use borrow.Author.Tests.{leb-false}
 use lib.Dec.{leb}
-use lib.ListN.{length, getD, set, length-append, length-replicate}
+use lib.ListN.{length, getD, length-append, length-replicate}
 use lib.Seq.{sets, length-sets}
 use Rattle.table.specs.declared.Node.{Node}
 use Rattle.table.specs.Table.{at}
 use Rattle.table.specs.Steps.{freeLast, freeLastPlace}
 use Rattle.lists.specs.Lists.{limit, zeros}
+use Rattle.lists.proofs.Fill.{sets-append}
 use Rattle.walks.specs.Along.{Placed, entries}
 use Rattle.walks.specs.Chain.{siblings}
 use Rattle.walks.specs.Columns.{orderIn}
@@ -77,10 +77,6 @@ module _ (limit : ℕ) where
       go false = tt
 
 -- ---- what is written
-
-sets-append : (a b l : List ℕ) (i : ℕ) → sets l i (a ++ b) ≡ sets (sets l i a) (i + length a) b
-sets-append [] b l i = rw add-zero
-sets-append (x ∷ a) b l i = rw (add-suc, ← suc-add) (sets-append a b (set l i x) (suc i))
 
 module _ (t : List Node) (x held : ℕ) where
   abbrev below : List ℕ

@@ -8,13 +8,11 @@ use lib.Dec.{eqb, ltb, leb}
 use borrow.Author.Tests.{eqb-true, eqb-false, eq-eqb, ne-eqb, ltb-true, lt-ltb, leb-true, le-leb, not-true}
 use Rattle.lists.specs.Search.{every}
 use Rattle.lists.proofs.Scan.{and-left, and-right, every-at, every-more, every-none}
+pub use Rattle.lists.proofs.Scan.{clash}
 
 pub record Says (b : Bool) (P : Type 0) : Type 0 where
   pub says : b ≡ true → P
   pub passes : P → b ≡ true
-
-pub clash : false ≡ true → ⊥
-clash e = let z : _≡_ {A = ℕ} 0 1 = cc in omega arith
 
 -- the same statement in other words
 pub worded : {b : Bool} {P Q : Type 0} → Says b P → (P → Q) → (Q → P) → Says b Q

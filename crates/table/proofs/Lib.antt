@@ -1,6 +1,7 @@
 pub mod Touch
 pub mod Kids
 pub mod Rep
+pub mod Everywhere
 pub mod Append
 pub mod Appended
 pub mod Open

@@ -2,3 +2,4 @@ pub mod Table
 pub mod Build
 pub mod Steps
 pub mod Unheld
+pub mod Columns

@@ -1,15 +1,11 @@
 -- Writing a list piece by piece into a lent slice, over `sets` of lib.Seq: "written here, the rest unchanged". Assumes nothing.
 use mathlib.Core.Path.{_≡_, refl, sym, ap, _∙_}
-use mathlib.Core.List.{List, [], _∷_, _++_}
-use Prim.Native.Nat.{ℕ, suc, _+_, _≤_}
-use native.Mathlib.Nat.{add-zero, add-suc, suc-add}
+use mathlib.Core.List.{List, _++_}
+use Prim.Native.Nat.{ℕ, _+_, _≤_}
 use native.Mathlib.Omega.{arith}
-use lib.ListN.{length, set, length-append}
+use lib.ListN.{length, length-append}
 use lib.Seq.{sets, length-sets}
-
-pub sets-append : (a b l : List ℕ) (i : ℕ) → sets l i (a ++ b) ≡ sets (sets l i a) (i + length a) b
-sets-append [] b l i = rw add-zero
-sets-append (x ∷ a) b l i = rw (add-suc, ← suc-add) (sets-append a b (set l i x) (suc i))
+pub use Rattle.lists.proofs.Fill.{sets-append}
 
 -- `all` was to be written into l₀ from k₀ on; l is what stands there now, and `rest` is still to be written from k on
 pub record Left (all l₀ : List ℕ) (k₀ : ℕ) (rest l : List ℕ) (k : ℕ) : Type 0 where

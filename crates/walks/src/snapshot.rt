@@ -26,7 +26,7 @@ fn kind_no(kind: Kind) -> u8
 }
 
 // "cut (0 Horizontal, 1 Vertical)"
-fn cut_no(cut: Orientation) -> u8
+pub fn cut_no(cut: Orientation) -> u8
     ensures { λ r. ⌜ r ≡ cutNo cut ⌝ }
 {
     match cut {
@@ -36,7 +36,7 @@ fn cut_no(cut: Orientation) -> u8
 }
 
 // The two bytes of a number, the highest first.
-fn put_two(v: u16, out: &mut [u8], at: usize)
+pub fn put_two(v: u16, out: &mut [u8], at: usize)
     requires { ⌜ at + 2 ≤ length (now out) ⌝ }
     ensures { λ _. ⌜ now (out .exit) ≡ sets (now (out .entry)) at (two v []) ⌝ }
 {
@@ -47,7 +47,7 @@ fn put_two(v: u16, out: &mut [u8], at: usize)
 }
 
 // The four bytes of a number, the highest first.
-fn put_four(v: u32, out: &mut [u8], at: usize)
+pub fn put_four(v: u32, out: &mut [u8], at: usize)
     requires { ⌜ at + 4 ≤ length (now out) ⌝ }
     ensures { λ _. ⌜ now (out .exit) ≡ sets (now (out .entry)) at (four v []) ⌝ }
 {

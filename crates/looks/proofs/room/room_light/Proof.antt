@@ -22,7 +22,7 @@ low : (c : tie.Else3) → getD (c .before .before .before .before .before .args 
 low c =
     let c1 = c .before .before .before in
     let s = c1 .before .before in
-    free-low (s .args .t1) (typed-sized (s .args .t1) _ (s .good .0)) (sym (c1 .before .sound .ensures) ∙ c1 .if1 .taken) 0 (some c) .1
+    free-low (s .args .t1) (typed-sized (s .args .t1) _ (s .good .0)) (sym (c1 .before .sound .ensures) ∙ c1 .if1 .taken) .1 0 (some c)
 
 sound-requires : tie.Need-sound-requires
 sound-requires c κs = search needs

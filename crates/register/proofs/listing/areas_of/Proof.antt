@@ -1,20 +1,23 @@
 -- `listing::areas_of` meets its contract: the column is filled as far as the loop has come. Assumes nothing.
+use mathlib.Core.Path.{_≡_, refl}
 use Prim.Native.Nat.{_-_, _≤_}
 use native.Mathlib.Omega.{arith}
 use borrow.Author.Needs.{needs}
-use Rattle.lists.specs.Lists.{limit}
-use Rattle.register.proofs.Areas.{Filled, filled-none, filled-more, filled-all}
+use Rattle.lists.specs.Lists.{limit, zeros}
+use Rattle.lists.proofs.Fill.{filled, fill-more, fill-column}
+use Rattle.table.specs.Table.{zeroNode}
+use Rattle.table.specs.Columns.{areaOf, areasOf}
 use Rattle.register.proofs.listing.areas_of.Statement.{statement}
 use Rattle.register.proofs.listing.areas_of.Tie as tie
 
 abbrev Inv-loop : tie.InvT-loop
-Inv-loop nodes areas₀ i₀ areas i = (i ≤ limit) × Filled nodes i areas
+Inv-loop nodes areas₀ i₀ areas i = (i ≤ limit) × (areas ≡ filled (zeros limit) (areasOf nodes) i)
 
 abbrev μ-loop : tie.MeasureT-loop
 μ-loop nodes areas₀ i₀ areas i = limit - i
 
 loop-holds : tie.Need-loop-holds Inv-loop μ-loop
-loop-holds c = (omega arith, filled-none (c .args .t1))
+loop-holds c = (omega arith, refl)
 
 mul-n : tie.Need-mul-n Inv-loop μ-loop
 mul-n c = search needs
@@ -41,12 +44,14 @@ loop-again : tie.Need-loop-again Inv-loop μ-loop
 loop-again c =
     let l = c .before .before .before .before .before .loop in
     let s = c .before .before .before .before .before .before in
-    (omega arith, filled-more (s .args .t1) (s .good .0 .1 .0 .1) (l .inv .1) (omega arith) (c .area .ensures))
+    let len = s .good .0 .1 .0 .1 in
+    (omega arith, fill-more areaOf (s .args .t1) len zeroNode (zeros limit) (l .areas) (l .i) _ (l .inv .1) (omega arith) (c .area .ensures))
 
 returns : tie.Need-returns Inv-loop μ-loop
 returns c =
+    let l = c .before .loop in
     let s = c .before .before in
-    filled-all (s .args .t1) (s .good .0 .1 .0 .1) (c .before .loop .inv .1) (omega arith)
+    fill-column areaOf (s .args .t1) (s .good .0 .1 .0 .1) (zeros limit) refl (l .areas) (l .i) (l .inv .1) (omega arith)
 
 pub areas-of-spec : {M : Type 1} → statement M
 areas-of-spec =

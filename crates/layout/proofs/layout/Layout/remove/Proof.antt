@@ -9,7 +9,8 @@ use Rattle.layout.specs.Check.{soundB}
 use Rattle.layout.specs.Asked.{soughtOf}
 use Rattle.layout.specs.Remove.{goNo}
 use Rattle.layout.proofs.Typed.{typed-sized}
-use Rattle.layout.proofs.RemoveEnds.{outcome-refused, outcome-done, not-sound, no-mark, may-not, may-go, refused-so, taken-so, takeable}
+use Rattle.layout.proofs.Admitted.{outcome-none, outcome-some}
+use Rattle.layout.proofs.RemoveEnds.{not-sound, no-mark, may-not, may-go, refused-so, taken-so, takeable}
 use Rattle.layout.proofs.layout.Layout.remove.Statement.{statement}
 use Rattle.layout.proofs.layout.Layout.remove.Tie as tie
 
@@ -29,7 +30,7 @@ allowed : (c : tie.After-enum-told)
     (c .before .before .before .before .before .before .before .before .before .before .args .mark .place)
     (c .before .before .before .before .piece .given .0 .0)
     ≡ none
-allowed c = outcome-done _ (sym (c .before .before .may-go .ensures) ∙ c .enum-told .given .1)
+allowed c = outcome-none _ (sym (c .before .before .may-go .ensures) ∙ c .enum-told .given .1)
 
 sound-requires : tie.Need-sound-requires
 sound-requires c κs = search needs
@@ -95,7 +96,7 @@ returns-3 c =
     let a = t .before .before .before .args in
     refused-so (a .self) (a .mark) (a .out .now)
     (may-not (a .self) (a .mark) (length (a .out .now)) (checked t) (named k)
-    (outcome-refused _ (sym (g .may-go .ensures) ∙ f .refusal2 .given .1)))
+    (outcome-some _ _ (sym (g .may-go .ensures) ∙ f .refusal2 .given .1)))
     (c .refused-remove3 .ensures)
 
 same-length : tie.Need-same-length

@@ -7,7 +7,7 @@ use Rattle.sound.proofs.Chain.{pass, stop}
 use Rattle.sound.proofs.Filled.{areaOf, serialOf, fill-zeros}
 use Rattle.layout.specs.Check.{soundB}
 use Rattle.layout.proofs.Typed.{typed-sized}
-use Rattle.layout.proofs.Passes.{first-of, listsB, sound-is}
+use Rattle.layout.proofs.Passes.{restB, serials-low, some-of, sound-is}
 use Rattle.layout.proofs.layout.Layout.sound.Statement.{statement}
 use Rattle.layout.proofs.layout.Layout.sound.Tie as tie
 
@@ -35,28 +35,22 @@ rows-ok-requires c κs = search needs
 census-ok-requires : tie.Need-census-ok-requires
 census-ok-requires c κs = search needs
 
-all-differ-requires : tie.Need-all-differ-requires
-all-differ-requires c κs = search needs
-
 frame-ok-requires : tie.Need-frame-ok-requires
 frame-ok-requires c κs = search needs
 
 -- where all passes are through
 passed :
     (c : tie.After-frame-ok) →
-    let d = c .before in
-    let n = d .before .before in
+    let n = c .before in
     let r = n .before .before .before .before .before .before in
     let k = r .before .before .before .before in
     let f = k .before .before in
     let l = f .before .before .before .before .before .before .before .before .before .before .args .self in
     soundB l
-    ≡ ((((((f .flags-of .result .ok && k .flags-of2 .result .ok) && r .rows-ok .result) && n .census-ok .result) && d .all-differ .result)
-    && c .frame-ok .result)
-    && listsB l (n .census-ok .last .1 .1 .1 .1 .1 .1 .1 .0) (n .census-ok .last .1 .1 .1 .1 .1 .1 .1 .1 .0))
+    ≡ (((((f .flags-of .result .ok && k .flags-of2 .result .ok) && r .rows-ok .result) && n .census-ok .result) && c .frame-ok .result)
+    && restB l (n .census-ok .last .1 .1 .1 .1 .1 .1 .1 .0) (n .census-ok .last .1 .1 .1 .1 .1 .1 .1 .1 .0))
 passed c =
-    let d = c .before in
-    let n = d .before .before in
+    let n = c .before in
     let r = n .before .before .before .before .before .before in
     let k = r .before .before .before .before in
     let f = k .before .before in
@@ -71,27 +65,30 @@ passed c =
     (n .census-ok .ensures .0)
     (n .census-ok .ensures .1 .0 ∙ fill-zeros serialOf (l .nodes) len)
     (n .census-ok .ensures .1 .1 ∙ fill-zeros areaOf (l .nodes) len)
-    (d .all-differ .ensures)
     (c .frame-ok .ensures)
 
-lists-ok-requires : tie.Need-lists-ok-requires
-lists-ok-requires c κs =
+rest-ok-requires : tie.Need-rest-ok-requires
+rest-ok-requires c κs =
     let t = c .before .before .before .before in
     let w = t .before .before .before in
-    let d = w .before in
-    let n = d .before .before in
+    let n = w .before in
     let r = n .before .before .before .before .before .before in
     let k = r .before .before .before .before in
     let f = k .before .before in
-    let all =
-    first-of (f .flags-of .result .ok) (k .flags-of2 .result .ok) (r .rows-ok .result) (n .census-ok .result) (d .all-differ .result)
-    (w .frame-ok .result) (t .if1 .taken) in
-    sym (ap (λ (x : Flags). x .ok) (f .flags-of .ensures)) ∙ all
+    let s = f .before .before .before .before .before .before .before .before .before .before in
+    let l = s .args .self in
+    let on = some-of (f .flags-of .result .ok) (k .flags-of2 .result .ok) (r .rows-ok .result) (n .census-ok .result) (w .frame-ok .result)
+    (t .if1 .taken) in (
+      sym (ap (λ (x : Flags). x .ok) (f .flags-of .ensures)) ∙ on .0,
+      serials-low l _ _ _ (n .census-ok .ensures .0)
+          (n .census-ok .ensures .1 .0 ∙ fill-zeros serialOf (l .nodes) (typed-sized l _ (s .good .0) .nodes))
+          (w .frame-ok .ensures) (on .1) (on .2),
+    )
 
 returns : tie.Need-returns
 returns c =
     let t = c .before .before .before .before .before in
-    pass (t .if1 .taken) (c .lists-ok .ensures) ∙ sym (passed (t .before .before .before))
+    pass (t .if1 .taken) (c .rest-ok .ensures) ∙ sym (passed (t .before .before .before))
 
 returns-2 : tie.Need-returns-2
 returns-2 c = stop _ (c .if1 .left) ∙ sym (passed (c .before .before .before))
@@ -108,8 +105,7 @@ sound-spec =
     flags-of-requires-2
     rows-ok-requires
     census-ok-requires
-    all-differ-requires
     frame-ok-requires
-    lists-ok-requires
+    rest-ok-requires
     returns
     returns-2)
