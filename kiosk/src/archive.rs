@@ -1,11 +1,14 @@
-//! The call into the archive: the only unsafe code of this crate.
+//! The calls into the archive: the only unsafe code of this crate.
 #![allow(unsafe_code)]
 
-use crate::records::{SessionRecord, LONGEST};
+use crate::records::{SessionRecord, LONGEST, ROOM};
 
 extern "C" {
     /// `nickelgrove_step` of crates/kiosk. A lent slice crosses as its address and its length.
     fn nickelgrove_step(session: *mut SessionRecord, line: *const u8, length: usize, answer: *mut [u8; LONGEST]) -> usize;
+
+    /// `nickelgrove_cuts` of crates/kiosk.
+    fn nickelgrove_cuts(session: *const SessionRecord, list: *mut [u8; ROOM]) -> u16;
 }
 
 /// Answers a line, and gives how many characters of `answer` are the answer, its newline among them.
@@ -15,4 +18,12 @@ pub fn step(session: &mut SessionRecord, line: &[u8], answer: &mut [u8; LONGEST]
     // apart from each other, as Rust has it of two `&mut` and a `&`; it keeps none of them and has no state of its own. The records have the
     // layout that it expects (records.rs).
     unsafe { nickelgrove_step(session, line.as_ptr(), line.len(), answer) }
+}
+
+/// Writes the session's list of saw cuts, and gives how many bytes of `list` it has, or `NO_LIST`.
+pub fn cuts(session: &SessionRecord, list: &mut [u8; ROOM]) -> u16 {
+    // SAFETY: as of `step`: the function is proved to meet its contract on every session and every buffer, and has no `requires`. It reads the session
+    // and writes the buffer, which are valid for the call and apart from each other, keeps neither and has no state of its own. The record and the buffer
+    // have the layout and the length that it expects (records.rs).
+    unsafe { nickelgrove_cuts(session, list) }
 }

@@ -1,7 +1,7 @@
 //! The counter of a kiosk: frames in, answers out, as document 01 sets them out ("Counter frames").
 //!
-//! All of it is the proved crate `kiosk`, linked as an archive: what a line is answered with, and that every line is. Here are the session's memory
-//! and the call.
+//! All of it is the proved crate `kiosk`, linked as an archive: what a line is answered with, that every line is, and the list of saw cuts of the sheet.
+//! Here are the session's memory and the calls.
 //!
 //! ```
 //! let mut counter = nickelgrove_kiosk::Counter::new();
@@ -10,9 +10,11 @@
 #![deny(unsafe_code)]
 
 mod archive;
+mod cuts;
 mod records;
 
-use records::{SessionRecord, LONGEST};
+pub use cuts::{Cut, Piece, Way};
+use records::{SessionRecord, LONGEST, NO_LIST, ROOM};
 
 /// A counter: a sheet and a kept snapshot of it, none of both at the start.
 ///
@@ -34,6 +36,29 @@ impl Counter {
         let count = archive::step(&mut self.session, line.as_ref(), &mut self.answer);
         let (_newline, answer) = self.answer[..count].split_last().expect("an answer ends with its newline");
         std::str::from_utf8(answer).expect("an answer is hexadecimal")
+    }
+
+    /// The saw cuts that make the sheet's parts and free pieces, in the order in which they are made; none before a sheet is opened. A saw that makes them
+    /// ends with exactly these pieces, in the order of the tree snapshot; a free piece without area is left out. The stack as for an answer.
+    ///
+    /// ```
+    /// use nickelgrove_kiosk::{Counter, Cut, Piece, Way};
+    ///
+    /// let mut counter = Counter::new();
+    /// assert_eq!(counter.cuts(), None);
+    /// counter.answer("010001000000640000003c01035a");
+    /// counter.answer("03000101000000020007000000280000003c0000018d");
+    /// let cut = Cut { place: 0, way: Way::Vertical, distance: 40, piece: Piece::Part, left: Piece::Free };
+    /// assert_eq!(counter.cuts(), Some(vec![cut]));
+    /// ```
+    pub fn cuts(&self) -> Option<Vec<Cut>> {
+        let mut list = [0; ROOM];
+        let count = archive::cuts(&self.session, &mut list);
+        if count == NO_LIST {
+            return None;
+        }
+        let whole = |bytes: &[u8]| Cut::read(bytes.try_into().expect("a list is whole cuts"));
+        Some(list[..usize::from(count)].chunks(cuts::BYTES).map(whole).collect())
     }
 }
 

@@ -8,6 +8,12 @@ const LIMIT: usize = 255;
 /// The characters of the longest answer, its newline among them.
 pub const LONGEST: usize = 1035;
 
+/// The bytes lent for a list of saw cuts: more than any list has.
+pub const ROOM: usize = crate::cuts::BYTES * LIMIT;
+
+/// Said in place of a list's bytes, where the session has no sound sheet.
+pub const NO_LIST: u16 = 65_535;
+
 #[derive(Clone, Copy)]
 #[repr(C)]
 struct DatumRecord {
@@ -131,5 +137,25 @@ mod tests {
             assert_eq!((layout.used, layout.serial, layout.number, layout.stages), (2400, 4, 1, 3));
             assert_eq!((layout.width, layout.height), (100, 60));
         }
+    }
+
+    /// The archive writes a list within the room of this side, and nothing behind the list; where there is none, nothing at all.
+    #[test]
+    fn the_archive_has_the_same_room() {
+        #[repr(C)]
+        struct Lent {
+            list: [u8; ROOM],
+            behind: [u8; ROOM],
+        }
+        let (mut session, mut answer) = (SessionRecord::ZERO, [0; LONGEST]);
+        let mut lent = Lent { list: [7; ROOM], behind: [7; ROOM] };
+        assert_eq!(archive::cuts(&session, &mut lent.list), NO_LIST);
+        assert_eq!((lent.list, lent.behind), ([7; ROOM], [7; ROOM]));
+        for line in ["010001000000640000003c01035a", "03000101000000020007000000280000003c0000018d"] {
+            assert!(archive::step(&mut session, line.as_bytes(), &mut answer) > 0);
+        }
+        assert_eq!(archive::cuts(&session, &mut lent.list), 9);
+        assert_eq!(lent.list[..9], [0, 0, 1, 0, 0, 0, 40, 1, 0]);
+        assert!(lent.list[9..].iter().chain(&lent.behind).all(|byte| *byte == 7));
     }
 }

@@ -2,45 +2,13 @@
 
 mod common;
 
-use common::{line, numbers, Random};
+use common::{insert, line, mark, numbers, opened, part, remove, Random, KEEP, OPEN, OPENED, REPORT, RESTORE};
 use nickelgrove_kiosk::Counter;
 
 const MALFORMED: &str = "ff0ef3";
 
-/// Document 01's sheet: 100 x 60, first cut Vertical, stages 3.
-const OPEN: &str = "010001000000640000003c01035a";
-const OPENED: &str = "010000010100000002fb";
-const KEEP: &str = "05fb";
-const RESTORE: &str = "06fa";
-const REPORT: &str = "07f9";
-
-/// A counter with document 01's sheet on it, and the mark of its free piece.
-fn opened() -> (Counter, Vec<u8>) {
-    let mut counter = Counter::new();
-    assert_eq!(counter.answer(OPEN), OPENED);
-    (counter, mark(1, 2))
-}
-
-/// A mark of layout 1.
-fn mark(place: u8, serial: u32) -> Vec<u8> {
-    [&[0, 1, place], serial.to_be_bytes().as_slice()].concat()
-}
-
-/// Part 7, in either rotation.
-fn part(width: u32, height: u32) -> Vec<u8> {
-    [[0, 7].as_slice(), &width.to_be_bytes(), &height.to_be_bytes(), &[0]].concat()
-}
-
-fn insert(mark: &[u8], part: &[u8], shape: u8) -> String {
-    line(&[&[3], mark, part, &[0, shape]].concat())
-}
-
 fn offers(mark: &[u8], part: &[u8]) -> String {
     line(&[&[2], mark, part].concat())
-}
-
-fn remove(mark: &[u8]) -> String {
-    line(&[&[4], mark].concat())
 }
 
 fn refused(op: u8, number: u8) -> String {

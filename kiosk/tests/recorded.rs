@@ -1,20 +1,19 @@
 //! The Rust's recorded answers, line by line (recorded/README.md), and the counter's own recorded run.
 
-use std::fs;
-use std::path::Path;
+mod common;
+
 use std::thread;
 
+use common::lines_of;
 use nickelgrove_kiosk::Counter;
 
 /// Frames with their answers, from two files of the checkout; of a line of `inspect` the first field alone.
 fn pairs(frames: &str, answers: &str) -> Vec<(Vec<u8>, String)> {
-    let read =
-        |file: &str| fs::read(Path::new(env!("CARGO_MANIFEST_DIR")).join("..").join(file)).expect("a file of the checkout");
-    let (frames, answers) = (read(frames), String::from_utf8(read(answers)).expect("hexadecimal"));
-    let frames: Vec<&[u8]> = frames.strip_suffix(b"\n").expect("whole lines").split(|byte| *byte == b'\n').collect();
-    let answers: Vec<&str> = answers.lines().map(|line| line.split(' ').next().expect("a field")).collect();
+    let frames = lines_of(frames);
+    let field = |line: Vec<u8>| String::from_utf8(line).expect("hexadecimal").split(' ').next().expect("a field").to_string();
+    let answers: Vec<String> = lines_of(answers).into_iter().map(field).collect();
     assert_eq!(frames.len(), answers.len());
-    frames.into_iter().zip(answers).map(|(frame, answer)| (frame.to_vec(), answer.to_string())).collect()
+    frames.into_iter().zip(answers).collect()
 }
 
 fn long() -> Vec<(Vec<u8>, String)> {

@@ -1,15 +1,17 @@
-//! Counts what recorded frames reach: each shape, cut and rotation, each kind of removal, each refusal.
+//! Counts what recorded frames reach: each shape, cut and rotation, each kind of removal, each refusal, each kind of saw cut.
 
-use std::collections::BTreeMap;
+use std::collections::{BTreeMap, BTreeSet};
 
 use crate::core::entities::node::NodeKey;
 use crate::frame::{cut_number, Mark, Request, MALFORMED};
+use crate::saw;
 use crate::session::Session;
 use crate::sheet::Sheet;
 
 const CUTS: [&str; 2] = ["Horizontal", "Vertical"];
 const ROTATIONS: [&str; 2] = ["Default", "Rotated"];
 const SHAPES: [&str; 4] = ["AlongCurrentCut", "AcrossCurrentCut", "AlongThenAcross", "AcrossThenAlong"];
+const LEFT: [&str; 4] = ["free piece", "part", "structure", "several"];
 const OPS: [&str; 7] = ["open", "offers", "insert", "remove", "keep", "restore", "report"];
 
 /// The refusals of each op that frames can reach in a few thousand lines: all but 9.
@@ -39,6 +41,9 @@ impl Default for Coverage {
             names.extend(refusals.iter().map(|number| refused(op, *number)));
         }
         names.extend(["yes", "no", "refused"].map(light));
+        names.extend(["none", "one", "empty offcut left out"].map(saw_cuts));
+        names.extend(CUTS.map(cut_of_way));
+        names.extend(LEFT.map(cut_that_leaves));
         let counts = names.into_iter().map(|name| (name, 0)).collect();
         Coverage { counts, calls: 0, most_nodes: 0, deepest: 0 }
     }
@@ -71,6 +76,7 @@ impl Coverage {
         }
         if let Some(sheet) = session.sheet() {
             self.measure(sheet);
+            names_of_cuts(sheet).into_iter().for_each(|name| self.reach(name));
         }
     }
 
@@ -121,6 +127,25 @@ fn names_before(session: &Session, request: &Request) -> Vec<String> {
     }
 }
 
+/// What the list of a sheet's saw cuts reaches, each name once.
+fn names_of_cuts(sheet: &Sheet) -> BTreeSet<String> {
+    let cuts = sheet.cuts();
+    let mut names: BTreeSet<String> = BTreeSet::new();
+    for cut in &cuts {
+        names.insert(cut_of_way(CUTS[usize::from(cut_number(cut.way))]));
+        names.insert(cut_that_leaves(LEFT[usize::from(cut.left)]));
+    }
+    match cuts.len() {
+        0 => names.insert(saw_cuts("none")),
+        1 => names.insert(saw_cuts("one")),
+        _ => false,
+    };
+    if sheet.marks().by_place().any(|key| saw::is_left_out(sheet.node(key))) {
+        names.insert(saw_cuts("empty offcut left out"));
+    }
+    names
+}
+
 /// The kind of a removal, none for the top.
 fn removal_of(sheet: &Sheet, key: NodeKey) -> Option<String> {
     let parent = sheet.node(sheet.node(key).parent()?);
@@ -157,4 +182,16 @@ fn refused(op: &str, number: u8) -> String {
 
 fn light(answer: &str) -> String {
     format!("light, {answer}")
+}
+
+fn saw_cuts(list: &str) -> String {
+    format!("saw cuts, {list}")
+}
+
+fn cut_of_way(way: &str) -> String {
+    saw_cuts(&format!("way {way}"))
+}
+
+fn cut_that_leaves(left: &str) -> String {
+    saw_cuts(&format!("left {left}"))
 }

@@ -1,7 +1,7 @@
 //! The lines of the program `inspect`: the answer to a frame, and then what frames don't show.
 //!
-//! Seven fields, one space apart: answer, tree snapshot, free list, removable list, figures, part numbers by place, room light.
-//! An empty or missing field is '-'; the five in the middle are missing until a layout was opened.
+//! Eight fields, one space apart: answer, tree snapshot, free list, removable list, figures, part numbers by place, room light, saw cuts.
+//! An empty or missing field is '-'; all but the answer and the light are missing until a layout was opened.
 
 use crate::core::entities::node::NodeKey;
 use crate::frame::{hexadecimal, Part};
@@ -9,7 +9,8 @@ use crate::session::{bytes_of, Reply, Session};
 use crate::sheet::Sheet;
 
 /// The names of the fields, in their order.
-pub const FIELDS: [&str; 7] = ["answer", "snapshot", "free list", "removable list", "figures", "part numbers", "light"];
+pub const FIELDS: [&str; 8] =
+    ["answer", "snapshot", "free list", "removable list", "figures", "part numbers", "light", "saw cuts"];
 
 /// The line for a reply, in the state that the session has after it.
 pub fn line(session: &Session, reply: &Reply) -> String {
@@ -18,6 +19,7 @@ pub fn line(session: &Session, reply: &Reply) -> String {
     let mut fields = vec![reply.answer.clone()];
     fields.extend(state.iter().map(|bytes| hexadecimal(bytes)));
     fields.push(hexadecimal(&light.unwrap_or_default()));
+    fields.push(hexadecimal(&session.sheet().map_or_else(Vec::new, cuts_field)));
     for field in &mut fields {
         if field.is_empty() {
             field.push('-');
@@ -48,4 +50,12 @@ fn light_field(session: &Session, part: &Part) -> Vec<u8> {
         Ok(room) => vec![0, room.into()],
         Err(refusal) => vec![refusal],
     }
+}
+
+fn cuts_field(sheet: &Sheet) -> Vec<u8> {
+    let mut bytes = Vec::new();
+    for cut in sheet.cuts() {
+        cut.write(&mut bytes);
+    }
+    bytes
 }

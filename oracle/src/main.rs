@@ -10,6 +10,7 @@ mod inspect;
 mod marks;
 mod records;
 mod rng;
+mod saw;
 mod session;
 mod sheet;
 #[cfg(test)]

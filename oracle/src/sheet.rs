@@ -15,6 +15,7 @@ use crate::frame::{cut_number, Mark, Offer, Part};
 use crate::marks::{tree_order, Marks};
 use crate::optimization::problem::Problem;
 use crate::optimization::rr::cache_updates::IOCUpdates;
+use crate::saw::{self, Cut, Rectangle};
 
 /// Costs are not compared: any power does.
 pub const LEFTOVER_POWER: f32 = 1.0;
@@ -191,6 +192,16 @@ impl Sheet {
 
     fn blueprint_of_tree(&self) -> NodeBlueprint {
         NodeBlueprint::from_node(*self.layout().top_node_index(), self.layout().nodes())
+    }
+
+    /// The list of saw cuts. The simple saw has run it on the full sheet.
+    pub fn cuts(&self) -> Vec<Cut> {
+        let kind = self.layout().sheettype();
+        let sheet = Rectangle { width: kind.width, height: kind.height };
+        let cuts = saw::cuts(self.layout());
+        let expected = saw::boards(self.layout());
+        assert_eq!(saw::saw(sheet, &cuts), Ok(expected), "the saw makes the parts and free pieces of the Rust's tree");
+        cuts
     }
 
     /// Whether a part fits, in a rotation that it allows, within the first piece of the free list.

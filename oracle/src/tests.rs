@@ -1,8 +1,10 @@
-//! What document 01 prints and states, asked of the Rust: its whole session, its table a to k, its rules for marks and refusals.
+//! What document 01 prints and states, asked of the Rust: its whole session, its table a to k, its rules for marks and refusals. And lists of
+//! saw cuts (document 02, change request 3), by hand.
 
 use crate::core::orientation::Orientation::{Horizontal, Vertical};
 use crate::frame::{self, hexadecimal, Mark, Offer, Part, Request};
 use crate::inspect;
+use crate::saw::{self, Cut, Rectangle, SEVERAL};
 use crate::session::{bytes_of, Session};
 
 const ALONG: Offer = Offer { rotation: 0, shape: 1 };
@@ -11,6 +13,11 @@ const ALONG_THEN_ACROSS: Offer = Offer { rotation: 0, shape: 3 };
 const ACROSS_THEN_ALONG: Offer = Offer { rotation: 0, shape: 4 };
 const FREE: Mark = Mark { layout: 1, place: 1, serial: 2 };
 const TOP: Mark = Mark { layout: 1, place: 0, serial: 1 };
+
+/// Kinds, as in snapshots.
+const FREE_PIECE: u8 = 0;
+const PART: u8 = 1;
+const STRUCTURE: u8 = 2;
 
 /// A session whose lines are looked at field by field, as `inspect` prints them.
 struct Counter(Session);
@@ -41,6 +48,10 @@ impl Line {
 
     fn light(&self) -> &str {
         &self.0[6]
+    }
+
+    fn cuts(&self) -> &str {
+        &self.0[7]
     }
 }
 
@@ -105,6 +116,11 @@ fn refused(op: u8, number: u8) -> String {
 /// One node of a tree snapshot: level, kind, cut, part number, width, height.
 fn node(level: u8, kind: u8, cut: u8, number: u16, width: u32, height: u32) -> String {
     format!("{level:02x}{kind:02x}{cut:02x}{number:04x}{width:08x}{height:08x}")
+}
+
+/// One saw cut: place, way (0 Horizontal, 1 Vertical), distance, kinds of what is cut off and of what is left.
+fn cut(place: u16, way: u8, distance: u32, piece: u8, left: u8) -> String {
+    format!("{place:04x}{way:02x}{distance:08x}{piece:02x}{left:02x}")
 }
 
 #[test]
@@ -229,7 +245,7 @@ fn nothing_is_sound_before_an_opening() {
         assert_eq!(counter.send(request).answer(), refused(request.op(), 1));
     }
     let line = counter.insert(FREE, part(0, 0), ALONG);
-    assert_eq!(line.0, [refused(3, 1).as_str(), "-", "-", "-", "-", "-", "01"]);
+    assert_eq!(line.0, [refused(3, 1).as_str(), "-", "-", "-", "-", "-", "01", "-"]);
 }
 
 #[test]
@@ -241,6 +257,60 @@ fn the_light_looks_at_the_first_free_piece() {
     assert_eq!(light(Part { turn: 0, ..part(60, 100) }), "0001");
     assert_eq!(light(Part { turn: 2, ..part(100, 60) }), "0000");
     assert_eq!(light(part(100, 0)), "03");
+}
+
+#[test]
+fn saw_cuts_of_table_b() {
+    let mut counter = Counter::with_stages(3);
+    assert_eq!(counter.send(Request::Keep).cuts(), "-");
+    let line = counter.insert(FREE, part(40, 30), ACROSS_THEN_ALONG);
+    assert_eq!(line.cuts(), cut(0, 0, 30, STRUCTURE, FREE_PIECE) + &cut(0, 1, 40, PART, FREE_PIECE));
+    assert_eq!(line.cuts(), concat!("0000000000001e0200", "000001000000280100"));
+}
+
+#[test]
+fn saw_cuts_of_table_i_and_behind_it() {
+    let mut counter = Counter::with_stages(3);
+    let line = counter.insert(FREE, part(40, 30), ALONG_THEN_ACROSS);
+    let inside = cut(0, 0, 30, PART, FREE_PIECE);
+    assert_eq!(line.cuts(), cut(0, 1, 40, STRUCTURE, FREE_PIECE) + &inside);
+    let line = counter.insert(mark(4, 6), part(20, 60), ALONG);
+    assert_eq!(line.cuts(), cut(0, 1, 40, STRUCTURE, SEVERAL) + &inside + &cut(2, 1, 20, PART, FREE_PIECE));
+}
+
+#[test]
+fn saw_cuts_of_table_k() {
+    let mut counter = Counter::with_stages(2);
+    assert_eq!(counter.insert(FREE, part(100, 20), ACROSS).cuts(), cut(0, 0, 20, PART, FREE_PIECE));
+    assert_eq!(counter.remove(mark(2, 4)).cuts(), "-");
+}
+
+#[test]
+fn saw_cuts_leave_an_empty_offcut_out() {
+    let mut counter = Counter::with_stages(1);
+    assert_eq!(counter.insert(FREE, part(40, 60), ALONG).cuts(), cut(0, 1, 40, PART, FREE_PIECE));
+    let line = counter.insert(mark(2, 4), part(50, 60), ALONG);
+    assert_eq!(line.cuts(), cut(0, 1, 40, PART, SEVERAL) + &cut(1, 1, 50, PART, FREE_PIECE));
+    let line = counter.insert(mark(3, 6), part(10, 60), ALONG);
+    assert_eq!(line.free_list(), marks(&[mark(4, 8)]));
+    assert_eq!(line.cuts(), cut(0, 1, 40, PART, SEVERAL) + &cut(1, 1, 50, PART, PART));
+    assert_eq!(Counter::with_stages(1).insert(FREE, part(100, 60), ALONG).cuts(), "-");
+}
+
+#[test]
+fn the_saw_stops_at_what_it_cannot_cut() {
+    let sheet = Rectangle { width: 100, height: 60 };
+    let cut = Cut { place: 0, way: Vertical, distance: 40, piece: PART, left: FREE_PIECE };
+    let (left, right) = (Rectangle { width: 40, ..sheet }, Rectangle { width: 60, ..sheet });
+    assert_eq!(saw::saw(sheet, &[]), Ok(vec![sheet]));
+    assert_eq!(saw::saw(sheet, &[cut]), Ok(vec![left, right]));
+    assert_eq!(saw::saw(sheet, &[cut, cut]), Ok(vec![left, right]));
+    for wrong in [Cut { place: 1, ..cut }, Cut { distance: 0, ..cut }, Cut { distance: 101, ..cut }] {
+        assert!(saw::saw(sheet, &[wrong]).is_err(), "{wrong:?}");
+    }
+    let below = Cut { place: 1, way: Horizontal, distance: 60, ..cut };
+    assert_eq!(saw::saw(sheet, &[cut, below]), Ok(vec![left, right]));
+    assert!(saw::saw(sheet, &[cut, Cut { distance: 61, ..below }]).is_err());
 }
 
 #[test]

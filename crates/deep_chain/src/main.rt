@@ -1,5 +1,5 @@
-// The deepest sound tree, 254 levels below the top, is examined, snapshotted and measured. The proofs know no stack: tests/stack.sh runs
-// this on one of 2 MiB.
+// The deepest sound tree, 254 levels below the top, is examined, snapshotted, measured and its saw cuts are listed; and those of the longest row, 254
+// parts under the top, since the cuts are listed call by call along a row too. The proofs know no stack: tests/stack.sh runs this on one of 2 MiB.
 ghost use Prim.Native.Nat.{_<_};
 use layout::layout::Layout;
 use looks::replies::AreaAnswer;
@@ -63,20 +63,90 @@ fn node_at(level: usize) -> Node
     }
 }
 
-fn chain() -> Layout {
+// The sheet of the longest row.
+fn strip() -> Size {
+    Size {
+        width: 254,
+        height: 5,
+    }
+}
+
+// The top, under a Vertical cut, and at each other place a part 1 wide, number 9.
+fn node_in_row(place: usize) -> Node
+    requires { ⌜ place < 255 ⌝ }
+{
+    let serial = (place + 1) as u32;
+    if place == 0 {
+        return Node {
+            datum: Datum {
+                serial,
+                size: strip(),
+                number: 0,
+                level: 0,
+                kind: Kind::Structure,
+                cut: Orientation::Vertical,
+            },
+            parent: NONE,
+            first: 1,
+            last: 254,
+            prev: NONE,
+            next: NONE,
+        };
+    }
+    let before = if 1 < place { (place - 1) as u16 } else { NONE };
+    let behind = if place < 254 {
+        (place + 1) as u16
+    } else {
+        NONE
+    };
+    Node {
+        datum: Datum {
+            serial,
+            size: Size {
+                width: 1,
+                height: 5,
+            },
+            number: 9,
+            level: 1,
+            kind: Kind::Part,
+            cut: Orientation::Horizontal,
+        },
+        parent: 0,
+        first: NONE,
+        last: NONE,
+        prev: before,
+        next: behind,
+    }
+}
+
+// All places are held, by parts and structures: by a chain or by a row.
+fn full(deep: bool) -> Layout {
     let mut l = Layout::zero();
     let mut i: usize = 0;
     while i < 255 {
-        l.nodes[i] = node_at(i);
+        l.nodes[i] = if deep { node_at(i) } else { node_in_row(i) };
         l.removable[i] = i as u16;
         i += 1;
     }
     l.held = 255;
     l.removables = 255;
-    l.used = 35;
     l.serial = 255;
+    l
+}
+
+fn chain() -> Layout {
+    let mut l = full(true);
+    l.used = 35;
     l.stages = 254;
     l.sheet = sheet();
+    l
+}
+
+fn row() -> Layout {
+    let mut l = full(false);
+    l.used = 1270;
+    l.stages = 1;
+    l.sheet = strip();
     l
 }
 
@@ -132,4 +202,15 @@ fn main() {
     say(b"its last node's kind ", wide(out[3303]));
     say(b"its last node's number ", wide(out[3306]));
     say(b"its last node's height ", wide(out[3314]));
+    say(b"saw cuts ", count_in(saw::cuts::cuts(l, &mut out)));
+    let r = row();
+    if r.sound() {
+        io::write_all(libc::STDOUT_FILENO, b"the row is sound\n");
+    }
+    say(b"its saw cuts ", count_in(saw::cuts::cuts(r, &mut out)));
+    say(b"the last one's place ", wide(out[2269]));
+    say(b"the last one's way ", wide(out[2270]));
+    say(b"the last one's distance ", wide(out[2274]));
+    say(b"the last one's piece ", wide(out[2275]));
+    say(b"the last one leaves ", wide(out[2276]));
 }

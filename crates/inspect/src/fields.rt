@@ -1,5 +1,5 @@
-// The seven fields of a line, each '-' where it is empty or missing, all but the first after a space. What frames don't show comes from the
-// calls of `looks` alone; a layout that isn't sound refuses them, and so its fields are missing.
+// The eight fields of a line, each '-' where it is empty or missing, all but the first after a space. What frames don't show comes from the
+// calls of `looks` and `saw` alone; a layout that isn't sound refuses them, and so its fields are missing.
 use crate::pen::Pen;
 use crate::pen::ROOM;
 use crate::pen::put;
@@ -45,23 +45,28 @@ pub fn answer(out: &mut [u8; ROOM], pen: Pen, line: [u8; LONGEST], count: usize)
     p
 }
 
-// The tree's snapshot.
-pub fn snapshot(out: &mut [u8; ROOM], pen: Pen, layout: Layout) -> Pen {
-    let mut p = put(out, pen, b' ');
-    let mut bytes = [0u8; SNAPSHOT];
-    let CountAnswer::Count(count) = looks::written::snapshot(layout, &mut bytes) else {
-        return missing(out, p);
-    };
-    let n = count as usize;
+// The first n of these bytes.
+fn put_bytes(out: &mut [u8; ROOM], pen: Pen, bytes: &[u8], n: usize) -> Pen {
+    let mut p = pen;
     let mut i: usize = 0;
-    while i < SNAPSHOT {
+    while i < bytes.len() {
         if n <= i {
             break;
         }
         p = put_byte(out, p, bytes[i]);
         i += 1;
     }
-    p
+    if i == 0 { missing(out, p) } else { p }
+}
+
+// The tree's snapshot.
+pub fn snapshot(out: &mut [u8; ROOM], pen: Pen, layout: Layout) -> Pen {
+    let p = put(out, pen, b' ');
+    let mut bytes = [0u8; SNAPSHOT];
+    let CountAnswer::Count(count) = looks::written::snapshot(layout, &mut bytes) else {
+        return missing(out, p);
+    };
+    put_bytes(out, p, &bytes, count as usize)
 }
 
 fn put_mark(out: &mut [u8; ROOM], pen: Pen, mark: Mark) -> Pen {
@@ -163,4 +168,14 @@ pub fn light(out: &mut [u8; ROOM], pen: Pen, layout: Layout, request: Request) -
         } => light_for(out, p, layout, part),
         _ => missing(out, p),
     }
+}
+
+// The list of saw cuts.
+pub fn cuts(out: &mut [u8; ROOM], pen: Pen, layout: Layout) -> Pen {
+    let p = put(out, pen, b' ');
+    let mut bytes = [0u8; saw::cuts::ROOM];
+    let CountAnswer::Count(count) = saw::cuts::cuts(layout, &mut bytes) else {
+        return missing(out, p);
+    };
+    put_bytes(out, p, &bytes, count as usize)
 }

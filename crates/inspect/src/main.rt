@@ -1,4 +1,4 @@
-// The inspector: the counter's frames in, and for each line its answer and then what frames don't show, in seven fields (recorded/README.md).
+// The inspector: the counter's frames in, and for each line its answer and then what frames don't show, in eight fields (recorded/README.md).
 // Rests on `session`, and takes the same turns as `counter`.
 mod fields;
 mod pen;
@@ -55,7 +55,8 @@ fn tell(turn: Turn, request: Request) -> bool {
     let five = fields::figures(&mut out, four, layout);
     let six = fields::part_numbers(&mut out, five, layout);
     let seven = fields::light(&mut out, six, layout, request);
-    pen::end(&mut out, seven)
+    let eight = fields::cuts(&mut out, seven, layout);
+    pen::end(&mut out, eight)
 }
 
 // Takes turns until the chunk is used up.

@@ -1,4 +1,4 @@
-pub mod Fill
 pub mod Stepping
 pub mod Laws
 pub mod Refused
+pub mod Handing

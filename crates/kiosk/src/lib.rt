@@ -15,6 +15,7 @@ use session::replies::replied;
 use session::replies::restore;
 use session::replies::scope_of;
 
+pub mod cuts; // cuts.rt: the list of saw cuts
 pub mod records; // records.rt: the session as plain numbers, read and written
 
 // The next state, and the answer: the first count characters of line, its newline among them; the rest is zero.

@@ -4,7 +4,6 @@
 ghost use mathlib.Core.Path.{_≡_};
 ghost use lib.ListN.{replicate};
 ghost use Rattle.lists.specs.Lists.{limit};
-ghost use Rattle.tree.specs.Snapshot.{cutNo};
 ghost use Rattle.frames.specs.Fields.{cutOf};
 ghost use Rattle.kiosk.specs.Records.{kindOf, nodeOf, nodesOf, layoutOf, nodeRecord, nodeRecords, layoutRecord, noRecord};
 use layout::layout::Layout;
@@ -16,6 +15,7 @@ use sound::columns::kind_number;
 use table::LIMIT;
 use table::Node;
 use table::nodes::empty_table;
+use walks::snapshot::cut_no;
 
 #[repr(C)]
 pub struct DatumRecord {
@@ -148,15 +148,6 @@ pub fn layout_of(given: LayoutRecord) -> Layout
 
 // ---- Writing.
 
-fn cut_number(cut: Orientation) -> u8
-    ensures { λ r. ⌜ r ≡ cutNo cut ⌝ }
-{
-    match cut {
-        Orientation::Horizontal => 0,
-        Orientation::Vertical => 1,
-    }
-}
-
 fn node_record(n: Node) -> NodeRecord
     ensures { λ r. ⌜ r ≡ nodeRecord n ⌝ }
 {
@@ -171,7 +162,7 @@ fn node_record(n: Node) -> NodeRecord
             number: d.number,
             level: d.level,
             kind: kind_number(kind),
-            cut: cut_number(cut),
+            cut: cut_no(cut),
         },
         parent: n.parent,
         first: n.first,

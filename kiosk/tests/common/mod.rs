@@ -1,4 +1,48 @@
-//! What the tests share: frames, and random numbers.
+//! What the tests share: the checkout's files, frames on document 01's sheet, and random numbers. No test takes all of it.
+#![allow(dead_code)]
+
+use std::fs;
+use std::path::Path;
+
+use nickelgrove_kiosk::Counter;
+
+/// The lines of a file of the checkout, without their newlines.
+pub fn lines_of(file: &str) -> Vec<Vec<u8>> {
+    let file = fs::read(Path::new(env!("CARGO_MANIFEST_DIR")).join("..").join(file)).expect("a file of the checkout");
+    file.strip_suffix(b"\n").expect("whole lines").split(|byte| *byte == b'\n').map(<[u8]>::to_vec).collect()
+}
+
+/// Document 01's sheet: 100 x 60, first cut Vertical, stages 3.
+pub const OPEN: &str = "010001000000640000003c01035a";
+pub const OPENED: &str = "010000010100000002fb";
+pub const KEEP: &str = "05fb";
+pub const RESTORE: &str = "06fa";
+pub const REPORT: &str = "07f9";
+
+/// A counter with document 01's sheet on it, and the mark of its free piece.
+pub fn opened() -> (Counter, Vec<u8>) {
+    let mut counter = Counter::new();
+    assert_eq!(counter.answer(OPEN), OPENED);
+    (counter, mark(1, 2))
+}
+
+/// A mark of layout 1.
+pub fn mark(place: u8, serial: u32) -> Vec<u8> {
+    [&[0, 1, place], serial.to_be_bytes().as_slice()].concat()
+}
+
+/// Part 7, in either rotation.
+pub fn part(width: u32, height: u32) -> Vec<u8> {
+    [[0, 7].as_slice(), &width.to_be_bytes(), &height.to_be_bytes(), &[0]].concat()
+}
+
+pub fn insert(mark: &[u8], part: &[u8], shape: u8) -> String {
+    line(&[&[3], mark, part, &[0, shape]].concat())
+}
+
+pub fn remove(mark: &[u8]) -> String {
+    line(&[&[4], mark].concat())
+}
 
 /// The line for these bytes, with the check that makes them add to 0.
 pub fn line(bytes: &[u8]) -> String {

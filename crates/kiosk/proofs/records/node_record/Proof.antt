@@ -8,12 +8,12 @@ use Rattle.kiosk.proofs.records.node_record.Tie as tie
 kind-number-requires : tie.Need-kind-number-requires
 kind-number-requires c κs = search needs
 
-cut-number-requires : tie.Need-cut-number-requires
-cut-number-requires c κs = search needs
+cut-no-requires : tie.Need-cut-no-requires
+cut-no-requires c κs = search needs
 
 returns : tie.Need-returns
 unfolding nodeRecord
-returns c = rw (c .before .kind-number .ensures, c .cut-number .ensures) refl
+returns c = rw (c .before .kind-number .ensures, c .cut-no .ensures) refl
 
 pub node-record-spec : {M : Type 1} → statement M
-node-record-spec = tie.close (tie.spec kind-number-requires cut-number-requires returns)
+node-record-spec = tie.close (tie.spec kind-number-requires cut-no-requires returns)

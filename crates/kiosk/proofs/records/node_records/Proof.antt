@@ -1,18 +1,18 @@
 -- `node_records` meets its contract: the array is filled as far as the loop has come.
-use mathlib.Core.Path.{_≡_}
+use mathlib.Core.Path.{_≡_, refl}
 use Prim.Native.Nat.{_-_, _≤_, _<_}
 use native.Mathlib.Omega.{arith}
-use lib.ListN.{length}
+use lib.ListN.{length, replicate}
 use borrow.Author.Needs.{needs}
 use Rattle.lists.specs.Lists.{limit}
+use Rattle.lists.proofs.Fill.{filled, fill-more, fill-column}
 use Rattle.table.specs.Table.{zeroNode}
 use Rattle.kiosk.specs.Records.{noRecord, nodeRecord, nodeRecords}
-use Rattle.kiosk.proofs.Fill.{filled, fill-more, fill-all}
 use Rattle.kiosk.proofs.records.node_records.Statement.{statement}
 use Rattle.kiosk.proofs.records.node_records.Tie as tie
 
 abbrev Inv-loop : tie.InvT-loop
-Inv-loop nodes records₀ i₀ records i = (i ≤ limit) × (records ≡ filled noRecord (nodeRecords nodes) i)
+Inv-loop nodes records₀ i₀ records i = (i ≤ limit) × (records ≡ filled (replicate limit noRecord) (nodeRecords nodes) i)
 
 abbrev μ-loop : tie.MeasureT-loop
 μ-loop nodes records₀ i₀ records i = limit - i
@@ -51,7 +51,7 @@ loop-again c =
     let t = s .args .t1 in
     let len : length t ≡ limit = s .good .0 .1 .0 .1 in
     let h : l .i < limit = omega arith in
-    (omega arith, fill-more nodeRecord noRecord zeroNode t len (l .records) (l .i) _ (l .inv .1) h (c .node-record .ensures))
+    (omega arith, fill-more nodeRecord t len zeroNode (replicate limit noRecord) (l .records) (l .i) _ (l .inv .1) h (c .node-record .ensures))
 
 returns : tie.Need-returns Inv-loop μ-loop
 returns c =
@@ -59,7 +59,7 @@ returns c =
     let s = c .before .before .before in
     let t = s .args .t1 in
     let len : length t ≡ limit = s .good .0 .1 .0 .1 in
-    fill-all nodeRecord noRecord zeroNode t len (l .records) (l .i) (l .inv .1) (omega arith)
+    fill-column nodeRecord t len (replicate limit noRecord) refl (l .records) (l .i) (l .inv .1) (omega arith)
 
 pub node-records-spec : {M : Type 1} → statement M
 node-records-spec =

@@ -1,13 +1,14 @@
+-- `full` is safe and ends. The measure is the places that are left. Assumes nothing.
 use Prim.Native.Nat.{_≤_, _-_, _+_}
 use borrow.Author.Needs.{needs}
-use Rattle.deep_chain.proofs.chain.Statement.{statement}
-use Rattle.deep_chain.proofs.chain.Tie as tie
+use Rattle.deep_chain.proofs.full.Statement.{statement}
+use Rattle.deep_chain.proofs.full.Tie as tie
 
 abbrev Inv-loop : tie.InvT-loop
-Inv-loop l₀ i₀ l i = i ≤ 255
+Inv-loop deep l₀ i₀ l i = i ≤ 255
 
 abbrev μ-loop : tie.MeasureT-loop
-μ-loop l₀ i₀ l i = 255 - i
+μ-loop deep l₀ i₀ l i = 255 - i
 
 zero-requires : tie.Need-zero-requires Inv-loop μ-loop
 zero-requires c κs = search needs
@@ -18,8 +19,11 @@ loop-holds c = search needs
 node-at-requires : tie.Need-node-at-requires Inv-loop μ-loop
 node-at-requires c κs = search needs
 
-mul-t6 : tie.Need-mul-t6 Inv-loop μ-loop
-mul-t6 c = search needs
+node-in-row-requires : tie.Need-node-in-row-requires Inv-loop μ-loop
+node-in-row-requires c κs = search needs
+
+mul-t13 : tie.Need-mul-t13 Inv-loop μ-loop
+mul-t13 c = search needs
 
 element-set-from-l : tie.Need-element-set-from-l Inv-loop μ-loop
 element-set-from-l c = search needs
@@ -42,14 +46,11 @@ loop-less c = search needs
 loop-again : tie.Need-loop-again Inv-loop μ-loop
 loop-again c = search needs
 
-sheet-requires : tie.Need-sheet-requires Inv-loop μ-loop
-sheet-requires c κs = search needs
-
 returns : tie.Need-returns Inv-loop μ-loop
 returns c = search needs
 
-pub chain-spec : {M : Type 1} → statement M
-chain-spec =
+pub full-spec : {M : Type 1} → statement M
+full-spec =
     tie.close
     (tie.spec
     Inv-loop
@@ -57,7 +58,8 @@ chain-spec =
     zero-requires
     loop-holds
     node-at-requires
-    mul-t6
+    node-in-row-requires
+    mul-t13
     element-set-from-l
     cast-l
     mul-l
@@ -65,5 +67,4 @@ chain-spec =
     add-i
     loop-less
     loop-again
-    sheet-requires
     returns)

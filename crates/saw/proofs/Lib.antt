@@ -1,0 +1,13 @@
+pub mod Slices
+pub mod Fills
+pub mod Truly
+pub mod Sawn
+pub mod Told
+pub mod PiecesArea
+pub mod CutBytes
+pub mod ListSteps
+pub mod Meaning
+pub mod Copied
+pub mod Call
+pub mod Unique
+pub mod Layouts

@@ -1,0 +1,105 @@
+-- The bytes of change request 3 (document 02) tell the cuts: read nine at a time they are the list again, and a saw that reads them gives the boards
+-- of the tree. Rests on Sawn, and on tree's Read for how great the sides are.
+use mathlib.Core.Path.{_≡_, refl, ap, _∙_}
+use mathlib.Core.Option.{some}
+use mathlib.Core.List.{List, [], _∷_, _++_}
+use Prim.Native.Nat.{ℕ, _+_, _/_, _%_, _≤_, _<_}
+use native.Mathlib.Omega.{arith}
+use lib.ListN.{length}
+use Rattle.piece.specs.declared.orientation.Orientation.{Orientation}
+use Rattle.piece.specs.declared.orientation.Orientation.the-variants.{Horizontal, Vertical}
+use Rattle.piece.specs.declared.size.Size.{Size}
+use Rattle.piece.specs.declared.node.Datum.{Datum}
+use Rattle.piece.specs.Sides.{other}
+use Rattle.piece.specs.Row.{nil, grow}
+use Rattle.tree.specs.Tree.{Tree, count}
+use Rattle.tree.specs.Snapshot.{cutNo}
+use Rattle.tree.specs.Sound.{maxSide, Sound}
+use Rattle.tree.proofs.Read.{Readable, sound-readable}
+use Rattle.saw.specs.declared.cut.Cut.{Cut}
+use Rattle.saw.specs.Saw.{side, saw}
+use Rattle.saw.specs.Cuts.{withoutEmpty, cutOff, rowCuts, cuts, boards, cutBytes, bytesOf}
+use Rattle.saw.specs.Read.{wayOf, ofTwo, ofFour, readCuts, Fits, Each}
+use Rattle.saw.proofs.Slices.{side-small}
+use Rattle.saw.proofs.Fills.{count-kept, readable-kept}
+use Rattle.saw.proofs.Sawn.{saw-gives, row-most}
+
+-- ---- what bytes say
+
+way-back : (w : Orientation) → wayOf (cutNo w) ≡ w
+way-back Horizontal = refl
+way-back Vertical = refl
+
+two-back : (n : ℕ) → n < 65536 → ofTwo (n / 256 % 256) (n % 256) ≡ n
+two-back n h = omega arith
+
+upper-back : (n : ℕ) → n < 4294967296 → ofTwo (n / 16777216 % 256) (n / 65536 % 256) ≡ n / 65536
+upper-back n h = omega arith
+
+lower-back : (n : ℕ) → ofTwo (n / 256 % 256) (n % 256) ≡ n % 65536
+lower-back n = omega arith
+
+four-back : (n : ℕ) → n < 4294967296
+    → ofFour (n / 16777216 % 256) (n / 65536 % 256) (n / 256 % 256) (n % 256) ≡ n
+four-back n h = rw (upper-back n h, lower-back n) (omega arith)
+
+-- the bytes of cuts that fit tell them
+pub told : (cs : List Cut) → Each Fits cs → readCuts (bytesOf cs) ≡ cs
+unfolding readCuts bytesOf cutBytes
+told [] h = refl
+told (c ∷ cs) h =
+    let place = two-back (c .place) (h .0 .place) in
+    let way = way-back (c .way) in
+    let distance = four-back (c .distance) (h .0 .distance) in
+    let rest = told cs (h .1) in
+    λ i. record { place = place i; way = way i; distance = distance i; piece = c .piece; left = c .left } ∷ rest i
+
+-- ---- the cuts of a sound tree fit
+
+each-append : {A : Type 0} (P : A → Type 0) (a b : List A) → Each P a → Each P b → Each P (a ++ b)
+each-append P [] b f g = g
+each-append P (x ∷ a) b f g = (f .0, each-append P a b (f .1) g)
+
+each-less : {A : Type 0} {P Q : A → Type 0} → ((x : A) → P x → Q x) → (l : List A) → Each P l → Each Q l
+each-less f [] h = tt
+each-less f (x ∷ l) h = (f x (h .0), each-less f l (h .1))
+
+-- a cut of one of the first m places, at a distance within a sheet
+pub record Within (m : ℕ) (c : Cut) : Type 0 where
+  pub place : c .place < m
+  pub distance : c .distance ≤ maxSide
+
+off-within : (m : ℕ) (way : Orientation) (i : ℕ) (d : Datum) (r : Tree) → i < m → side way (d .size) ≤ maxSide
+    → Each (Within m) (cutOff way i d r)
+off-within m way i d nil a b = tt
+off-within m way i d (grow p e k r) a b = (record { place = a; distance = b }, tt)
+
+row-within : (l m : ℕ) (way : Orientation) (i : ℕ) (r : Tree) → Readable l r → i + count r ≤ m → Each (Within m) (rowCuts way i r)
+unfolding rowCuts
+row-within l m way i nil f h = tt
+row-within l m way i (grow p d k r) f h =
+    let below = rowCuts (other way) i k in
+    let j = i + (1 + length below) in
+    each-append (Within m) (cutOff way i d r) (below ++ rowCuts way j r)
+    (off-within m way i d r (omega arith) (side-small way (f .0 .small)))
+    (each-append (Within m) below (rowCuts way j r)
+    (row-within (l + 1) m (other way) i k (f .1) (omega arith))
+    (row-within l m way j r (f .2) (omega (arith, row-most (other way) i k))))
+
+-- the places are below the count of the nodes, and no distance is greater than a side can be
+pub cuts-within : {limit stages : ℕ} {sheet : Size} (t : Tree) → Sound limit stages sheet t → Each (Within (count t)) (cuts t)
+cuts-within nil h = tt
+cuts-within (grow p d k r) h =
+    row-within 1 (count (grow p d k r)) (d .cut) 0 (withoutEmpty k) (readable-kept 1 k (sound-readable (grow p d k r) h .1))
+    (omega (arith, count-kept k))
+
+pub cuts-fit : {limit stages : ℕ} {sheet : Size} (t : Tree) → limit ≤ 65535 → Sound limit stages sheet t → Each Fits (cuts t)
+cuts-fit t a h =
+    each-less
+    (λ (c : Cut) (w : Within (count t) c). record { place = omega (arith, w .place, h .room); distance = omega (arith, w .distance) })
+    (cuts t) (cuts-within t h)
+
+-- the saw that reads the bytes gives the boards of the tree
+pub list-read : {limit stages : ℕ} {sheet : Size} (t : Tree) → limit ≤ 65535 → Sound limit stages sheet t
+    → saw (readCuts (bytesOf (cuts t))) (sheet ∷ []) ≡ some (boards t)
+list-read {sheet} t a h = ap (λ (l : List Cut). saw l (sheet ∷ [])) (told (cuts t) (cuts-fit t a h)) ∙ saw-gives t h

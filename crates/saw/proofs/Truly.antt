@@ -1,0 +1,237 @@
+-- What the list of saw cuts says of kinds is true (change request 3): a sawyer who believes it runs the whole list, and in the end each piece was
+-- said to be what it is, or to be the structure that holds it alone. Rests on Fills: the rows of a sound tree fill their boards. Sawn has the saw.
+use mathlib.Core.Path.{_≡_, refl, sym, ap, ap₂, _∙_, subst⁻¹}
+use mathlib.Core.Bool.{Bool, true, false, not, _&&_, _||_, or-true}
+use mathlib.Core.Logic.{_⊎_, ⊎-elim, inl, inr}
+use mathlib.Core.Option.{Option, some}
+use mathlib.Core.List.{List, [], _∷_, _++_, map, map-append, append-assoc, append-nil}
+use Prim.Native.Nat.{ℕ, _+_}
+use native.Mathlib.Omega.{arith}
+use lib.ListN.{length, length-append}
+use borrow.Author.Tests.{eq-eqb}
+use Rattle.piece.specs.declared.orientation.Orientation.{Orientation}
+use Rattle.piece.specs.declared.orientation.Orientation.the-variants.{Horizontal, Vertical}
+use Rattle.piece.specs.declared.size.Size.{Size}
+use Rattle.piece.specs.declared.node.Datum.{Datum}
+use Rattle.piece.specs.declared.node.Kind.{Kind}
+use Rattle.piece.specs.declared.node.Kind.the-variants.{Free, Part, Structure}
+use Rattle.piece.specs.Sides.{other}
+use Rattle.piece.specs.Row.{nil, grow}
+use Rattle.piece.proofs.Sizes.{other-twice}
+use Rattle.tree.specs.Tree.{Tree, isStructure}
+use Rattle.tree.specs.Snapshot.{kindNo, cutNo}
+use Rattle.tree.specs.Sound.{Sided, Sound}
+use Rattle.saw.specs.declared.cut.Cut.{Cut}
+use Rattle.saw.specs.Saw.{side, withArea, cutsB, onward}
+use Rattle.saw.specs.Cuts.{withoutEmpty, leftNo, cutOff, rowCuts, cuts, ownBoard, boards}
+use Rattle.saw.specs.Sawyer.{Piece, called, sizes, saids, sameWay, mayCut, parted, sawyerAt, sawyer}
+use Rattle.saw.specs.Sawyer.{single, nestedRow, nestedIn, nameNo, ownKind, rowKinds, boardKinds, uncut}
+use Rattle.saw.proofs.Slices.{with-area, remnant, off-can, off-sided, off-piece, off-rest, remnant-sided}
+use Rattle.saw.proofs.Fills.{Below, Share, Fills, boards-kept, structure-fills}
+
+-- ---- tests
+
+or-left : (a b : Bool) → a ≡ true → (a || b) ≡ true
+or-left a b e = ap (λ (c : Bool). c || b) e
+
+or-right : (a b : Bool) → b ≡ true → (a || b) ≡ true
+or-right a b e = ap (λ (c : Bool). a || c) e ∙ or-true a
+
+-- a piece that a cut of the other way made
+turned : (way : Orientation) (x : Piece) → x .way ≡ other way → not (sameWay way x) ≡ true
+turned Horizontal x e = rw e refl
+turned Vertical x e = rw e refl
+
+-- a structure is said to be one, alone or not
+called-structure : (alone : Bool) → nameNo alone Structure ≡ 2
+called-structure true = refl
+called-structure false = refl
+
+module _ (nested : Bool) where
+  -- the cuts l of the piece x, at the place i of a pile, make these boards of it, said to be of these kinds. Each cut makes one piece more.
+  pub record Makes (i : ℕ) (l : List Cut) (x : Piece) (made : List Size) (kinds : List ℕ) : Type 0 where
+    pub pile : List Piece
+    pub size : sizes pile ≡ made
+    pub said : saids pile ≡ kinds
+    pub more : length pile ≡ 1 + length l
+    pub runs : (a b : List Piece) (cs : List Cut) → length a ≡ i → sawyer nested (l ++ cs) (a ++ x ∷ b) ≡ sawyer nested cs (a ++ (pile ++ b))
+
+  left-whole : (i : ℕ) (x : Piece) (s : Size) (n : ℕ) → x .size ≡ s → x .said ≡ n → Makes i [] x (s ∷ []) (n ∷ [])
+  left-whole i x s n e h =
+      record {
+        pile = x ∷ [];
+        size = ap (λ (z : Size). z ∷ []) e;
+        said = ap (λ (z : ℕ). z ∷ []) h;
+        more = refl;
+        runs = λ a b cs at. refl;
+      }
+
+  -- ---- one cut
+
+  sawyer-at : (c : Cut) (x : Piece) (a b : List Piece) → mayCut nested (c .way) x ≡ true → cutsB c (x .size) ≡ true
+      → sawyerAt nested c (length a) (a ++ x ∷ b) ≡ some (a ++ (parted c (x .size) ++ b))
+  sawyer-at c x [] b may can = rw (may, can) refl
+  sawyer-at c x (y ∷ a) b may can =
+      ap (λ (o : Option (List Piece)). onward o (λ (p : List Piece). some (y ∷ p))) (sawyer-at c x a b may can)
+
+  one-cut : (c : Cut) (x y z : Piece) (cs : List Cut) (a b : List Piece) → length a ≡ c .place → mayCut nested (c .way) x ≡ true
+      → cutsB c (x .size) ≡ true → parted c (x .size) ≡ y ∷ z ∷ [] → sawyer nested (c ∷ cs) (a ++ x ∷ b) ≡ sawyer nested cs (a ++ y ∷ z ∷ b)
+  one-cut c x y z cs a b at may can h =
+      ap (λ (o : Option (List Piece)). onward o (sawyer nested cs))
+      (ap (λ (i : ℕ). sawyerAt nested c i (a ++ x ∷ b)) (sym at)
+      ∙ sawyer-at c x a b may can
+      ∙ ap (λ (l : List Piece). some (a ++ (l ++ b))) h)
+
+  -- the cuts of two pieces that lie side by side: those of the second come at the place behind what the first has become
+  two-boards : (i : ℕ) {k r : List Cut} {y z : Piece} {m n : List Size} {u v : List ℕ} (f : Makes i k y m u)
+      (g : Makes (i + (1 + length k)) r z n v)
+      → (a b : List Piece) (cs : List Cut) → length a ≡ i
+      → sawyer nested ((k ++ r) ++ cs) (a ++ y ∷ z ∷ b) ≡ sawyer nested cs (a ++ ((f .pile ++ g .pile) ++ b))
+  two-boards i {k} {r} {y} {z} f g a b cs at =
+      ap (λ (l : List Cut). sawyer nested l (a ++ y ∷ z ∷ b)) (append-assoc k r cs)
+      ∙ f .runs a (z ∷ b) (r ++ cs) at
+      ∙ ap (sawyer nested (r ++ cs)) (sym (append-assoc a (f .pile) (z ∷ b)))
+      ∙ g .runs (a ++ f .pile) b cs (omega (arith, length-append a (f .pile), f .more))
+      ∙ ap (sawyer nested cs) (simp append-assoc)
+
+  cut-in-two : (c : Cut) (x y z : Piece) {k r : List Cut} {m n : List Size} {u v : List ℕ} → mayCut nested (c .way) x ≡ true
+      → cutsB c (x .size) ≡ true → parted c (x .size) ≡ y ∷ z ∷ [] → Makes (c .place) k y m u → Makes (c .place + (1 + length k)) r z n v
+      → Makes (c .place) (c ∷ (k ++ r)) x (m ++ n) (u ++ v)
+  cut-in-two c x y z {k} {r} {m} {n} {u} {v} may can h f g =
+      record {
+        pile = f .pile ++ g .pile;
+        size = map-append (λ (w : Piece). w .size) (f .pile) (g .pile) ∙ ap₂ (λ (p q : List Size). p ++ q) (f .size) (g .size);
+        said = map-append (λ (w : Piece). w .said) (f .pile) (g .pile) ∙ ap₂ (λ (p q : List ℕ). p ++ q) (f .said) (g .said);
+        more = omega (arith, length-append (f .pile) (g .pile), length-append k r, f .more, g .more);
+        runs = λ a b cs at. one-cut c x y z ((k ++ r) ++ cs) a b at may can h ∙ two-boards (c .place) f g a b cs at;
+      }
+
+  -- ---- what was said of a piece that a row fills, under a cut of this way
+
+  -- x was said to be a piece of this kind, and if that isn't alone in its row it was cut off this way
+  abbrev Named : Bool → Kind → Orientation → Piece → Type 0
+  Named alone κ way x = (x .said ≡ nameNo alone κ) × ((alone ≡ true) ⊎ (x .way ≡ way))
+
+  -- a row of one was named as its piece, and one of several can be cut
+  abbrev Fair : Bool → Orientation → Piece → Tree → Type 0
+  Fair alone way x nil = Unit {0}
+  Fair alone way x (grow p d k nil) = Named alone (d .kind) way x
+  Fair alone way x (grow p d k (grow p′ d′ k′ r′)) = (alone ≡ false) × (mayCut nested way x ≡ true)
+
+  -- the children of what was said to be a structure
+  fair-below : (way : Orientation) (x : Piece) (k : Tree) → x .said ≡ 2 → (nested || not (sameWay way x)) ≡ true → Fair (single k) way x k
+  fair-below way x nil e h = tt
+  fair-below way x (grow p d k nil) e h = (e, inl refl)
+  fair-below way x (grow p d k (grow p′ d′ k′ r′)) e h =
+      (refl, rw e h)
+
+  fair-left : (alone : Bool) (way : Orientation) (s : Size) (p : ℕ) (d : Datum) (k r : Tree) → alone ≡ false
+      → Fair alone way (called (leftNo d r) way s) (grow p d k r)
+  fair-left alone way s p d k nil e = (sym (ap (λ (b : Bool). nameNo b (d .kind)) e), inr refl)
+  fair-left alone way s p d k (grow p′ d′ k′ r′) e = (e, eq-eqb (cutNo way) (cutNo way) refl)
+
+  -- ---- a row
+
+  -- the cuts of a board of this size, whatever was fairly said of it
+  abbrev Done : (i : ℕ) (l : List Cut) (s : Size) (made : List Size) (kinds : List ℕ) (F : Piece → Type 0) → Type 0
+  Done i l s made kinds F = (x : Piece) → x .size ≡ s → F x → Makes i l x made kinds
+
+  -- a part or a free piece is left as it is
+  piece-makes : (κ : Kind) (alone : Bool) (way : Orientation) (i : ℕ) (s : Size) (k : Tree) → Sided s → Below κ k (Fills (other way) s k)
+      → ((alone && isStructure κ) ≡ true → nested ≡ true)
+      → (Fills (other way) s k
+      → Done i (rowCuts (other way) i k) s (boards k) (rowKinds (single k) k) (λ (x : Piece). Fair (single k) (other way) x k))
+      → Done i (rowCuts (other way) i k) s (ownBoard κ s ++ boards k) (ownKind alone κ s ++ rowKinds (single k) k) (Named alone κ way)
+  unfolding rowCuts
+  piece-makes Free alone way i s k b f n below x e h =
+      subst⁻¹ (λ (t : Tree). Makes i (rowCuts (other way) i t) x (withArea s ++ boards t) (ownKind alone Free s ++ rowKinds (single t) t)) f
+      (subst⁻¹ (λ (l : List Size). Makes i [] x (l ++ []) (map (λ (z : Size). nameNo alone Free) l ++ [])) (with-area b)
+      (left-whole i x s (nameNo alone Free) e (h .0)))
+  piece-makes Part alone way i s k b f n below x e h =
+      subst⁻¹ (λ (t : Tree). Makes i (rowCuts (other way) i t) x (s ∷ boards t) (nameNo alone Part ∷ rowKinds (single t) t)) f
+      (left-whole i x s (nameNo alone Part) e (h .0))
+  piece-makes Structure alone way i s k b f n below x e h =
+      let turns : (nested || not (sameWay (other way) x)) ≡ true =
+      ⊎-elim
+      (λ z. or-left nested _ (n (ap (λ (c : Bool). c && true) z)))
+      (λ z. or-right nested _ (turned (other way) x (z ∙ sym (other-twice way))))
+      (h .1)
+      in
+      below f x e (fair-below (other way) x k (h .0 ∙ called-structure alone) turns)
+
+  share-sided : (way : Orientation) (s x : Size) (r : Tree) (F : Type 0) → Sided s → Share way s x r F → Sided x
+  share-sided way s x nil F b e = subst⁻¹ Sided e b
+  share-sided way s x (grow p d k r) F b h = off-sided (h .0) b
+
+  -- a piece that is made into m, and the rest of its row
+  row-step : (alone : Bool) (way : Orientation) (i : ℕ) (s : Size) (p : ℕ) (d : Datum) (below r : Tree) (k : List Cut) (m : List Size) (u : List ℕ)
+      → Sided s
+      → Share way s (d .size) r (Fills way (remnant way s (d .size)) r)
+      → Done i k (d .size) m u (Named alone (d .kind) way)
+      → (Sided (remnant way s (d .size)) → Fills way (remnant way s (d .size)) r
+      → Done (i + (1 + length k)) (rowCuts way (i + (1 + length k)) r) (remnant way s (d .size)) (boards r) (rowKinds alone r)
+      (λ (x : Piece). Fair alone way x r))
+      → Done i (cutOff way i d r ++ (k ++ rowCuts way (i + (1 + length k)) r)) s (m ++ boards r) (u ++ rowKinds alone r)
+      (λ (x : Piece). Fair alone way x (grow p d below r))
+  unfolding rowCuts
+  row-step alone way i s p d below nil k m u b e f g x at h = rw (append-nil k, append-nil m, append-nil u) (f x (at ∙ sym e) h)
+  row-step alone way i s p d below (grow p′ d′ k′ r′) k m u b o f g x at h =
+      let c : Cut = record { place = i; way = way; distance = side way (d .size); piece = kindNo (d .kind); left = leftNo d′ r′ } in
+      let y = called (kindNo (d .kind)) way (d .size) in
+      let z = called (leftNo d′ r′) way (remnant way s (d .size)) in
+      cut-in-two c x y z (h .1)
+      (subst⁻¹ (λ (q : Size). cutsB c q ≡ true) at (off-can (o .0)))
+      (ap (parted c) at
+      ∙ ap₂ (λ (p q : List Size). map (called (c .piece) way) p ++ map (called (c .left) way) q) (off-piece (o .0) b) (off-rest (o .0) b))
+      (f y refl (sym (ap (λ (q : Bool). nameNo q (d .kind)) (h .0)), inr refl))
+      (g (remnant-sided (o .0) b) (o .1) z refl (fair-left alone way (remnant way s (d .size)) p′ d′ k′ r′ (h .0)))
+
+  row-makes : (alone : Bool) (way : Orientation) (s : Size) (r : Tree) (i : ℕ) → Sided s → Fills way s r → (nestedRow alone r ≡ true → nested ≡ true)
+      → Done i (rowCuts way i r) s (boards r) (rowKinds alone r) (λ (x : Piece). Fair alone way x r)
+  unfolding rowCuts
+  row-makes alone way s nil i b f n = absurd f
+  row-makes alone way s (grow p d k r) i b f n =
+      let own = ownBoard (d .kind) (d .size) in
+      let kind = ownKind alone (d .kind) (d .size) in
+      let here = alone && isStructure (d .kind) in
+      let under = nestedRow (single k) k in
+      let rest = nestedRow alone r in
+      let o = share-sided way s (d .size) r (Fills way (remnant way s (d .size)) r) b (f .1) in
+      let piece =
+      piece-makes (d .kind) alone way i (d .size) k o (f .0)
+      (λ e. n (or-left here (under || rest) e))
+      (λ g. row-makes (single k) (other way) (d .size) k i o g (λ e. n (or-right here (under || rest) (or-left under rest e))))
+      in
+      let j = i + (1 + length (rowCuts (other way) i k)) in
+      rw (← append-assoc own (boards k) (boards r), ← append-assoc kind (rowKinds (single k) k) (rowKinds alone r))
+      (row-step alone way i s p d k r (rowCuts (other way) i k) (own ++ boards k) (kind ++ rowKinds (single k) k) b (f .1) piece
+      (λ z g. row-makes alone way (remnant way s (d .size)) r j z g (λ e. n (or-right here (under || rest) (or-right under rest e)))))
+
+-- ---- the tree
+
+pub tree-makes : {limit stages : ℕ} {sheet : Size} (t : Tree) → Sound limit stages sheet t
+    → Makes (nestedIn t) 0 (cuts t) (uncut t sheet) (boards t) (boardKinds t)
+tree-makes nil h = absurd (h .topped)
+tree-makes {stages = n} {sheet} (grow p d k r) h =
+    let top = h .topped .0 in
+    let row = withoutEmpty k in
+    let nested = nestedRow (single row) row || false in
+    let x = called 2 (other (d .cut)) sheet in
+    let made =
+    row-makes nested (single row) (d .cut) (d .size) row 0 (top .piece .sided) (structure-fills n d k (top .piece) (h .topped .1))
+    (λ e. or-left (nestedRow (single row) row) false e)
+    x (sym (top .size)) (fair-below nested (d .cut) x row refl (or-right nested _ (turned (d .cut) x refl)))
+    in
+    rw (top .kind, top .alone, append-nil (boards k), append-nil (rowKinds (single row) row), ← boards-kept n d k (h .topped .1)) made
+
+-- the sawyer who believes the list of a sound tree can run it; he gets the boards of the tree, and what was said of each is true
+pub sawyer-believes : {limit stages : ℕ} {sheet : Size} (t : Tree) → Sound limit stages sheet t
+    → (pile : List Piece) × (sawyer (nestedIn t) (cuts t) (uncut t sheet ∷ []) ≡ some pile) × (sizes pile ≡ boards t) × (saids pile ≡ boardKinds t)
+sawyer-believes {sheet} t h =
+    let made = tree-makes t h in
+    let runs =
+    ap (λ (l : List Cut). sawyer (nestedIn t) l (uncut t sheet ∷ [])) (sym (append-nil (cuts t)))
+    ∙ made .runs [] [] [] refl
+    ∙ ap (λ (l : List Piece). some l) (append-nil (made .pile))
+    in
+    (made .pile, runs, made .size, made .said)

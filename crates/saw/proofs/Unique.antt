@@ -1,0 +1,17 @@
+-- The contract of the call determines its answer and what the lent buffer then holds: two that meet it are the same.
+use mathlib.Core.Path.{_≡_}
+use mathlib.Core.List.{List}
+use lib.ListN.{length}
+use Prim.Native.Nat.{ℕ}
+use Rattle.layout.specs.declared.layout.Layout.{Layout}
+use Rattle.layout.proofs.Determined.{only}
+use Rattle.looks.specs.declared.replies.CountAnswer.{CountAnswer}
+use Rattle.looks.specs.Written.{answerTo, leftIn}
+use Rattle.saw.specs.Written.{sawBytes}
+
+module _ (l : Layout) (out : List ℕ) where
+  pub cuts-is-one : (r s : CountAnswer) → r ≡ answerTo l (sawBytes l) (length out) → s ≡ answerTo l (sawBytes l) (length out) → r ≡ s
+  cuts-is-one = only
+
+  pub cuts-leaves-one : (a b : List ℕ) → a ≡ leftIn l (sawBytes l) out → b ≡ leftIn l (sawBytes l) out → a ≡ b
+  cuts-leaves-one = only

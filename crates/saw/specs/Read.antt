@@ -1,0 +1,40 @@
+-- Change request 3 (document 02): what the bytes of a list of cuts say, "9 bytes each". Fewer than nine at the end say nothing.
+use mathlib.Core.List.{List, [], _∷_}
+use Prim.Native.Nat.{ℕ, zero, suc, _+_, _*_, _<_}
+use Rattle.piece.specs.declared.orientation.Orientation.{Orientation}
+use Rattle.piece.specs.declared.orientation.Orientation.the-variants.{Horizontal, Vertical}
+use Rattle.saw.specs.declared.cut.Cut.{Cut}
+
+-- "cut (0 Horizontal, 1 Vertical)"
+abbrev pub wayOf : ℕ → Orientation
+wayOf zero = Horizontal
+wayOf (suc n) = Vertical
+
+-- two and four bytes, highest first
+abbrev pub ofTwo : (a b : ℕ) → ℕ
+ofTwo a b = a * 256 + b
+
+abbrev pub ofFour : (a b c d : ℕ) → ℕ
+ofFour a b c d = ofTwo a b * 65536 + ofTwo c d
+
+unfoldable pub readCuts : List ℕ → List Cut
+readCuts [] = []
+readCuts (a ∷ []) = []
+readCuts (a ∷ b ∷ []) = []
+readCuts (a ∷ b ∷ w ∷ []) = []
+readCuts (a ∷ b ∷ w ∷ c ∷ []) = []
+readCuts (a ∷ b ∷ w ∷ c ∷ d ∷ []) = []
+readCuts (a ∷ b ∷ w ∷ c ∷ d ∷ e ∷ []) = []
+readCuts (a ∷ b ∷ w ∷ c ∷ d ∷ e ∷ f ∷ []) = []
+readCuts (a ∷ b ∷ w ∷ c ∷ d ∷ e ∷ f ∷ p ∷ []) = []
+readCuts (a ∷ b ∷ w ∷ c ∷ d ∷ e ∷ f ∷ p ∷ l ∷ r) =
+    record { place = ofTwo a b; way = wayOf w; distance = ofFour c d e f; piece = p; left = l } ∷ readCuts r
+
+-- the bytes hold the numbers of a cut
+pub record Fits (c : Cut) : Type 0 where
+  pub place : c .place < 65536
+  pub distance : c .distance < 4294967296
+
+abbrev pub Each : {A : Type 0} → (A → Type 0) → List A → Type 0
+Each P [] = Unit {0}
+Each P (x ∷ l) = P x × Each P l

@@ -1,0 +1,36 @@
+// One cut of the list, and its bytes.
+ghost use mathlib.Core.Path.{_≡_};
+ghost use mathlib.Core.List.{[]};
+ghost use Prim.Native.Nat.{_+_, _≤_};
+ghost use lib.ListN.{length};
+ghost use lib.Seq.{sets};
+ghost use Rattle.saw.specs.Cuts.{cutBytes};
+use piece::orientation::Orientation;
+use walks::snapshot::cut_no;
+use walks::snapshot::put_four;
+use walks::snapshot::put_two;
+
+// The bytes of a cut.
+pub const BYTES: usize = 9;
+
+// The piece of the pile at `place` is cut at `distance` from its left edge (Vertical) or its upper one (Horizontal). `piece` is the kind of what is cut
+// off and `left` of what is left, as in snapshots; 3 is several siblings.
+pub struct Cut {
+    pub place: u16,
+    pub way: Orientation,
+    pub distance: u32,
+    pub piece: u8,
+    pub left: u8,
+}
+
+pub fn put_cut(cut: Cut, out: &mut [u8], at: usize)
+    requires { ⌜ at + 9 ≤ length (now out) ⌝ }
+    ensures { λ _. ⌜ now (out .exit) ≡ sets (now (out .entry)) at (cutBytes cut []) ⌝ }
+{
+    let way = cut.way;
+    put_two(cut.place, out, at);
+    out[at + 2] = cut_no(way);
+    put_four(cut.distance, out, at + 3);
+    out[at + 7] = cut.piece;
+    out[at + 8] = cut.left;
+}

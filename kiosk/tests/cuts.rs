@@ -1,0 +1,194 @@
+//! The list of saw cuts (document 02, change request 3): on document 01's sheet by hand, and run by a simple saw on every state of the recorded sessions.
+
+mod common;
+
+use std::thread;
+
+use common::{insert, line, lines_of, mark, numbers, opened, part, remove, KEEP, OPEN, REPORT, RESTORE};
+use nickelgrove_kiosk::{Counter, Cut, Piece, Way};
+
+fn vertical(place: u16, distance: u32, piece: Piece, left: Piece) -> Cut {
+    Cut { place, way: Way::Vertical, distance, piece, left }
+}
+
+fn horizontal(place: u16, distance: u32, piece: Piece, left: Piece) -> Cut {
+    Cut { place, way: Way::Horizontal, distance, piece, left }
+}
+
+#[test]
+fn nothing_is_cut_before_an_opening() {
+    let mut counter = Counter::new();
+    assert_eq!(counter.cuts(), None);
+    assert_eq!(numbers(counter.answer(line(&[1, 0, 1, 0, 0, 0, 0, 0, 0, 0, 60, 1, 3])))[..2], [1, 2]);
+    assert_eq!(counter.cuts(), None);
+    counter.answer(OPEN);
+    assert_eq!(counter.cuts(), Some(vec![]));
+}
+
+/// A part in the opening sheet, by each shape: the pieces in a structure are cut the other way, and one that is alone on its board needs no cut.
+#[test]
+fn a_part_by_each_shape() {
+    use Piece::{Free, Part, Structure};
+    let shapes = [
+        (part(40, 60), 1, vec![vertical(0, 40, Part, Free)]),
+        (part(100, 20), 2, vec![horizontal(0, 20, Part, Free)]),
+        (part(40, 30), 3, vec![vertical(0, 40, Structure, Free), horizontal(0, 30, Part, Free)]),
+        (part(40, 30), 4, vec![horizontal(0, 30, Structure, Free), vertical(0, 40, Part, Free)]),
+        // the offcut is 0 x 60
+        (part(100, 60), 1, vec![]),
+    ];
+    for (part, shape, cuts) in shapes {
+        let (mut counter, free) = opened();
+        assert_eq!(numbers(counter.answer(insert(&free, &part, shape)))[..2], [3, 0]);
+        assert_eq!(counter.cuts(), Some(cuts), "shape {shape}");
+    }
+}
+
+/// The first free piece that a booking leaves.
+fn booked(counter: &mut Counter, free: &[u8], part: &[u8], shape: u8) -> Vec<u8> {
+    let answer = numbers(counter.answer(insert(free, part, shape)));
+    assert_eq!(answer[..2], [3, 0]);
+    answer[17..24].to_vec()
+}
+
+#[test]
+fn several_siblings_and_what_they_leave() {
+    use Piece::{Free, Part, Several, Structure};
+    let (mut counter, free) = opened();
+    let rest = booked(&mut counter, &free, &part(40, 60), 1);
+    assert_eq!(counter.answer(KEEP), line(&[5, 0]));
+    let (one, two) = (vertical(0, 40, Part, Several), vertical(1, 30, Part, Free));
+
+    let last = booked(&mut counter, &rest, &part(30, 60), 1);
+    assert_eq!(counter.cuts(), Some(vec![one, two]));
+    // the offcut behind the last part is 0 x 60, and the part is no longer one of several
+    booked(&mut counter, &last, &part(30, 60), 1);
+    assert_eq!(counter.cuts(), Some(vec![one, vertical(1, 30, Part, Part)]));
+
+    // what is cut of a piece comes before what is behind it in the pile
+    assert_eq!(counter.answer(RESTORE), line(&[6, 0]));
+    assert_eq!(counter.cuts(), Some(vec![vertical(0, 40, Part, Free)]));
+    booked(&mut counter, &rest, &part(30, 20), 3);
+    let cuts = vec![one, vertical(1, 30, Structure, Free), horizontal(1, 20, Part, Free)];
+    assert_eq!(counter.cuts(), Some(cuts));
+
+    assert_eq!(counter.answer(RESTORE), line(&[6, 0]));
+    booked(&mut counter, &rest, &part(60, 20), 2);
+    assert_eq!(counter.cuts(), Some(vec![vertical(0, 40, Part, Structure), horizontal(1, 20, Part, Free)]));
+}
+
+/// Document 01's case k: the part is out again, and a structure stays with one free piece in it.
+#[test]
+fn a_structure_with_one_piece_needs_no_cut() {
+    let (mut counter, free) = opened();
+    assert_eq!(numbers(counter.answer(insert(&free, &part(100, 20), 2)))[..2], [3, 0]);
+    assert_eq!(numbers(counter.answer(remove(&mark(2, 4))))[..2], [4, 0]);
+    assert_eq!(counter.cuts(), Some(vec![]));
+}
+
+/// A rectangle of the pile, and what it was said to be when it was cut; nothing was said of the sheet.
+#[derive(Clone, Copy)]
+struct Board {
+    width: u32,
+    height: u32,
+    said: Option<Piece>,
+}
+
+impl Board {
+    fn area(self) -> u64 {
+        u64::from(self.width) * u64::from(self.height)
+    }
+}
+
+/// The simple saw: the pile that these cuts make of the full sheet. Each cuts a piece that is there and not done, within its edges.
+fn saw(cuts: &[Cut], width: u32, height: u32) -> Vec<Board> {
+    let mut pile = vec![Board { width, height, said: None }];
+    for cut in cuts {
+        let place = usize::from(cut.place);
+        let board = *pile.get(place).expect("a piece that is there");
+        assert!(!matches!(board.said, Some(Piece::Free | Piece::Part)), "a piece that is done: {cut:?}");
+        let (mut piece, mut left) = (board, board);
+        let (side, one, other) = match cut.way {
+            Way::Horizontal => (board.height, &mut piece.height, &mut left.height),
+            Way::Vertical => (board.width, &mut piece.width, &mut left.width),
+        };
+        assert!(0 < cut.distance && cut.distance < side, "{cut:?} of {side}");
+        (*one, *other) = (cut.distance, side - cut.distance);
+        (piece.said, left.said) = (Some(cut.piece), Some(cut.left));
+        pile.splice(place..=place, [piece, left]);
+    }
+    assert!(pile.iter().all(|board| board.said != Some(Piece::Several)), "several siblings are cut");
+    pile
+}
+
+/// The nodes of a tree snapshot: kind, width and height of each.
+fn nodes_of(snapshot: &str) -> Vec<(u8, u32, u32)> {
+    let four = |bytes: &[u8]| u32::from_be_bytes(bytes.try_into().expect("four bytes"));
+    numbers(snapshot).chunks(13).map(|node| (node[1], four(&node[5..9]), four(&node[9..]))).collect()
+}
+
+/// On each state of the short sessions: the pile is the parts and the free pieces with area of the tree snapshot, in its order.
+#[test]
+fn the_saw_makes_what_the_snapshot_shows() {
+    let (frames, answers) = (lines_of("recorded/sessions.in"), lines_of("recorded/sessions.out"));
+    assert_eq!(frames.len(), answers.len());
+    let (mut counter, mut cut) = (Counter::new(), 0);
+    for (place, (frame, answer)) in frames.iter().zip(answers).enumerate() {
+        counter.answer(frame);
+        let answer = String::from_utf8(answer).expect("hexadecimal");
+        let snapshot = answer.split(' ').nth(1).expect("a snapshot");
+        if snapshot == "-" {
+            assert_eq!(counter.cuts(), None, "line {}", place + 1);
+            continue;
+        }
+        let nodes = nodes_of(snapshot);
+        let (_, width, height) = nodes[0];
+        let cuts = counter.cuts().expect("a sheet is opened");
+        let pile = saw(&cuts, width, height);
+        let pieces: Vec<_> = nodes.into_iter().filter(|(kind, w, h)| *kind == 1 || *kind == 0 && *w > 0 && *h > 0).collect();
+        let sides: Vec<_> = pile.iter().map(|board| (board.width, board.height)).collect();
+        assert_eq!(sides, pieces.iter().map(|(_, w, h)| (*w, *h)).collect::<Vec<_>>(), "line {}", place + 1);
+        // what was said to be a part or a free piece is one
+        for (board, (kind, ..)) in pile.iter().zip(pieces) {
+            match board.said {
+                Some(Piece::Free) => assert_eq!(kind, 0, "line {}", place + 1),
+                Some(Piece::Part) => assert_eq!(kind, 1, "line {}", place + 1),
+                _ => (),
+            }
+        }
+        cut += cuts.len();
+    }
+    assert!(cut > frames.len(), "{cut} cuts");
+}
+
+/// On each state of the long sessions, the deepest trees and the longest rows among them: the pile's areas add up to the sheet, and there are no more pieces
+/// than nodes. On a quarter of the stack that a thread has by default.
+#[test]
+fn the_saw_on_long_sessions() {
+    let thread = thread::Builder::new().stack_size(512 << 10).spawn(|| {
+        let (mut counter, mut most) = (Counter::new(), 0);
+        let (mut sheet, mut kept) = (None, None);
+        for frame in lines_of("recorded/long.in") {
+            match numbers(counter.answer(&frame))[..2] {
+                [1, 0] => {
+                    let frame = numbers(std::str::from_utf8(&frame).expect("a frame"));
+                    let four = |place: usize| u32::from_be_bytes(frame[place..place + 4].try_into().expect("four bytes"));
+                    sheet = Some((four(3), four(7)));
+                }
+                [5, 0] => kept = sheet,
+                [6, 0] => sheet = kept,
+                _ => (),
+            }
+            let cuts = counter.cuts();
+            assert_eq!(cuts.is_some(), sheet.is_some());
+            let (Some(cuts), Some((width, height))) = (cuts, sheet) else { continue };
+            let pile = saw(&cuts, width, height);
+            assert_eq!(pile.len(), cuts.len() + 1);
+            assert_eq!(pile.iter().map(|board| board.area()).sum::<u64>(), u64::from(width) * u64::from(height));
+            assert!(pile.len() < usize::from(numbers(counter.answer(REPORT))[10]));
+            most = most.max(cuts.len());
+        }
+        assert!(most > 250, "{most} cuts");
+    });
+    thread.expect("a thread").join().expect("every list was right");
+}
