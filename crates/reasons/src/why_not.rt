@@ -1,0 +1,65 @@
+// Why a free piece does not offer a part, in each rotation, on the mark of the piece. Refusals 1, 3, 4, 5, 6: "those of offers".
+ghost use mathlib.Core.Path.{_≡_};
+ghost use Rattle.reasons.specs.Answers.{reasonsFor, refusedWhy, whyCall};
+use crate::reason::Reason;
+use crate::reason::reason_in;
+use answers::Mark;
+use answers::Refusal;
+use layout::asked::part_ok;
+use layout::layout::Layout;
+use layout::replies::Outcome;
+use layout::replies::Sought;
+use piece::node::Datum;
+use piece::parttype::PartType;
+use piece::rotation::Rotation;
+use sound::places::is_free;
+
+// A reason for each rotation; where it is refused, both are the zero case.
+pub struct WhyAnswer {
+    pub outcome: Outcome,
+    pub default: Reason,
+    pub rotated: Reason,
+}
+
+fn refused_why(refusal: Refusal) -> WhyAnswer
+    ensures { λ r. ⌜ r ≡ refusedWhy refusal ⌝ }
+{
+    WhyAnswer {
+        outcome: Outcome::Refused(refusal),
+        default: Reason::Forbidden,
+        rotated: Reason::Forbidden,
+    }
+}
+
+fn reasons_for(piece: Datum, part: PartType, stages: u8) -> WhyAnswer
+    ensures { λ r. ⌜ r ≡ reasonsFor piece part stages ⌝ }
+{
+    WhyAnswer {
+        outcome: Outcome::Done,
+        default: reason_in(piece, part, stages, Rotation::Default),
+        rotated: reason_in(piece, part, stages, Rotation::Rotated),
+    }
+}
+
+// What the free piece that a mark names says of a part.
+pub fn why_not(layout: Layout, mark: Mark, part: PartType) -> WhyAnswer
+    ensures { λ r. ⌜ r ≡ whyCall layout mark part ⌝ }
+{
+    if layout.sound() {} else {
+        return refused_why(Refusal::NotSound);
+    }
+    if part_ok(part) {} else {
+        return refused_why(Refusal::PartOutside);
+    }
+    match layout.sought(mark) {
+        Sought::Refused(refusal) => refused_why(refusal),
+        Sought::Piece(d) => {
+            let kind = d.kind;
+            if is_free(kind) {
+                reasons_for(d, part, layout.stages)
+            } else {
+                refused_why(Refusal::NotFree)
+            }
+        }
+    }
+}
