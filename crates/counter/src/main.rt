@@ -4,10 +4,11 @@ ghost use mathlib.Core.List.{List};
 ghost use Prim.Native.Nat.{_≤_};
 ghost use lib.Dec.{T};
 ghost use Rattle.frames.specs.Answers.{Answer};
+ghost use Rattle.session.specs.Session.{longest};
 ghost use Rattle.session.specs.Desk.{Turns};
-use frames::write::LONGEST;
 use libc::STDIN_FILENO;
 use libc::STDOUT_FILENO;
+use session::LONGEST;
 use session::desk::Desk;
 
 // The desk after a chunk, and whether all its answers could be written.
@@ -18,7 +19,7 @@ struct Served {
 
 // Writes an answer: the first count characters of a turn's line. With none it writes nothing.
 fn say(line: [u8; LONGEST], count: usize) -> bool
-    requires { ⌜ count ≤ 1035 ⌝ }
+    requires { ⌜ count ≤ longest ⌝ }
 {
     io::write_all(STDOUT_FILENO, &line[..count])
 }

@@ -15,9 +15,6 @@ use piece::insertion_option::Offer;
 use piece::insertion_option::OfferList;
 use piece::rotation::Rotation;
 
-// The characters of the longest answer, 253 part numbers, with its newline.
-pub const LONGEST: usize = 1035;
-
 // Where the next character goes, and the sum of the bytes so far, counting past 255 from 0 again.
 struct Pen {
     at: usize,

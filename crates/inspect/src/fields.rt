@@ -9,7 +9,6 @@ use crate::pen::put_four;
 use crate::pen::put_two;
 use answers::Mark;
 use frames::Request;
-use frames::write::LONGEST;
 use layout::layout::Layout;
 use looks::replies::AreaAnswer;
 use looks::replies::CountAnswer;
@@ -17,6 +16,7 @@ use looks::replies::LightAnswer;
 use looks::replies::MarkAnswer;
 use looks::replies::UsageAnswer;
 use piece::parttype::PartType;
+use session::LONGEST;
 use table::LIMIT;
 
 // The bytes of the longest snapshot: 13 for each place.

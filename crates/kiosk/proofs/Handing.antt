@@ -4,7 +4,7 @@ use mathlib.Core.Path.{_≡_, refl, sym, ap, _∙_}
 use mathlib.Core.Bool.{Bool, true, false, cond}
 use mathlib.Core.List.{List, [], _∷_}
 use mathlib.Core.Option.{some}
-use Prim.Native.Nat.{ℕ, _≤_}
+use Prim.Native.Nat.{ℕ, _*_, _≤_}
 use native.Mathlib.Omega.{arith}
 use lib.Dec.{leb}
 use lib.ListN.{length, take, length-map}
@@ -15,7 +15,7 @@ use denote.Laws.{Is}
 use denote.Struct.Declared.{row}
 use Rattle.answers.specs.declared.Refusal.the-variants.{NotSound, BufferTooShort}
 use Rattle.layout.specs.declared.layout.Layout.{Layout}
-use Rattle.layout.specs.Check.{tree, soundB}
+use Rattle.layout.specs.Check.{limit, tree, soundB}
 use Rattle.layout.specs.SoundLayout.{SoundLayout, Sized}
 use Rattle.layout.proofs.Exactly.{sound-says}
 use Rattle.looks.specs.declared.replies.CountAnswer.{CountAnswer}
@@ -35,7 +35,7 @@ use Rattle.kiosk.specs.Cuts.{Handed, listCount, listLeft}
 use Rattle.kiosk.proofs.records.LayoutRecord.{the-type}
 
 -- no list has more bytes than there are lent
-list-room : (l : Layout) → SoundLayout l → length (sawBytes l) ≤ 2295
+list-room : (l : Layout) → SoundLayout l → length (sawBytes l) ≤ 9 * limit
 unfolding sawBytes
 list-room l s = omega (arith, length-bytes (cuts (tree l)), cuts-most (tree l) (s .sound), s .sound .room)
 
@@ -74,7 +74,7 @@ module _ (l : Layout) (what before : List ℕ) (fits : soundB l ≡ true → len
       go false h = refl
 
 -- the call's answer a on the layout l of the record, and the bytes after it
-pub hands-out : (r : LayoutRecord) (vs : List Val) → Is (row the-type) r vs → (before after : List ℕ) → length before ≡ 2295 → {l : Layout}
+pub hands-out : (r : LayoutRecord) (vs : List Val) → Is (row the-type) r vs → (before after : List ℕ) → length before ≡ 9 * limit → {l : Layout}
     → l ≡ layoutOf r → {a : CountAnswer} → a ≡ answerTo l (sawBytes l) (length before) → after ≡ leftIn l (sawBytes l) before
     → Handed r before after (said a)
 hands-out r vs g before after len at answers leaves =
@@ -87,7 +87,7 @@ hands-out r vs g before after len at answers leaves =
 
 -- the law of the list, for what is handed out of a sound layout: the simple saw, run on the full sheet by the bytes that are counted, ends with the
 -- parts and free pieces of the tree
-pub handed-sawn : (r : LayoutRecord) → Sized (layoutOf r) → (before after : List ℕ) (count : ℕ) → length before ≡ 2295
+pub handed-sawn : (r : LayoutRecord) → Sized (layoutOf r) → (before after : List ℕ) (count : ℕ) → length before ≡ 9 * limit
     → soundB (layoutOf r) ≡ true → Handed r before after count
     → saw (readCuts (take count after)) (layoutOf r .sheet ∷ []) ≡ some (boards (tree (layoutOf r)))
 handed-sawn r sized before after count len sound h =

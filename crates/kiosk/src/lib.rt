@@ -3,10 +3,10 @@
 ghost use mathlib.Core.Path.{_≡_};
 ghost use Rattle.kiosk.specs.Step.{Answered, stepTo, withLayout};
 use frames::read::request;
-use frames::write::LONGEST;
 use records::SessionRecord;
 use records::layout_of;
 use records::layout_record;
+use session::LONGEST;
 use session::replies::Response;
 use session::replies::Said;
 use session::replies::Scope;

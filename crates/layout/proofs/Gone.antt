@@ -132,21 +132,21 @@ module _ (l : Layout) (m : Mark) (room : ℕ) (a : Removed) (says : RemoveSays l
           (solid-untouched-by-removal limit (l .stages) (l .sheet) (tree l) (m .place) (placeFor l (m .place)) (l .serial + 1) i e
           (t .sound .sound) (t .removable) y solid other outside)
 
-      -- at most 253 part numbers come out
-      pub numbers-253 : length (numbersOut l (m .place)) ≤ 253
-      numbers-253 = numbers-fewer l (m .place) removal-takeable
+      -- two nodes at least give no part number
+      pub numbers-fewest : length (numbersOut l (m .place)) + 2 ≤ limit
+      numbers-fewest = numbers-fewer l (m .place) removal-takeable
 
 -- ---- what the counter's session cites
 
 pub record TakenOut (l : Layout) (m : Mark) (room : ℕ) (a : Removed) : Type 0 where
-  pub few : length (numbersOut l (m .place)) ≤ 253
+  pub few : length (numbersOut l (m .place)) + 2 ≤ limit
   pub count : a .count ≡ length (numbersOut l (m .place))
   pub left : (out : List ℕ) → length out ≡ room → numbersLeft l m out ≡ sets out 0 (numbersOut l (m .place))
 
 pub remove-says : (l : Layout) (m : Mark) (room : ℕ) (a : Removed) → Sized l → RemoveSays l m room a → a .outcome ≡ Done → TakenOut l m room a
 remove-says l m room a sized says done =
     record {
-      few = numbers-253 l m room a says done sized;
+      few = numbers-fewest l m room a says done sized;
       count = removed-done l m room a says done .count;
       left = numbers-left l m room a says done;
     }

@@ -88,8 +88,8 @@ module _ (l : Layout) (x : ℕ) (t : Takeable l x) where
   unfolding numbersOut
   numbers-few = removed-few limit (l .stages) (l .sheet) (l .nodes) (tree l) (t .sound .sound) (t .sound .holds) x (t .removable)
 
-  -- the top does not go, and a structure has no number: no more than 253 come out
-  pub numbers-fewer : length (numbersOut l x) ≤ 253
+  -- the top does not go, and a structure has no number: all nodes but two are the most that come out
+  pub numbers-fewer : length (numbersOut l x) + 2 ≤ limit
   unfolding numbersOut
   numbers-fewer =
       let s = t .sound in
@@ -100,7 +100,7 @@ module _ (l : Layout) (x : ℕ) (t : Takeable l x) where
       let is = subtree-is (o .parent) x (o .before) (z .piece) (o .below) (o .behind) w (s .sound .distinct) (o .kids) in
       let ends : PartsEnd own = rw is at (each-subtree _ x w (sound-ends limit (l .stages) (l .sheet) w (s .sound))) in
       let left = held-some _ (cleared x w) (parent-cleared limit (l .stages) (l .sheet) w (s .sound) x held-there (z .below)) in
-      let most : count (o .below) ≤ 253 =
+      let most : count (o .below) ≤ limit - 2 =
       omega (
         arith,
         s .sound .room,
@@ -112,7 +112,7 @@ module _ (l : Layout) (x : ℕ) (t : Takeable l x) where
         ap count is,
       )
       in
-      omega (arith, length-numbers (subtree x w), ap parts is, parts-below (z .piece .kind) (o .below) 253 (ends .0) most (omega arith))
+      omega (arith, length-numbers (subtree x w), ap parts is, parts-below (z .piece .kind) (o .below) (limit - 2) (ends .0) most (omega arith))
 
   module _ (g : Going) (gone : Leaving l x g) where
     places-are : places g ≡ going (l .nodes) x (tree l)

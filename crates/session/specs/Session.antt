@@ -3,7 +3,7 @@
 use mathlib.Core.Path.{_≡_}
 use mathlib.Core.Bool.{Bool, cond}
 use mathlib.Core.List.{List}
-use Prim.Native.Nat.{ℕ}
+use Prim.Native.Nat.{ℕ, _+_, _-_, _*_}
 use lib.Ieee.{binary64, toBits}
 use lib.ListN.{length, take, replicate}
 use lib.Seq.{sets}
@@ -120,9 +120,9 @@ Answers s Restore t a = reply t a ≡ afterRestore s (restoreOf (s .layout) (s .
 Answers s Report t a = reply t a ≡ afterReport s
 Answers s Malformed t a = reply t a ≡ reply s malformed
 
--- the characters of the longest answer, with its newline
+-- the characters of the longest answer, with its newline: a removal of all nodes but two, which are the top and the structure that goes
 abbrev pub longest : ℕ
-longest = 1035
+longest = 23 + 4 * (limit - 2)
 
 -- an answer's line as the code holds it: zero past its newline
 abbrev pub held : Answer → List ℕ

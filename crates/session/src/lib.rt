@@ -6,7 +6,6 @@ ghost use Rattle.frames.specs.Requests.{requestOf};
 ghost use Rattle.session.specs.Session.{Steps, started, withLayout};
 ghost use Rattle.session.specs.Replies.{stepTo};
 use frames::Request;
-use frames::write::LONGEST;
 use layout::layout::Layout;
 use replies::Response;
 use replies::Said;
@@ -15,10 +14,14 @@ use replies::keep;
 use replies::replied;
 use replies::restore;
 use replies::scope_of;
+use table::LIMIT;
 
 pub mod desk; // desk.rt: the lines of a text that arrives in chunks, each answered
 pub mod replies; // replies.rt: the answers over layouts
 mod say; // say.rt: an answer as a line
+
+// The characters of the longest answer, a removal of all nodes but two, with its newline: `longest` of specs/Session.antt.
+pub const LONGEST: usize = 23 + 4 * (LIMIT - 2);
 
 // The layout, and the one that was kept last: both all zero at the start.
 pub struct Session {

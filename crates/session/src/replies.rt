@@ -3,11 +3,11 @@
 ghost use mathlib.Core.Path.{_≡_};
 ghost use Rattle.frames.specs.declared.Request.the-variants as requests;
 ghost use Rattle.session.specs.Replies.{scopeOf, heard, Replies, Keeps, Restores};
+use crate::LONGEST;
 use crate::say;
 use answers::Mark;
 use answers::Refusal;
 use frames::Request;
-use frames::write::LONGEST;
 use layout::layout::Layout;
 use layout::open::Opening;
 use layout::replies::Outcome;

@@ -1,13 +1,14 @@
 // An answer as a line, one function for each kind (document 01, "Counter frames"). Rests on `frames` for how answers are written.
-ghost use Prim.Native.Nat.{_≤_};
+ghost use Prim.Native.Nat.{_+_, _≤_};
 ghost use lib.ListN.{length, take};
+ghost use Rattle.layout.specs.Check.{limit};
 ghost use Rattle.frames.specs.Answers.{Answer};
 ghost use Rattle.session.specs.Session.{Says, marksSaid, offersSaid};
+use crate::LONGEST;
 use crate::replies::Said;
 use answers::Mark;
 use answers::Refusal;
 use booking::marks::NewMarks;
-use frames::write::LONGEST;
 use piece::insertion_option::OfferList;
 
 pub fn refused(op: u8, refusal: Refusal) -> Said
@@ -64,7 +65,7 @@ pub fn inserted(marks: NewMarks) -> Said
 }
 
 pub fn removed(free: Mark, numbers: &[u16], many: usize) -> Said
-    requires { ⌜ (many ≤ 253) × (many ≤ length (now numbers)) ⌝ }
+    requires { ⌜ (many + 2 ≤ limit) × (many ≤ length (now numbers)) ⌝ }
     ensures { λ r. ⌜ Says (Answer.removed free (take many (now (numbers .entry)))) r ⌝ }
 {
     let mut line = [0u8; LONGEST];

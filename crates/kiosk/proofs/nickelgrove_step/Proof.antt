@@ -43,6 +43,7 @@ use denote.Triple.Spec.{Meets, tripleOf}
 use denote.Triple.Table.{entered, cited}
 use denote.Triple.Walked.{says, Stays, stay-ref, stay-none-slice, walkOf, AllGo, goes-ref, goes-none-slice, Walks, ends-at, walked, walk-meets}
 use denote.Exit.{yes}
+use Rattle.session.specs.Session.{longest}
 use Rattle.kiosk.specs.Step.{Answered}
 use Rattle.kiosk.specs.declared.SteppedRecord.{SteppedRecord}
 use Rattle.kiosk.specs.declared.records.SessionRecord.{SessionRecord}
@@ -58,10 +59,6 @@ use Rattle.kiosk.proofs.nickelgrove_step.Key.{name as #kiosk·nickelgro
 use Rattle.kiosk.proofs.nickelgrove_step as f
 use Rattle.kiosk.proofs.nickelgrove_step.Statement as stated
 use Rattle.kiosk.proofs.nickelgrove_step.Code as code
-
--- the characters of the longest answer: `LONGEST`
-abbrev longest : ℕ
-longest = 1035
 
 -- what is lent, and what `stepped` returns
 abbrev R : RattleType

@@ -1,14 +1,15 @@
 -- `answer` is safe and ends. The measure is the characters of the line that are left. Assumes nothing.
 use Prim.Native.Nat.{_≤_, _-_}
 use borrow.Author.Needs.{needs}
+use Rattle.session.specs.Session.{longest}
 use Rattle.inspect.proofs.fields.answer.Statement.{statement}
 use Rattle.inspect.proofs.fields.answer.Tie as tie
 
 abbrev Inv-loop : tie.InvT-loop
-Inv-loop out₀ count line p₀ i₀ out p i = i ≤ 1035
+Inv-loop out₀ count line p₀ i₀ out p i = i ≤ longest
 
 abbrev μ-loop : tie.MeasureT-loop
-μ-loop out₀ count line p₀ i₀ out p i = 1035 - i
+μ-loop out₀ count line p₀ i₀ out p i = longest - i
 
 loop-holds : tie.Need-loop-holds Inv-loop μ-loop
 loop-holds c = search needs
