@@ -111,9 +111,10 @@ pub booking-and-removing : (l : Layout) → Sized l → (m : Mark) (p : PartType
 booking-and-removing = booked.booked-then-removed
 
 pub bookings-commute : (l : Layout) → Sized l → (m : Mark) (p : PartType) (r : Rotation) (s : InsertionShape)
-    (m′ : Mark) (p′ : PartType) (r′ : Rotation) (s′ : InsertionShape) → (m .place ≡ m′ .place → ⊥) → (a b c d : Inserted)
+    (m′ : Mark) (p′ : PartType) (r′ : Rotation) (s′ : InsertionShape) → Names l m′ → (a b c d : Inserted)
     → InsertAccepted l m p r s a → InsertAccepted (a .layout) m′ p′ r′ s′ b
-    → InsertAccepted l m′ p′ r′ s′ c → InsertAccepted (c .layout) m p r s d → SameTree (b .layout) (d .layout)
+    → InsertSays l m′ p′ r′ s′ c → InsertSays (c .layout) m p r s d
+    → InsertAccepted l m′ p′ r′ s′ c × InsertAccepted (c .layout) m p r s d × SameTree (b .layout) (d .layout)
 bookings-commute = bookings.inserts-commute
 
 pub removals-commute : (l : Layout) → Sized l → (m m′ : Mark) → (m .place ≡ m′ .place → ⊥) → (Inside (m .place) (m′ .place) (tree l) → ⊥)

@@ -5,6 +5,8 @@ pub mod Marks
 pub mod MarksNamed
 pub mod Refusals
 pub mod Accepted
+pub mod Allowed
+pub mod Beside
 pub mod BookedThenRemoved
 pub mod BookingsCommute
 pub mod RemovalsCommute
