@@ -117,10 +117,10 @@ pub bookings-commute : (l : Layout) → Sized l → (m : Mark) (p : PartType) (r
     → InsertAccepted l m′ p′ r′ s′ c × InsertAccepted (c .layout) m p r s d × SameTree (b .layout) (d .layout)
 bookings-commute = bookings.inserts-commute
 
-pub removals-commute : (l : Layout) → Sized l → (m m′ : Mark) → (m .place ≡ m′ .place → ⊥) → (Inside (m .place) (m′ .place) (tree l) → ⊥)
-    → (Inside (m′ .place) (m .place) (tree l) → ⊥) → (room room′ : ℕ) (a b c d : Removed)
-    → RemoveAccepted l m room a → RemoveAccepted (a .layout) m′ room′ b
-    → RemoveAccepted l m′ room′ c → RemoveAccepted (c .layout) m room d → SameTree (b .layout) (d .layout)
+pub removals-commute : (l : Layout) → Sized l → (m m′ : Mark) → Names l m′ → (Inside (m′ .place) (m .place) (tree l) → ⊥)
+    → (room room′ : ℕ) (a b c d : Removed) → RemoveAccepted l m room a → RemoveAccepted (a .layout) m′ room′ b
+    → RemoveSays l m′ room′ c → RemoveSays (c .layout) m room d
+    → RemoveAccepted l m′ room′ c × RemoveAccepted (c .layout) m room d × SameTree (b .layout) (d .layout)
 removals-commute = removals.removes-commute
 
 -- "Part area plus free area is the sheet, throughout."
