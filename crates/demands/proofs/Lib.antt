@@ -12,5 +12,6 @@ pub mod BookingsCommute
 pub mod RemovalsCommute
 pub mod Areas
 pub mod UniqueAnswers
+pub mod SomeAnswer
 pub mod MarksGiven
 pub mod Demands
