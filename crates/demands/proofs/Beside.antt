@@ -10,7 +10,7 @@ use Rattle.piece.specs.declared.node.Datum.{Datum}
 use Rattle.piece.specs.Row.{nil, grow}
 use Rattle.tree.specs.Tree.{Tree, In, Inside, Distinct, after, isFree, isNil}
 use Rattle.tree.specs.Removal.{withoutLast, settled, remove, cleared, subtree}
-use Rattle.tree.proofs.Rows.{same?, in-eq, after-nil}
+use Rattle.tree.proofs.Rows.{same?, in-eq}
 use Rattle.tree.proofs.Counts.{in-cleared, in-remove}
 use Rattle.tree.proofs.RemoveKept.{in-left}
 use Rattle.table.proofs.Kids.{pass-absent}

@@ -110,6 +110,9 @@ pub booking-and-removing : (l : Layout) → Sized l → (m : Mark) (p : PartType
     → InsertAccepted l m p r s a → RemoveAccepted (a .layout) (a .marks .first) room c → SameTree (c .layout) l
 booking-and-removing = booked.booked-then-removed
 
+-- Where one order of two calls is accepted, and the second mark names a piece before the first of them, the other order is accepted too and gives the
+-- same tree: of every answer that meets the contract, and there is one (SomeAnswer) and no other (UniqueAnswers). That the pieces are different, and
+-- the second not inside the first, follows: else its mark would be gone.
 pub bookings-commute : (l : Layout) → Sized l → (m : Mark) (p : PartType) (r : Rotation) (s : InsertionShape)
     (m′ : Mark) (p′ : PartType) (r′ : Rotation) (s′ : InsertionShape) → Names l m′ → (a b c d : Inserted)
     → InsertAccepted l m p r s a → InsertAccepted (a .layout) m′ p′ r′ s′ b

@@ -1,16 +1,16 @@
 -- Demand 3: "two removals neither inside the other, commute". Over the calls: where one order is accepted, and the second mark names a piece
--- before it in which the first one is not, so is the other order, and the tree is the same. It rests on tree's law `removals-commute`, and on
--- register's Family: the new free piece does not get the place of the piece that is still to go, which is held then. That piece stood there before,
--- beside the first, with all that is below it (Beside): so the same part numbers come out.
+-- before it in which the first one is not, the other order is accepted too and gives the same tree. What the second call takes stood there before the
+-- first, beside it and with all that is below it (Beside), so that the same part numbers come out. The trees are the same by tree's law
+-- `removals-commute`, and by register's Family: the new free piece does not get the place of the piece that is still to go, which is held then.
 use mathlib.Core.Path.{_≡_, sym, ap, _∙_}
-use mathlib.Core.Bool.{false}
 use mathlib.Core.Logic.{⊎-elim}
 use Prim.Native.Nat.{ℕ, _+_, _≤_}
 use native.Mathlib.Omega.{arith}
 use lib.ListN.{length}
 use Rattle.piece.specs.declared.node.Datum.{Datum}
-use Rattle.tree.specs.Tree.{At, In, Inside, isFree}
+use Rattle.tree.specs.Tree.{At, In, Inside}
 use Rattle.tree.specs.Removal.{cleared, numbers, remove}
+use Rattle.tree.specs.Sound.{Sound}
 use Rattle.tree.specs.Snapshot.{Same}
 use Rattle.tree.specs.Apart.{Removable}
 use Rattle.tree.proofs.Rows.{at-in, in-eq}
@@ -26,10 +26,10 @@ use Rattle.removal.proofs.Serials.{new-serial}
 use Rattle.answers.specs.declared.Mark.{Mark}
 use Rattle.layout.specs.declared.layout.Layout.{Layout}
 use Rattle.layout.specs.declared.remove.Removed.{Removed}
-use Rattle.layout.specs.Check.{limit, maxSerial, tree}
-use Rattle.layout.specs.SoundLayout.{SoundLayout, Sized}
+use Rattle.layout.specs.Check.{limit, tree}
+use Rattle.layout.specs.SoundLayout.{Sized}
 use Rattle.layout.specs.Insert.{pieceAt}
-use Rattle.layout.specs.Remove.{RemoveSays, Takeable, numbersOut, placeFor}
+use Rattle.layout.specs.Remove.{RemoveDone, RemoveSays, Takeable, numbersOut, placeFor}
 use Rattle.layout.proofs.Listed.{piece-is}
 use Rattle.looks.specs.Written.{snapshotBytes}
 use Rattle.demands.specs.Life.{Names}
@@ -38,202 +38,172 @@ use Rattle.demands.proofs.Accepted.{RemoveMeans, accepted-remove}
 use Rattle.demands.proofs.Allowed.{remove-allowed}
 use Rattle.demands.proofs.Beside.{left-outside, subtree-beside}
 
--- a part or a structure y that is not x and not inside x stays, so that the new free piece does not get its place
-pub removal-clear : (l : Layout) (x y : ℕ) → SoundLayout l → Removable x (tree l) → Removable y (tree l) → (x ≡ y → ⊥)
-    → (Inside x y (tree l) → ⊥) → y ≡ placeFor l x → ⊥
-removal-clear l x y h o q apart outside e =
-    let left : In y (cleared x (tree l)) =
-    at-in y (q .piece) (cleared x (tree l))
-    (at-cleared (l .stages) (l .sheet) x y (q .piece) (tree l) (h .sound .topped) (o .below) (q .solid) (λ z. apart (sym z)) outside (q .there))
-    in
-    fresh-removal limit (l .stages) (l .sheet) (tree l) (h .sound) x o .1 (in-eq (cleared x (tree l)) e left)
-
 -- ---- what a removal leaves
 
-module _ (l : Layout) (m : Mark) (room : ℕ) (a : Removed) (i : RemoveMeans l m room a) where
-  abbrev x : ℕ
-  x = m .place
-
-  sound : SoundLayout l
-  sound = i .takeable .sound
+module _ (l : Layout) (x : ℕ) (can : Takeable l x) (a : Removed) (done : RemoveDone l x a) where
+  sound : Sound limit (l .stages) (l .sheet) (tree l)
+  sound = can .sound .sound
 
   new-unheld : In (placeFor l x) (cleared x (tree l)) → ⊥
-  new-unheld = fresh-removal limit (l .stages) (l .sheet) (tree l) (sound .sound) x (i .takeable .removable) .1
+  new-unheld = fresh-removal limit (l .stages) (l .sheet) (tree l) sound x (can .removable) .1
 
-  -- a piece that is left stays as it was
+  -- a piece that is left stays as it was; it is not the removed one and not inside it, and the new piece does not get its place
   module _ (y : ℕ) (e : Datum) (stays : At y e (cleared x (tree l))) where
     is-left : In y (cleared x (tree l))
     is-left = at-in y e (cleared x (tree l)) stays
 
     still-there : At y e (tree (a .layout))
-    still-there = rw (i .done .next .tree) (at-remove x (placeFor l x) (l .serial + 1) y e (tree l) stays)
+    still-there = rw (done .next .tree) (at-remove x (placeFor l x) (l .serial + 1) y e (tree l) stays)
 
-    same-piece : pieceAt (a .layout) y ≡ pieceAt l y
-    same-piece =
-        piece-is (a .layout .nodes) (tree (a .layout)) (i .done .next .sound .holds) y e still-there
-        ∙ sym (piece-is (l .nodes) (tree l) (sound .holds) y e (cleared-at y e x (tree l) stays))
+    piece-now : pieceAt (a .layout) y ≡ e
+    piece-now = piece-is (a .layout .nodes) (tree (a .layout)) (done .next .sound .holds) y e still-there
 
-    -- and gives the same part numbers
+    another : x ≡ y → ⊥
+    another z =
+        gone x left (λ j d r. in-left j r) (tree l) (sound .distinct)
+        (rw (cleared-is x (tree l)) at (in-eq (cleared x (tree l)) (sym z) is-left))
+
+    not-inside : Inside x y (tree l) → ⊥
+    not-inside = left-outside x y (tree l) (sound .distinct) is-left
+
+    place-kept : y ≡ placeFor l x → ⊥
+    place-kept z = new-unheld (in-eq (cleared x (tree l)) z is-left)
+
+    -- where the removed one is not inside it, the same part numbers come out with it
     same-numbers : (Inside y x (tree l) → ⊥) → numbersOut (a .layout) y ≡ numbersOut l y
     unfolding numbersOut
     same-numbers outside =
-        let apart : y ≡ placeFor l x → ⊥ = λ z. new-unheld (in-eq (cleared x (tree l)) z is-left) in
-        rw (i .done .next .tree)
-        (ap numbers (subtree-beside x (placeFor l x) (l .serial + 1) y apart (tree l) (sound .sound .distinct) is-left outside))
+        rw (done .next .tree)
+        (ap numbers (subtree-beside x (placeFor l x) (l .serial + 1) y place-kept (tree l) (sound .distinct) is-left outside))
 
-  -- the mark names the piece
-  removed-names : Names l m
-  removed-names =
-      let o = i .takeable .removable in
-      record { number = i .number; there = rw (piece-is (l .nodes) (tree l) (sound .holds) x (o .piece) (o .there)) (o .there); serial = i .serial }
-
-  -- a mark that names a piece before and after names one that is left: it is another one, and is not inside the removed one
-  names-left : (n : Mark) → Names l n → Names (a .layout) n → At (n .place) (pieceAt l (n .place)) (cleared x (tree l))
-  names-left n before after =
-      let y = n .place in
+  -- a mark that names a piece before and after names one that is left
+  names-left : (m : Mark) → Names l m → Names (a .layout) m → At (m .place) (pieceAt l (m .place)) (cleared x (tree l))
+  names-left m before after =
+      let y = m .place in
       let e = pieceAt (a .layout) y in
-      let old = sound .serials .most y (pieceAt l y) (before .there) in
+      let old = can .sound .serials .most y (pieceAt l y) (before .there) in
       let serial = after .serial ∙ sym (before .serial) in
       ⊎-elim
-      (λ z. rw (sym (at-unique y e (pieceAt l y) (tree l) (sound .sound .distinct) (cleared-at y e x (tree l) z) (before .there))) at z)
+      (λ z. rw (sym (at-unique y e (pieceAt l y) (tree l) (sound .distinct) (cleared-at y e x (tree l) z) (before .there))) at z)
       (λ z. let new = ap (λ (f : Datum). f .serial) (z .1) ∙ new-serial (l .nodes) x (l .serial) in absurd (omega arith))
-      (remove-pieces limit (l .stages) (l .sheet) (l .nodes) (tree l) (sound .sound) (sound .holds) x (i .takeable .removable) (placeFor l x)
-      (l .serial) new-unheld y e (rw (i .done .next .tree) at (after .there)))
+      (remove-pieces limit (l .stages) (l .sheet) (l .nodes) (tree l) sound (can .sound .holds) x (can .removable) (placeFor l x) (l .serial)
+      new-unheld y e (rw (done .next .tree) at (after .there)))
 
-  left-apart : (y : ℕ) → In y (cleared x (tree l)) → x ≡ y → ⊥
-  left-apart y h e =
-      gone x left (λ j d r. in-left j r) (tree l) (sound .sound .distinct)
-      (rw (cleared-is x (tree l)) at (in-eq (cleared x (tree l)) (sym e) h))
+-- the mark of an accepted removal names the piece that goes
+removed-names : (l : Layout) (m : Mark) (room : ℕ) (a : Removed) → RemoveMeans l m room a → Names l m
+removed-names l m room a i =
+    let o = i .takeable .removable in
+    let is = piece-is (l .nodes) (tree l) (i .takeable .sound .holds) (m .place) (o .piece) (o .there) in
+    record { number = i .number; there = rw is (o .there); serial = i .serial }
 
 -- ---- the two orders
 
 module _ (l : Layout) (sized : Sized l)
-    -- the two removals: of the pieces that the marks m and m′ name, neither inside the other, into buffers of these rooms
-    (m m′ : Mark)
-    (apart : m .place ≡ m′ .place → ⊥)
-    (outside : Inside (m .place) (m′ .place) (tree l) → ⊥)
-    (outside′ : Inside (m′ .place) (m .place) (tree l) → ⊥)
-    (room room′ : ℕ)
-    -- the first and then the second; and the other way round
-    (a b c d : Removed) where
-  same : RemoveMeans l m room a → RemoveMeans (a .layout) m′ room′ b → RemoveMeans l m′ room′ c → RemoveMeans (c .layout) m room d
-      → Same (tree (b .layout)) (tree (d .layout))
-  same i j k n =
-      let x = m .place in
-      let y = m′ .place in
-      let h = i .takeable .sound in
-      let o = i .takeable .removable in
-      let q = k .takeable .removable in
-      let u : tree (b .layout) ≡ remove y (placeFor (a .layout) y) (a .layout .serial + 1) (remove x (placeFor l x) (l .serial + 1) (tree l)) =
-      j .done .next .tree ∙ ap (remove y (placeFor (a .layout) y) (a .layout .serial + 1)) (i .done .next .tree)
-      in
-      let v : tree (d .layout) ≡ remove x (placeFor (c .layout) x) (c .layout .serial + 1) (remove y (placeFor l y) (l .serial + 1) (tree l)) =
-      n .done .next .tree ∙ ap (remove x (placeFor (c .layout) x) (c .layout .serial + 1)) (k .done .next .tree)
-      in
-      rw (u, v)
-      (removals-commute (tree l) x y (placeFor l x) (l .serial + 1) (placeFor (a .layout) y) (a .layout .serial + 1) (placeFor (c .layout) x)
-      (c .layout .serial + 1) (placeFor l y) (l .serial + 1) (h .sound) o q apart outside outside′
-      (removal-clear l x y h o q apart outside) (removal-clear l y x h q o (λ e. apart (sym e)) outside′))
+    -- the two removals: of the pieces that the marks m and m′ name, the first not inside the second, into buffers of these rooms
+    (m m′ : Mark) (named : Names l m′) (outside : Inside (m′ .place) (m .place) (tree l) → ⊥) (room room′ : ℕ)
+    -- the first and then the second are accepted; c and d answer them the other way round
+    (a b c d : Removed) (one : RemoveAccepted l m room a) (then : RemoveAccepted (a .layout) m′ room′ b) where
+  abbrev x : ℕ
+  x = m .place
 
-  -- all four are accepted
-  all-accepted : RemoveAccepted l m room a → RemoveAccepted (a .layout) m′ room′ b
-      → RemoveAccepted l m′ room′ c → RemoveAccepted (c .layout) m room d
-      → SameTree (b .layout) (d .layout)
-  unfolding snapshotBytes
-  all-accepted one then other after =
-      let i = accepted-remove l m room a sized one in
-      let k = accepted-remove l m′ room′ c sized other in
-      same i (accepted-remove (a .layout) m′ room′ b (i .done .next .sized) then) k
-      (accepted-remove (c .layout) m room d (k .done .next .sized) after) .bytes
+  abbrev y : ℕ
+  y = m′ .place
 
--- the first order is accepted, and the second mark names a piece before it, in which the first one is not
-module _ (l : Layout) (sized : Sized l) (m m′ : Mark) (named : Names l m′) (outside : Inside (m′ .place) (m .place) (tree l) → ⊥)
-    (room room′ : ℕ) (a b c d : Removed) (one : RemoveAccepted l m room a) (then : RemoveAccepted (a .layout) m′ room′ b) where
-  abbrev i : RemoveMeans l m room a
+  i : RemoveMeans l m room a
   i = accepted-remove l m room a sized one
 
-  abbrev j : RemoveMeans (a .layout) m′ room′ b
+  j : RemoveMeans (a .layout) m′ room′ b
   j = accepted-remove (a .layout) m′ room′ b (i .done .next .sized) then
 
-  kept : At (m′ .place) (pieceAt l (m′ .place)) (cleared (m .place) (tree l))
-  kept = names-left l m room a i m′ named (removed-names (a .layout) m′ room′ b j)
+  -- the two pieces
+  o : Removable x (tree l)
+  o = i .takeable .removable
 
-  apart : m .place ≡ m′ .place → ⊥
-  apart = left-apart l m room a i (m′ .place) (at-in (m′ .place) (pieceAt l (m′ .place)) (cleared (m .place) (tree l)) kept)
+  q : Removable y (tree (a .layout))
+  q = j .takeable .removable
 
-  outside′ : Inside (m .place) (m′ .place) (tree l) → ⊥
-  outside′ =
-      left-outside (m .place) (m′ .place) (tree l) (i .takeable .sound .sound .distinct)
-      (at-in (m′ .place) (pieceAt l (m′ .place)) (cleared (m .place) (tree l)) kept)
+  second-left : At y (pieceAt l y) (cleared x (tree l))
+  second-left = names-left l x (i .takeable) a (i .done) m′ named (removed-names (a .layout) m′ room′ b j)
 
-  -- the second removal, made first
-  other-first : RemoveSays l m′ room′ c → RemoveAccepted l m′ room′ c
-  other-first = remove-allowed l m′ named room′ can fits c
-    where
-      solid : isFree (pieceAt l (m′ .place) .kind) ≡ false
-      solid =
-          let o = j .takeable .removable in
-          rw (
-            sym (same-piece l m room a i (m′ .place) (pieceAt l (m′ .place)) kept),
-            piece-is (a .layout .nodes) (tree (a .layout)) (j .takeable .sound .holds) (m′ .place) (o .piece) (o .there),
-          )
-          (o .solid)
+  -- the second piece is the one that it was
+  second-is : pieceAt l y ≡ q .piece
+  second-is =
+      sym (piece-now l x (i .takeable) a (i .done) y (pieceAt l y) second-left)
+      ∙ piece-is (a .layout .nodes) (tree (a .layout)) (j .takeable .sound .holds) y (q .piece) (q .there)
 
-      can : Takeable l (m′ .place)
-      can =
-          record {
-            sized = sized;
-            sound = i .takeable .sound;
-            removable = record { piece = pieceAt l (m′ .place); there = named .there; solid = solid; below = j .takeable .removable .below };
-            spent = i .takeable .spent;
-          }
+  -- the second removal may be made first
+  other-first : Takeable l y
+  other-first =
+      record {
+        sized = sized;
+        sound = i .takeable .sound;
+        removable = record { piece = pieceAt l y; there = named .there; solid = rw second-is (q .solid); below = q .below };
+        spent = i .takeable .spent;
+      }
 
-      fits : length (numbersOut l (m′ .place)) ≤ room′
-      fits = rw (same-numbers l m room a i (m′ .place) (pieceAt l (m′ .place)) kept outside) at (j .fits)
+  other-fits : length (numbersOut l y) ≤ room′
+  other-fits = rw (same-numbers l x (i .takeable) a (i .done) y (pieceAt l y) second-left outside) at (j .fits)
 
-  -- and then the first
-  then-first : RemoveAccepted l m′ room′ c → RemoveSays (c .layout) m room d → RemoveAccepted (c .layout) m room d
-  then-first other = remove-allowed (c .layout) m names room can fits d
-    where
-      k : RemoveMeans l m′ room′ c
-      k = accepted-remove l m′ room′ c sized other
+  apart : x ≡ y → ⊥
+  apart = another l x (i .takeable) a (i .done) y (pieceAt l y) second-left
 
-      o : Removable (m .place) (tree l)
-      o = i .takeable .removable
+  outside′ : Inside x y (tree l) → ⊥
+  outside′ = not-inside l x (i .takeable) a (i .done) y (pieceAt l y) second-left
 
-      stays : At (m .place) (o .piece) (cleared (m′ .place) (tree l))
-      stays =
-          at-cleared (l .stages) (l .sheet) (m′ .place) (m .place) (o .piece) (tree l) (i .takeable .sound .sound .topped)
-          (j .takeable .removable .below) (o .solid) apart outside (o .there)
+  first-left : At x (o .piece) (cleared y (tree l))
+  first-left =
+      at-cleared (l .stages) (l .sheet) y x (o .piece) (tree l) (i .takeable .sound .sound .topped) (q .below) (o .solid) apart outside (o .there)
 
-      there : At (m .place) (o .piece) (tree (c .layout))
-      there = still-there l m′ room′ c k (m .place) (o .piece) stays
+  -- it was, and gave c
+  module _ (other : RemoveAccepted l m′ room′ c) where
+    k : RemoveMeans l m′ room′ c
+    k = accepted-remove l m′ room′ c sized other
 
-      names : Names (c .layout) m
-      names =
-          record {
-            number = i .number ∙ sym (k .done .next .number);
-            there =
-                rw (piece-is (c .layout .nodes) (tree (c .layout)) (k .done .next .sound .holds) (m .place) (o .piece) there) there;
-            serial = ap (λ (e : Datum). e .serial) (same-piece l m′ room′ c k (m .place) (o .piece) stays) ∙ i .serial;
-          }
+    there : At x (o .piece) (tree (c .layout))
+    there = still-there l y (k .takeable) c (k .done) x (o .piece) first-left
 
-      can : Takeable (c .layout) (m .place)
-      can =
-          let n = k .done .next in
-          record {
-            sized = n .sized;
-            sound = n .sound;
-            removable = record { piece = o .piece; there = there; solid = o .solid; below = o .below };
-            spent = omega (arith, j .takeable .spent, i .done .next .serial, n .serial);
-          }
+    names : Names (c .layout) m
+    names =
+        let now = piece-now l y (k .takeable) c (k .done) x (o .piece) first-left in
+        let was = piece-is (l .nodes) (tree l) (i .takeable .sound .holds) x (o .piece) (o .there) in
+        record {
+          number = i .number ∙ sym (k .done .next .number);
+          there = rw now there;
+          serial = ap (λ (e : Datum). e .serial) (now ∙ sym was) ∙ i .serial;
+        }
 
-      fits : length (numbersOut (c .layout) (m .place)) ≤ room
-      fits = rw (same-numbers l m′ room′ c k (m .place) (o .piece) stays outside′) (i .fits)
+    -- then the first may be made
+    then-first : Takeable (c .layout) x
+    then-first =
+        let n = k .done .next in
+        record {
+          sized = n .sized;
+          sound = n .sound;
+          removable = record { piece = o .piece; there = there; solid = o .solid; below = o .below };
+          spent = omega (arith, j .takeable .spent, i .done .next .serial, n .serial);
+        }
+
+    first-fits : length (numbersOut (c .layout) x) ≤ room
+    first-fits = rw (same-numbers l y (k .takeable) c (k .done) x (o .piece) first-left outside′) (i .fits)
+
+    same : RemoveMeans (c .layout) m room d → Same (tree (b .layout)) (tree (d .layout))
+    same n =
+        let u : tree (b .layout) ≡ remove y (placeFor (a .layout) y) (a .layout .serial + 1) (remove x (placeFor l x) (l .serial + 1) (tree l)) =
+        j .done .next .tree ∙ ap (remove y (placeFor (a .layout) y) (a .layout .serial + 1)) (i .done .next .tree)
+        in
+        let v : tree (d .layout) ≡ remove x (placeFor (c .layout) x) (c .layout .serial + 1) (remove y (placeFor l y) (l .serial + 1) (tree l)) =
+        n .done .next .tree ∙ ap (remove x (placeFor (c .layout) x) (c .layout .serial + 1)) (k .done .next .tree)
+        in
+        rw (u, v)
+        (removals-commute (tree l) x y (placeFor l x) (l .serial + 1) (placeFor (a .layout) y) (a .layout .serial + 1) (placeFor (c .layout) x)
+        (c .layout .serial + 1) (placeFor l y) (l .serial + 1) (i .takeable .sound .sound) o (other-first .removable) apart outside′ outside
+        (place-kept l x (i .takeable) a (i .done) y (pieceAt l y) second-left)
+        (place-kept l y (k .takeable) c (k .done) x (o .piece) first-left))
 
   pub removes-commute : RemoveSays l m′ room′ c → RemoveSays (c .layout) m room d
       → RemoveAccepted l m′ room′ c × RemoveAccepted (c .layout) m room d × SameTree (b .layout) (d .layout)
+  unfolding snapshotBytes
   removes-commute says after =
-      let other = other-first says in
-      let last = then-first other after in
-      (other, last, all-accepted l sized m m′ apart outside′ outside room room′ a b c d one then other last)
+      let other = remove-allowed l m′ named room′ other-first other-fits c says in
+      let last = remove-allowed (c .layout) m (names other) room (then-first other) (first-fits other) d after in
+      (other, last, same other (accepted-remove (c .layout) m room d (k other .done .next .sized) last) .bytes)
