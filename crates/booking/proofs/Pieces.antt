@@ -1,6 +1,6 @@
 -- The pieces of a booked tree: those of the tree without the free piece, and those of the block; no place is in both. A free piece has no
 -- children, so nothing else goes with it. It rests on tree's laws of what stays (Kept, Stays).
-use mathlib.Core.Path.{_≡_, refl, sym, _∙_}
+use mathlib.Core.Path.{_≡_, sym, _∙_}
 use mathlib.Core.Logic.{_⊎_, inl, inr, ⊎-elim}
 use Prim.Native.Nat.{ℕ}
 use borrow.Author.Tests.{eq-eqb, ne-eqb}
@@ -8,25 +8,21 @@ use Rattle.piece.specs.declared.size.Size.{Size}
 use Rattle.piece.specs.declared.node.Datum.{Datum}
 use Rattle.piece.specs.declared.node.Kind.the-variants.{Free}
 use Rattle.piece.specs.Row.{nil, grow}
-use Rattle.tree.specs.Tree.{Tree, In, At}
+use Rattle.tree.specs.Tree.{Tree, In, At, rest}
 use Rattle.tree.specs.Sound.{Sound}
 use Rattle.tree.specs.Booking.{Booking, block, book}
 use Rattle.tree.specs.Accepted.{Fresh}
 use Rattle.tree.proofs.Rows.{same?, in-eq, at-in, after-nil}
-use Rattle.tree.proofs.Kept.{Where, Alone, free-alone, change}
+use Rattle.tree.proofs.Kept.{Where, Alone, free-alone}
 use Rattle.tree.proofs.Places.{in-less, gone}
 use Rattle.tree.proofs.Stays.{at-book}
 use Rattle.tree.proofs.Blocks.{block-in, block-distinct}
-use Rattle.tree.proofs.BookKept.{rest, book-distinct}
+use Rattle.tree.proofs.BookKept.{book-distinct}
 use Rattle.tree.proofs.Bookings.{at-unique}
 use Rattle.table.specs.Steps.{less}
 use Rattle.table.proofs.Unlink.{less-at}
 
 -- what is left of the tree is what a change to nothing leaves
-less-is : (x : ℕ) (w : Tree) → less x w ≡ change x rest w
-less-is x nil = refl
-less-is x (grow p d k r) = rw (less-is x k, less-is x r)
-
 -- d stands at x, without children and last of its row
 module _ (x : ℕ) (d : Datum) (i : ℕ) (e : Datum) where
   -- every other piece is left
@@ -78,10 +74,10 @@ module _ (limit stages : ℕ) (sheet : Size) (w : Tree) (sound : Sound limit sta
 
   -- the place x is not left
   pub less-gone : In x (less x w) → ⊥
-  less-gone h = gone x rest (λ j e r o. o) w (sound .distinct) (rw (less-is x w) at h)
+  less-gone h = gone x rest (λ j e r o. o) w (sound .distinct) h
 
   pub less-in : (i : ℕ) → In i (less x w) → In i w
-  less-in i h = in-less x rest (λ j e r o. o) i w (rw (less-is x w) at h)
+  less-in i h = in-less x rest (λ j e r o. o) i w h
 
   pub less-was : (i : ℕ) (e : Datum) → At i e (less x w) → At i e w × (i ≡ x → ⊥)
   less-was i e h = (less-at i e x w h, λ z. less-gone (in-eq (less x w) z (at-in i e (less x w) h)))

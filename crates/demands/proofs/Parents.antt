@@ -10,16 +10,15 @@ use Rattle.piece.specs.declared.size.Size.{Size}
 use Rattle.piece.specs.declared.node.Datum.{Datum}
 use Rattle.piece.specs.declared.node.Kind.the-variants.{Free}
 use Rattle.piece.specs.Row.{nil, grow}
-use Rattle.tree.specs.Tree.{Tree, In, At, Distinct, after, isFree, isNil}
+use Rattle.tree.specs.Tree.{Tree, In, At, Distinct, after, change, rest, isFree, isNil}
 use Rattle.tree.specs.Sound.{Sound}
-use Rattle.tree.specs.Booking.{Booking, block, book}
-use Rattle.tree.specs.Removal.{withoutLast, settled, remove, cleared}
+use Rattle.tree.specs.Booking.{Booking, block, booked, book}
+use Rattle.tree.specs.Removal.{withoutLast, settled, remove, left, cleared}
 use Rattle.tree.specs.Accepted.{Fresh}
 use Rattle.tree.proofs.Rows.{same?, in-eq, at-in, in-first, in-second}
-use Rattle.tree.proofs.Kept.{change}
 use Rattle.tree.proofs.Places.{in-less}
-use Rattle.tree.proofs.BookKept.{booked, rest, book-is, book-distinct}
-use Rattle.tree.proofs.RemoveKept.{left, remove-is, cleared-is, in-left, remove-distinct}
+use Rattle.tree.proofs.BookKept.{book-distinct}
+use Rattle.tree.proofs.RemoveKept.{in-left, remove-distinct}
 use Rattle.tree.proofs.Stays.{at-remove}
 use Rattle.table.specs.Steps.{less}
 use Rattle.table.proofs.Kids.{after-apart}
@@ -174,30 +173,25 @@ module _ (x : ℕ) (g f : Datum → Tree → Tree) (less-row : (j : ℕ) (d : Da
 
 -- ---- a booking
 
-less-is : (x : ℕ) (w : Tree) → less x w ≡ change x rest w
-less-is x nil = refl
-less-is x (grow p d k r) = rw (less-is x k, less-is x r)
-
 -- b is booked in the free piece d at x: a piece that is left keeps its parent
 module _ (limit stages : ℕ) (sheet : Size) (w : Tree) (sound : Sound limit stages sheet w) (x : ℕ) (d : Datum) (there : At x d w)
     (free : d .kind ≡ Free) (b : Booking) (new : Fresh limit x b w) where
   pub book-parent : (i : ℕ) (e : Datum) → At i e (less x w) → SameParent limit i w (book x b w)
-  book-parent i e h = record { same = same; there = ⊎-elim inl (λ z. inr (held (in-at q (less x w) (rw (less-is x w) z)))) stays }
+  book-parent i e h = record { same = same; there = ⊎-elim inl (λ z. inr (held (in-at q (less x w) z))) stays }
     where
       q : ℕ
       q = parentOf limit i w
 
       l : In i (change x rest w)
-      l = rw (less-is x w) at (at-in i e (less x w) h)
+      l = at-in i e (less x w) h
 
       same-row : (v : ℕ) (c : Datum) (r : Tree) → Distinct (booked b c r) → In i r → parentIn i v (booked b c r) ≡ parentIn i v r
       same-row v c r a z = parent-second i v (block b c) r (λ y. after-apart (block b c) r a i y z)
 
       same : parentOf limit i (book x b w) ≡ parentOf limit i w
       same =
-          rw (book-is x b w)
-          (parent-change x rest (booked b) (λ j c r z. z) (λ j c r z. in-second j (block b c) r z) i same-row (λ v c r. parent-in i v r) limit w
-          (sound .distinct) (rw (book-is x b w) at (book-distinct limit x b w (sound .distinct) new)) l)
+          parent-change x rest (booked b) (λ j c r z. z) (λ j c r z. in-second j (block b c) r z) i same-row (λ v c r. parent-in i v r) limit w
+          (sound .distinct) (book-distinct limit x b w (sound .distinct) new) l
 
       stays : (q ≡ limit) ⊎ In q (change x rest w)
       stays =
@@ -217,13 +211,13 @@ module _ (limit stages : ℕ) (sheet : Size) (w : Tree) (sound : Sound limit sta
 module _ (limit x n s : ℕ) (w : Tree) (apart : Distinct w) (new : In n (cleared x w) → ⊥) where
   pub remove-parent : (i : ℕ) (e : Datum) → At i e (cleared x w) → SameParent limit i w (remove x n s w)
   unfolding settled
-  remove-parent i e h = record { same = same; there = ⊎-elim inl (λ z. inr (held (in-at q (cleared x w) (rw (cleared-is x w) z)))) stays }
+  remove-parent i e h = record { same = same; there = ⊎-elim inl (λ z. inr (held (in-at q (cleared x w) z))) stays }
     where
       q : ℕ
       q = parentOf limit i w
 
       l : In i (change x left w)
-      l = rw (cleared-is x w) at (at-in i e (cleared x w) h)
+      l = at-in i e (cleared x w) h
 
       more : (j : ℕ) (c : Datum) (r : Tree) → In j (withoutLast r) → In j (settled n s c r)
       more j c r z = in-first j (withoutLast r) _ z
@@ -237,9 +231,8 @@ module _ (limit x n s : ℕ) (w : Tree) (apart : Distinct w) (new : In n (cleare
 
       same : parentOf limit i (remove x n s w) ≡ parentOf limit i w
       same =
-          rw (remove-is x n s w)
-          (parent-change x left (settled n s) (λ j c r z. in-left j r z) more i same-row held-row limit w
-          apart (rw (remove-is x n s w) at (remove-distinct x n s w apart new)) l)
+          parent-change x left (settled n s) (λ j c r z. in-left j r z) more i same-row held-row limit w
+          apart (remove-distinct x n s w apart new) l
 
       stays : (q ≡ limit) ⊎ In q (change x left w)
       stays = parent-stays x left (settled n s) (λ j c r z. in-left j r z) more i same-row held-row limit w apart l

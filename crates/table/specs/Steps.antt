@@ -12,7 +12,7 @@ use Rattle.piece.specs.declared.node.Datum.{Datum}
 use Rattle.piece.specs.Row.{nil, grow}
 use Rattle.piece.specs.declared.insertion_blueprint.InsertionNode.{InsertionNode}
 use Rattle.piece.specs.Insertion.{Made}
-use Rattle.tree.specs.Tree.{Tree, At, isFree, after}
+use Rattle.tree.specs.Tree.{Tree, At, isFree, after, change, rest}
 use Rattle.tree.specs.Removal.{subtree}
 use Rattle.table.specs.declared.Node.{Node}
 use Rattle.table.specs.Table.{mk, zeroNode, at, append, unlink}
@@ -28,8 +28,7 @@ app q a d w = hang q (grow a d nil nil) w
 
 -- the piece x goes, with all below it
 abbrev pub less : ℕ → Tree → Tree
-less x nil = nil
-less x (grow p d k r) = cond (eqb p x) r (grow p d (less x k) (less x r))
+less x t = change x rest t
 
 -- the tree has one top, at place 0
 abbrev pub Rooted : Tree → Type 0

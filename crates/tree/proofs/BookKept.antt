@@ -1,30 +1,19 @@
 -- Booking: the block that takes the place of a free piece keeps the tree as it must be, and its places are new.
-use mathlib.Core.Path.{_≡_, refl, _∙_}
+use mathlib.Core.Path.{_≡_, _∙_}
 use mathlib.Core.Logic.{_⊎_, inl, inr, ⊎-elim}
 use Prim.Native.Nat.{ℕ}
 use Rattle.piece.specs.declared.size.Size.{Size}
 use Rattle.piece.specs.declared.node.Datum.{Datum}
 use Rattle.piece.specs.declared.node.Kind.the-variants.{Free}
-use Rattle.piece.specs.Row.{nil, grow}
-use Rattle.tree.specs.Tree.{Tree, In, At, Distinct, after}
+use Rattle.piece.specs.Row.{grow}
+use Rattle.tree.specs.Tree.{Tree, In, At, Distinct, change, rest}
 use Rattle.tree.specs.Sound.{Children, Topped}
-use Rattle.tree.specs.Booking.{Booking, block, book}
+use Rattle.tree.specs.Booking.{Booking, block, booked, book}
 use Rattle.tree.specs.Accepted.{Fitting, Fresh}
 use Rattle.tree.proofs.Rows.{in-eq, after-nil, in-after, distinct-after}
-use Rattle.tree.proofs.Kept.{Alone, only, not-top, free-alone, change, Exchange, topped}
+use Rattle.tree.proofs.Kept.{Alone, only, not-top, free-alone, Exchange, topped}
 use Rattle.tree.proofs.Places.{in-less, gone, distinct-change}
 use Rattle.tree.proofs.Blocks.{New, block-in, block-distinct, block-exchange}
-
--- what is booked in the place of a free piece, and what stays of its row
-abbrev pub booked : Booking → Datum → Tree → Tree
-booked b d r = after (block b d) r
-
-abbrev pub rest : Datum → Tree → Tree
-rest d r = r
-
-pub book-is : (x : ℕ) (b : Booking) (t : Tree) → book x b t ≡ change x (booked b) t
-book-is x b nil = refl
-book-is x b (grow y d k r) = rw (book-is x b k, book-is x b r)
 
 booked-exchange : (stages : ℕ) (b : Booking) (d : Datum) → Fitting stages d b → (q e : Datum) (y : ℕ) (k r : Tree)
     → Alone d e k r → Children stages q (grow y e k r) → Exchange stages q (grow y e k r) (booked b e r)
@@ -33,9 +22,8 @@ booked-exchange stages b d f q e y k r z = rw (z .0, z .1, z .2, after-nil (bloc
 pub book-topped : (stages : ℕ) (sheet : Size) (x : ℕ) (d : Datum) (b : Booking) (t : Tree) → Topped stages sheet t → Distinct t → At x d t
     → d .kind ≡ Free → Fitting stages d b → Topped stages sheet (book x b t)
 book-topped stages sheet x d b t h u i a f =
-    rw book-is
-    (topped stages x (booked b) (Alone d) (booked-exchange stages b d f) sheet t h
-    (not-top stages sheet x d t h (only x d t u i) a) (free-alone stages sheet x d t h u i a))
+    topped stages x (booked b) (Alone d) (booked-exchange stages b d f) sheet t h
+    (not-top stages sheet x d t h (only x d t u i) a) (free-alone stages sheet x d t h u i a)
 
 -- the places of the row with the block
 pub booked-in : (b : Booking) (i : ℕ) (d : Datum) (r : Tree) → In i (booked b d r) → In i (rest d r) ⊎ New b i
@@ -43,10 +31,9 @@ booked-in b i d r h = ⊎-elim (λ z. inr (block-in b d i z)) inl (in-after i (b
 
 pub book-distinct : (limit x : ℕ) (b : Booking) (t : Tree) → Distinct t → Fresh limit x b t → Distinct (book x b t)
 book-distinct limit x b t u f =
-    rw book-is
-    (distinct-change x rest (booked b) (New b) (booked-in b) (λ i d r h. h)
+    distinct-change x rest (booked b) (New b) (booked-in b) (λ i d r h. h)
     (λ d r v m. distinct-after (block b d) r (block-distinct b d (f .apart)) v (λ i h g. m i (block-in b d i h) g)) t u
-    (λ i z h. gone x rest (λ j d r o. o) t u (in-eq (change x rest t) (held i z (in-less x rest (λ j d r o. o) i t h)) h)))
+    (λ i z h. gone x rest (λ j d r o. o) t u (in-eq (change x rest t) (held i z (in-less x rest (λ j d r o. o) i t h)) h))
   where
     held : (i : ℕ) → New b i → In i t → i ≡ x
     held i z h = z .2 ∙ f .unheld (z .0) (z .1) (in-eq t (z .2) h)

@@ -1,11 +1,10 @@
 -- Bookings: two in different free pieces, and one that is taken back. Assumes nothing.
 use mathlib.Core.Path.{_≡_, refl, sym, ap₂, _∙_, subst}
-use mathlib.Core.Bool.{Bool, true, false, cond}
+use mathlib.Core.Bool.{true}
 use mathlib.Core.Logic.{_⊎_, inl, inr}
 use Prim.Native.Nat.{ℕ, _+_, _-_, _≤_, _<_}
 use native.Mathlib.Nat.{add-sub-of-le}
 use native.Mathlib.Omega.{arith}
-use lib.Dec.{eqb}
 use borrow.Author.Tests.{eq-eqb, ne-eqb}
 use Rattle.piece.specs.declared.orientation.Orientation.{Orientation}
 use Rattle.piece.specs.declared.size.Size.{Size}
@@ -20,13 +19,14 @@ use Rattle.piece.specs.Offers.{fits}
 use Rattle.piece.specs.Insertion.{Made, laidAll, blockOf, table}
 use Rattle.tree.specs.Tree.{Tree, In, At, Distinct, after}
 use Rattle.tree.specs.Sound.{FreePiece, Kinded, Children, Sound}
-use Rattle.tree.specs.Snapshot.{shape, bare}
-use Rattle.tree.specs.Booking.{Booking, planted, block, book}
-use Rattle.tree.specs.Removal.{freed, joined, settled, remove}
+use Rattle.tree.specs.Snapshot.{shape}
+use Rattle.tree.specs.Booking.{Booking, planted, block, booked, book}
+use Rattle.tree.specs.Removal.{joined, settled, remove}
 use Rattle.tree.specs.Apart.{Alike, Clear}
 use Rattle.piece.proofs.Sizes.{laid-twice, fits-laid, fits-sides}
 use Rattle.tree.proofs.Rows.{same?, in-eq, at-in, after-nil}
 use Rattle.tree.proofs.Shapes.{shape-after}
+use Rattle.tree.proofs.Changes.{past, alike, commute}
 
 -- Two bookings in different free pieces.
 
@@ -45,15 +45,8 @@ module _ {b b′ : Booking} (a : Alike b b′) where
       planted-alike (d .level) (d .cut) (blockOf (b .shape) (d .cut) (d .size) (b .size))
       ∙ ap₂ (λ (i : InsertionShape) (z : Size). shape (planted b′ (d .level) (d .cut) (blockOf i (d .cut) (d .size) z))) (a .shape) (a .size)
 
-  book-alike : (x : ℕ) (t : Tree) → shape (book x b t) ≡ shape (book x b′ t)
-  book-alike x nil = refl
-  book-alike x (grow p d k r) = go (eqb p x) (book-alike x k) (book-alike x r)
-    where
-      go : (w : Bool) → shape (book x b k) ≡ shape (book x b′ k) → shape (book x b r) ≡ shape (book x b′ r)
-          → shape (cond w (after (block b d) r) (grow p d (book x b k) (book x b r)))
-          ≡ shape (cond w (after (block b′ d) r) (grow p d (book x b′ k) (book x b′ r)))
-      go true ik ir = simp shape-after (rw (block-alike d))
-      go false ik ir = rw (ik, ir)
+  booked-alike : (d : Datum) (r : Tree) → shape (after (block b d) r) ≡ shape (after (block b′ d) r)
+  booked-alike d r = simp shape-after (rw (block-alike d))
 
 -- the numbers of a block's nodes are below this one
 abbrev Under : ℕ → Row Made → Type 0
@@ -80,40 +73,19 @@ module _ (y : ℕ) (b : Booking) (h : Clear y b) where
   block-clear d =
       planted-clear (d .level) (d .cut) (blockOf (b .shape) (d .cut) (d .size) (b .size)) (five (b .shape) (d .cut) (d .size) (b .size))
 
--- a booking at a place that a row does not have, and past such a row
-module _ (y : ℕ) (c : Booking) where
-  book-absent : (a : Tree) → (In y a → ⊥) → book y c a ≡ a
-  book-absent nil n = refl
-  book-absent (grow p d k r) n =
-      rw (ne-eqb p y (λ e. n (inl (sym e))), book-absent k (λ h. n (inr (inl h))), book-absent r (λ h. n (inr (inr h))))
-
-  book-past : (a r : Tree) → (In y a → ⊥) → book y c (after a r) ≡ after a (book y c r)
-  book-past nil r n = refl
-  book-past (grow p d k q) r n =
-      rw (ne-eqb p y (λ e. n (inl (sym e))), book-absent k (λ h. n (inr (inl h))), book-past q r (λ h. n (inr (inr h))))
-
 -- a booking among the later siblings of a block
 book-behind : (y : ℕ) (b b′ c c′ : Booking) (d : Datum) (r : Tree) → Clear y b → Alike b b′ → Alike c c′
     → shape (book y c (after (block b d) r)) ≡ shape (after (block b′ d) (book y c′ r))
 book-behind y b b′ c c′ d r n ab ac =
-    rw (book-past y c (block b d) r (block-clear y b n d)) (simp shape-after (rw (block-alike ab d, book-alike ac y r)))
+    rw (past y (booked c) (block b d) r (block-clear y b n d))
+    (simp shape-after (rw (block-alike ab d, alike y (booked c) (booked c′) (booked-alike ac) r)))
 
-module _ (x y : ℕ) (b c b′ c′ : Booking) where
-  -- whichever is first
-  abbrev Commute : Tree → Type 0
-  Commute t = shape (book y c (book x b t)) ≡ shape (book x b′ (book y c′ t))
-
-  pub books-commute : (x ≡ y → ⊥) → Clear y b → Clear x c′ → Alike b b′ → Alike c c′ → (t : Tree) → Commute t
-  books-commute n nb nc ab ac nil = refl
-  books-commute n nb nc ab ac (grow p d k r) =
-      go (same? p x) (same? p y) (books-commute n nb nc ab ac k) (books-commute n nb nc ab ac r)
-    where
-      go : (p ≡ x) ⊎ (p ≡ x → ⊥) → (p ≡ y) ⊎ (p ≡ y → ⊥) → Commute k → Commute r → Commute (grow p d k r)
-      go (inl e) (inl f) ik ir = absurd (n (sym e ∙ f))
-      go (inl e) (inr l) ik ir = rw (eq-eqb p x e, ne-eqb p y l, eq-eqb p x e) (book-behind y b b′ c c′ d r nb ab ac)
-      go (inr m) (inl f) ik ir =
-          rw (ne-eqb p x m, eq-eqb p y f) (sym (book-behind x c′ c b′ b d r nc (alike-sym ac) (alike-sym ab)))
-      go (inr m) (inr l) ik ir = rw (ne-eqb p x m, ne-eqb p y l, ne-eqb p x m, ik, ir)
+pub books-commute : (x y : ℕ) (b c b′ c′ : Booking) → (x ≡ y → ⊥) → Clear y b → Clear x c′ → Alike b b′ → Alike c c′ → (t : Tree)
+    → shape (book y c (book x b t)) ≡ shape (book x b′ (book y c′ t))
+books-commute x y b c b′ c′ n nb nc ab ac t =
+    commute x y (booked b) (booked c) (booked b′) (booked c′) n (λ r. Unit {0}) (λ p d k r w. tt) (λ p d k r w. tt)
+    (λ d k r w. book-behind y b b′ c c′ d r nb ab ac)
+    (λ d k r w. sym (book-behind x c′ c b′ b d r nc (alike-sym ac) (alike-sym ab))) t tt
 
 -- A booking that is taken back: the first piece of its block goes.
 

@@ -1,5 +1,5 @@
 -- How many nodes a booking and a removal leave, and at which places.
-use mathlib.Core.Path.{_≡_, refl, sym, ap}
+use mathlib.Core.Path.{_≡_, sym, ap}
 use mathlib.Core.Bool.{Bool, true, false, cond}
 use mathlib.Core.Logic.{_⊎_, inl, inr, ⊎-elim}
 use Prim.Native.Nat.{ℕ, _+_, _≤_}
@@ -11,16 +11,17 @@ use Rattle.piece.specs.declared.node.Datum.{Datum}
 use Rattle.piece.specs.declared.node.Kind.the-variants.{Free}
 use Rattle.piece.specs.Row.{nil, grow}
 use Rattle.piece.specs.Insertion.{newNodes}
-use Rattle.tree.specs.Tree.{Tree, In, At, Distinct, count}
+use Rattle.tree.specs.Tree.{Tree, In, At, Distinct, count, change, rest}
 use Rattle.tree.specs.Sound.{Sound}
-use Rattle.tree.specs.Booking.{Booking, book}
-use Rattle.tree.specs.Removal.{settled, remove, cleared}
+use Rattle.tree.specs.Booking.{Booking, booked, book}
+use Rattle.tree.specs.Removal.{settled, remove, left, cleared}
 use Rattle.tree.proofs.Rows.{same?, in-eq, at-in, count-after}
-use Rattle.tree.proofs.Kept.{Where, Alone, free-alone, change}
+use Rattle.tree.proofs.Kept.{Where, Alone, free-alone}
 use Rattle.tree.proofs.Places.{in-less, gone, in-change}
 use Rattle.tree.proofs.Blocks.{New, block-count}
-use Rattle.tree.proofs.BookKept.{booked, rest, book-is, booked-in}
-use Rattle.tree.proofs.RemoveKept.{remove-is, cleared-is, left, in-left, settled-in, settled-count}
+use Rattle.tree.proofs.BookKept.{booked-in}
+use Rattle.tree.proofs.RemoveKept.{in-left, settled-in, settled-count}
+use Rattle.tree.proofs.Changes.{absent}
 
 pub count-remove : (x n s : ℕ) (t : Tree) → count (remove x n s t) ≤ count t
 count-remove x n s nil = omega arith
@@ -32,18 +33,14 @@ count-remove x n s (grow y d k r) = go (eqb y x) (count-remove x n s k) (count-r
     go false a b = omega arith
 
 pub in-cleared : (x i : ℕ) (t : Tree) → In i (cleared x t) → In i t
-in-cleared x i t h = in-less x left (λ j d r. in-left j r) i t (rw cleared-is at h)
+in-cleared x i t h = in-less x left (λ j d r. in-left j r) i t h
 
 pub in-remove : (x n s i : ℕ) (t : Tree) → In i (remove x n s t) → (i ≡ n) ⊎ In i (cleared x t)
 in-remove x n s i t h =
-    ⊎-elim (λ z. inr (rw cleared-is z)) (λ z. inl (z .0)) (in-change x left (settled n s) (λ j. j ≡ n) (settled-in n s) i t (rw remove-is at h))
+    ⊎-elim inr (λ z. inl (z .0)) (in-change x left (settled n s) (λ j. j ≡ n) (settled-in n s) i t h)
 
 module _ (x : ℕ) (f : Datum → Tree → Tree) (P : Datum → Tree → Tree → Type 0) (a c : ℕ)
     (local : (d : Datum) (k r : Tree) → P d k r → count (f d r) + a ≡ 1 + (count k + count r) + c) where
-  absent : (t : Tree) → (In x t → ⊥) → change x f t ≡ t
-  absent nil n = refl
-  absent (grow y d k r) n = rw (ne-eqb y x (λ e. n (inl (sym e))), absent k (λ h. n (inr (inl h))), absent r (λ h. n (inr (inr h))))
-
   count-change : (t : Tree) → In x t → Distinct t → Where x P t → count (change x f t) + a ≡ count t + c
   count-change nil i u w = absurd i
   count-change (grow y d k r) i u w =
@@ -53,17 +50,16 @@ module _ (x : ℕ) (f : Datum → Tree → Tree) (P : Datum → Tree → Tree �
           → (In x r → count (change x f r) + a ≡ count r + c) → count (change x f (grow y d k r)) + a ≡ count (grow y d k r) + c
       go (inl e) i ik ir = rw (eq-eqb y x e) (local d k r (w .0 e))
       go (inr n) (inl e) ik ir = absurd (n (sym e))
-      go (inr n) (inr (inl h)) ik ir = let z = ik h in rw (ne-eqb y x n, absent r (u .2 x h)) (omega arith)
-      go (inr n) (inr (inr h)) ik ir = let z = ir h in rw (ne-eqb y x n, absent k (λ o. u .2 x o h)) (omega arith)
+      go (inr n) (inr (inl h)) ik ir = let z = ik h in rw (ne-eqb y x n, absent x f r (u .2 x h)) (omega arith)
+      go (inr n) (inr (inr h)) ik ir = let z = ir h in rw (ne-eqb y x n, absent x f k (λ o. u .2 x o h)) (omega arith)
 
 -- a booking takes the free piece away and adds the nodes of its shape
 pub count-book : (limit stages : ℕ) (sheet : Size) (t : Tree) (x : ℕ) (d : Datum) (b : Booking) → Sound limit stages sheet t → At x d t
     → d .kind ≡ Free → count (book x b t) + 1 ≡ count t + newNodes (b .shape)
 count-book limit stages sheet t x d b h i a =
-    rw book-is
-    (count-change x (booked b) (Alone d) 1 (newNodes (b .shape))
+    count-change x (booked b) (Alone d) 1 (newNodes (b .shape))
     (λ e k r z. rw count-after (omega (arith, block-count b e, ap count (z .1))))
-    t (at-in x d t i) (h .distinct) (free-alone stages sheet x d t (h .topped) (h .distinct) i a))
+    t (at-in x d t i) (h .distinct) (free-alone stages sheet x d t (h .topped) (h .distinct) i a)
 
 -- a place after a booking was there and is not the free piece's, or is that of a new node
 pub in-book : (x : ℕ) (b : Booking) (i : ℕ) (t : Tree) → Distinct t → In i (book x b t) → (In i t × (i ≡ x → ⊥)) ⊎ New b i
@@ -71,4 +67,4 @@ in-book x b i t u h =
     ⊎-elim
     (λ z. inl (in-less x rest (λ j d r o. o) i t z, λ e. gone x rest (λ j d r o. o) t u (in-eq (change x rest t) e z)))
     (λ z. inr (z .0))
-    (in-change x rest (booked b) (New b) (booked-in b) i t (rw book-is at h))
+    (in-change x rest (booked b) (New b) (booked-in b) i t h)

@@ -1,10 +1,9 @@
 -- A tree whose pieces at one place give way to another row: what of a sound tree is kept. Booking and removal are both of this kind.
 use mathlib.Core.Path.{_≡_, refl, sym, ap, _∙_}
-use mathlib.Core.Bool.{true, cond}
+use mathlib.Core.Bool.{true}
 use mathlib.Core.Logic.{_⊎_, inl, inr}
 use Prim.Native.Nat.{ℕ, _+_, _≤_}
 use native.Mathlib.Omega.{arith}
-use lib.Dec.{eqb}
 use borrow.Author.Tests.{eq-eqb, ne-eqb}
 use Rattle.piece.specs.declared.size.Size.{Size}
 use Rattle.piece.specs.declared.node.Datum.{Datum}
@@ -12,7 +11,7 @@ use Rattle.piece.specs.declared.node.Kind.{Kind}
 use Rattle.piece.specs.declared.node.Kind.the-variants.{Free, Part, Structure}
 use Rattle.piece.specs.Sides.{other, laid}
 use Rattle.piece.specs.Row.{nil, grow}
-use Rattle.tree.specs.Tree.{Tree, In, At, Distinct, count, isFree}
+use Rattle.tree.specs.Tree.{Tree, In, At, Distinct, count, isFree, change}
 use Rattle.tree.specs.Sound.{extent, FreePiece, StructurePiece, Kinded, Children, Topped}
 use Rattle.tree.proofs.Rows.{same?, in-eq, at-in}
 use Rattle.tree.proofs.Pieces.{free-piece, part-piece, structure-piece, top}
@@ -81,11 +80,6 @@ free-alone stages sheet x d (grow p c k r) h u i a =
   where
     alone : (q e : Datum) (y : ℕ) (l m : Tree) → e ≡ d → Children stages q (grow y e l m) → Alone d e l m
     alone q e y l m z g = let f = free-kind (e .kind) e l m (cc) (g .1) in (z, f .childless, f .last)
-
--- the pieces at the place x, with their children, give way to a row that may depend on what they are and on their later siblings
-abbrev pub change : ℕ → (Datum → Tree → Tree) → Tree → Tree
-change x f nil = nil
-change x f (grow y d k r) = cond (eqb y x) (f d r) (grow y d (change x f k) (change x f r))
 
 -- a row of children of q may give way to another one
 pub record Exchange (stages : ℕ) (q : Datum) (u v : Tree) : Type 0 where

@@ -1,5 +1,6 @@
 pub mod Rows
 pub mod Shapes
+pub mod Changes
 pub mod Bookings
 pub mod Removals
 pub mod Areas

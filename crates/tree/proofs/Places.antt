@@ -7,9 +7,8 @@ use lib.Dec.{eqb}
 use borrow.Author.Tests.{eqb-true, eqb-false, eq-eqb, ne-eqb}
 use Rattle.piece.specs.declared.node.Datum.{Datum}
 use Rattle.piece.specs.Row.{nil, grow}
-use Rattle.tree.specs.Tree.{Tree, In, Distinct}
+use Rattle.tree.specs.Tree.{Tree, In, Distinct, change}
 use Rattle.tree.proofs.Rows.{same?, in-eq}
-use Rattle.tree.proofs.Kept.{change}
 
 -- what is left was there
 module _ (x : ℕ) (g : Datum → Tree → Tree) (less : (i : ℕ) (d : Datum) (r : Tree) → In i (g d r) → In i r) where

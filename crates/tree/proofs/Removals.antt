@@ -1,11 +1,10 @@
 -- Removals: two of them, whichever is first. Assumes nothing.
 use mathlib.Core.Path.{_≡_, refl, sym, _∙_, subst}
-use mathlib.Core.Bool.{Bool, true, false, cond, false≢true, and-false}
+use mathlib.Core.Bool.{Bool, true, false, false≢true, and-false}
 use mathlib.Core.Option.{Option, none, some}
 use mathlib.Core.Logic.{_⊎_, inl, inr}
 use Prim.Native.Nat.{ℕ}
 use native.Mathlib.Nat.{add-comm, add-left-comm}
-use lib.Dec.{eqb}
 use borrow.Author.Tests.{eq-eqb, ne-eqb}
 use Rattle.piece.specs.declared.orientation.Orientation.{Orientation}
 use Rattle.piece.specs.declared.size.Size.{Size}
@@ -22,6 +21,7 @@ use Rattle.tree.specs.Apart.{Removable}
 use Rattle.piece.proofs.Sizes.{laid-twice}
 use Rattle.tree.proofs.Rows.{same?}
 use Rattle.tree.proofs.Shapes.{shape-after}
+use Rattle.tree.proofs.Changes.{alike, commute}
 use Rattle.tree.proofs.Bookings.{at-unique}
 
 -- What stands at the end of a row.
@@ -58,15 +58,8 @@ unfolding settled
 shape-settled n s d r = shape-after (withoutLast r) (grow n (freed s d (board d (lastFree r))) nil nil)
 
 -- the new piece's marks do not count
-shape-remove : (x n s n′ s′ : ℕ) (t : Tree) → shape (remove x n s t) ≡ shape (remove x n′ s′ t)
-shape-remove x n s n′ s′ nil = refl
-shape-remove x n s n′ s′ (grow p d k r) = go (eqb p x) (shape-remove x n s n′ s′ k) (shape-remove x n s n′ s′ r)
-  where
-    go : (b : Bool) → shape (remove x n s k) ≡ shape (remove x n′ s′ k) → shape (remove x n s r) ≡ shape (remove x n′ s′ r)
-        → shape (cond b (settled n s d r) (grow p d (remove x n s k) (remove x n s r)))
-        ≡ shape (cond b (settled n′ s′ d r) (grow p d (remove x n′ s′ k) (remove x n′ s′ r)))
-    go true ik ir = shape-settled n s d r ∙ sym (shape-settled n′ s′ d r)
-    go false ik ir = rw (ik, ir)
+settled-alike : (n s n′ s′ : ℕ) (d : Datum) (r : Tree) → shape (settled n s d r) ≡ shape (settled n′ s′ d r)
+settled-alike n s n′ s′ d r = shape-settled n s d r ∙ sym (shape-settled n′ s′ d r)
 
 -- Two boards of one row.
 
@@ -133,38 +126,31 @@ module _ (stages y n s m s′ n′ u m′ u′ : ℕ) (q d : Datum) where
             ne-eqb z y l,
             settled-past n′ u d z e (remove y m′ u′ k) (remove y m′ u′ r) f,
             ih,
-            shape-remove y m s′ m′ u′ k,
+            alike y (settled m s′) (settled m′ u′) (settled-alike m s′ m′ u′) k,
           )
 
 module _ (stages x y n s m s′ n′ u m′ u′ : ℕ) where
-  -- whichever goes first
-  abbrev Commute : Tree → Type 0
-  Commute t = shape (remove y m s′ (remove x n s t)) ≡ shape (remove x n′ u (remove y m′ u′ t))
+  -- a row of children, in which neither x nor y is free
+  abbrev Row : Tree → Type 0
+  Row r = (q : Datum) × Children stages q r × Solid x r × Solid y r
 
-  row-removals : (x ≡ y → ⊥) → (y ≡ n → ⊥) → (x ≡ m′ → ⊥) → (q : Datum) (r : Tree) → Children stages q r → Solid x r → Solid y r → Commute r
-  row-removals xy yn xm q nil w ox oy = refl
-  row-removals xy yn xm q (grow z d k r) w ox oy =
-      go (same? z x) (same? z y) (row-removals xy yn xm d k (w .2) (λ e g. ox e (inr (inl g))) (λ e g. oy e (inr (inl g))))
-      (row-removals xy yn xm q r (w .3) (λ e g. ox e (inr (inr g))) (λ e g. oy e (inr (inr g))))
-    where
-      go : (z ≡ x) ⊎ (z ≡ x → ⊥) → (z ≡ y) ⊎ (z ≡ y → ⊥) → Commute k → Commute r → Commute (grow z d k r)
-      go (inl e) (inl f) ik ir = absurd (xy (sym e ∙ f))
-      go (inl e) (inr f) ik ir =
-          rw (eq-eqb z x e, ne-eqb z y f, eq-eqb z x e)
-          (behind stages y n s m s′ n′ u m′ u′ q d yn (w .0) r (w .3) (λ i g. oy i (inr (inr g))))
-      go (inr e) (inl f) ik ir =
-          rw (ne-eqb z x e, eq-eqb z y f)
-          (sym (behind stages x m′ u′ n′ u m s′ n s q d xm (w .0) r (w .3) (λ i g. ox i (inr (inr g)))))
-      go (inr e) (inr f) ik ir = rw (ne-eqb z x e, ne-eqb z y f, ne-eqb z x e, ik, ir)
+  row-removals : (x ≡ y → ⊥) → (y ≡ n → ⊥) → (x ≡ m′ → ⊥) → (r : Tree) → Row r
+      → shape (remove y m s′ (remove x n s r)) ≡ shape (remove x n′ u (remove y m′ u′ r))
+  row-removals xy yn xm =
+      commute x y (settled n s) (settled m s′) (settled n′ u) (settled m′ u′) xy Row
+      (λ p d k r w. (d, w .1 .2, (λ e g. w .2 e (inr (inl g))), (λ e g. w .3 e (inr (inl g)))))
+      (λ p d k r w. (w .0, w .1 .3, (λ e g. w .2 e (inr (inr g))), (λ e g. w .3 e (inr (inr g)))))
+      (λ d k r w. behind stages y n s m s′ n′ u m′ u′ (w .0) d yn (w .1 .0) r (w .1 .3) (λ e g. w .3 e (inr (inr g))))
+      (λ d k r w. sym (behind stages x m′ u′ n′ u m s′ n s (w .0) d xm (w .1 .0) r (w .1 .3) (λ e g. w .2 e (inr (inr g)))))
 
   -- the top stays: both go from below it
   pub removes-commute : {limit : ℕ} {sheet : Size} (t : Tree) → Sound limit stages sheet t → Removable x t → Removable y t
-      → (x ≡ y → ⊥) → (y ≡ n → ⊥) → (x ≡ m′ → ⊥) → Commute t
+      → (x ≡ y → ⊥) → (y ≡ n → ⊥) → (x ≡ m′ → ⊥) → shape (remove y m s′ (remove x n s t)) ≡ shape (remove x n′ u (remove y m′ u′ t))
   removes-commute nil w ax ay xy yn xm = refl
   removes-commute (grow p d k r) w ax ay xy yn xm =
       let top = w .topped .0 in
       let nx = ne-eqb p x (λ e. ax .below (sym e ∙ top .place)) in
       let ox = solid x (grow p d k r) (w .distinct) ax in
       let oy = solid y (grow p d k r) (w .distinct) ay in
-      let ik = row-removals xy yn xm d k (w .topped .1) (λ e g. ox e (inr (inl g))) (λ e g. oy e (inr (inl g))) in
+      let ik = row-removals xy yn xm k (d, w .topped .1, (λ e g. ox e (inr (inl g))), (λ e g. oy e (inr (inl g)))) in
       rw (nx, ne-eqb p y (λ e. ay .below (sym e ∙ top .place)), nx, ik, top .alone)

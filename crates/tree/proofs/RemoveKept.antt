@@ -14,26 +14,14 @@ use Rattle.piece.specs.declared.node.Kind.the-variants.{Free, Part, Structure}
 use Rattle.piece.specs.Sides.{sized, laid}
 use Rattle.piece.specs.Row.{nil, grow}
 use Rattle.piece.proofs.Sizes.{laid-twice}
-use Rattle.tree.specs.Tree.{Tree, In, Distinct, count, after, isFree, isNil}
+use Rattle.tree.specs.Tree.{Tree, In, Distinct, count, after, isFree, isNil, change}
 use Rattle.tree.specs.Sound.{extent, Kinded, Child, Children, Topped}
-use Rattle.tree.specs.Removal.{freed, joined, board, lastFree, withoutLast, settled, remove, cleared}
+use Rattle.tree.specs.Removal.{freed, joined, board, lastFree, withoutLast, settled, remove, left, cleared}
 use Rattle.tree.specs.Apart.{Removable}
 use Rattle.tree.proofs.Rows.{in-eq, count-after, in-after, distinct-after}
 use Rattle.tree.proofs.Pieces.{free-piece, child}
-use Rattle.tree.proofs.Kept.{This, only, free-kind, change, Exchange, topped}
+use Rattle.tree.proofs.Kept.{This, only, free-kind, Exchange, topped}
 use Rattle.tree.proofs.Places.{distinct-change}
-
-pub remove-is : (x n s : ℕ) (t : Tree) → remove x n s t ≡ change x (settled n s) t
-remove-is x n s nil = refl
-remove-is x n s (grow y d k r) = rw (remove-is x n s k, remove-is x n s r)
-
--- what is left of the later siblings before the new piece is there
-abbrev pub left : Datum → Tree → Tree
-left d r = withoutLast r
-
-pub cleared-is : (x : ℕ) (t : Tree) → cleared x t ≡ change x left t
-cleared-is x nil = refl
-cleared-is x (grow y d k r) = rw (cleared-is x k, cleared-is x r)
 
 -- the board that a free piece of the row adds
 abbrev spare : Orientation → Option Datum → ℕ
@@ -128,12 +116,10 @@ settled-count n s d r = rw count-after (omega (arith, count-left r))
 pub remove-topped : (stages : ℕ) (sheet : Size) (x n s : ℕ) (t : Tree) → Topped stages sheet t → Distinct t → Removable x t
     → Topped stages sheet (remove x n s t)
 remove-topped stages sheet x n s t h u m =
-    rw remove-is
-    (topped stages x (settled n s) (This (m .piece)) (λ q d y k r z. settled-exchange stages n s q d y k r) sheet t h (m .below)
-    (only x (m .piece) t u (m .there)))
+    topped stages x (settled n s) (This (m .piece)) (λ q d y k r z. settled-exchange stages n s q d y k r) sheet t h (m .below)
+    (only x (m .piece) t u (m .there))
 
 pub remove-distinct : (x n s : ℕ) (t : Tree) → Distinct t → (In n (cleared x t) → ⊥) → Distinct (remove x n s t)
 remove-distinct x n s t u m =
-    rw remove-is
-    (distinct-change x left (settled n s) (λ i. i ≡ n) (settled-in n s) (λ i d r. in-left i r) (settled-distinct n s) t u
-    (λ i e h. m (rw cleared-is (in-eq (change x left t) e h))))
+    distinct-change x left (settled n s) (λ i. i ≡ n) (settled-in n s) (λ i d r. in-left i r) (settled-distinct n s) t u
+    (λ i e h. m (in-eq (change x left t) e h))

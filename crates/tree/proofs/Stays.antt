@@ -9,14 +9,12 @@ use borrow.Author.Tests.{eq-eqb, ne-eqb}
 use Rattle.piece.specs.declared.size.Size.{Size}
 use Rattle.piece.specs.declared.node.Datum.{Datum}
 use Rattle.piece.specs.Row.{nil, grow}
-use Rattle.tree.specs.Tree.{Tree, At, Inside, after, isFree}
+use Rattle.tree.specs.Tree.{Tree, At, Inside, after, isFree, change}
 use Rattle.tree.specs.Sound.{Children, Topped}
-use Rattle.tree.specs.Booking.{Booking, block, book}
-use Rattle.tree.specs.Removal.{withoutLast, settled, remove, cleared}
+use Rattle.tree.specs.Booking.{Booking, block, booked, book}
+use Rattle.tree.specs.Removal.{withoutLast, settled, remove, left, cleared}
 use Rattle.tree.proofs.Rows.{same?, at-in}
-use Rattle.tree.proofs.Kept.{Where, Alone, free-kind, change}
-use Rattle.tree.proofs.RemoveKept.{remove-is, cleared-is, left}
-use Rattle.tree.proofs.BookKept.{booked, book-is}
+use Rattle.tree.proofs.Kept.{Where, Alone, free-kind}
 
 at-first : (i : ℕ) (e : Datum) (a b : Tree) → At i e a → At i e (after a b)
 at-first i e nil b h = absurd h
@@ -61,13 +59,11 @@ at-others x f P i e bare more n (grow y d k r) w h =
 pub at-book : (x : ℕ) (d : Datum) (b : Booking) (i : ℕ) (e : Datum) (t : Tree) → Where x (Alone d) t
     → (i ≡ x → ⊥) → At i e t → At i e (book x b t)
 at-book x d b i e t w n h =
-    rw book-is
-    (at-others x (booked b) (Alone d) i e (λ c k r z. z .1) (λ c r. at-second i e (block b c) r) n t w h)
+    at-others x (booked b) (Alone d) i e (λ c k r z. z .1) (λ c r. at-second i e (block b c) r) n t w h
 
 pub at-remove : (x n s i : ℕ) (e : Datum) (t : Tree) → At i e (cleared x t) → At i e (remove x n s t)
 unfolding settled
-at-remove x n s i e t h =
-    rw remove-is (at-more x left (settled n s) i e (λ d r. at-first i e (withoutLast r) _) t (rw cleared-is at h))
+at-remove x n s i e t h = at-more x left (settled n s) i e (λ d r. at-first i e (withoutLast r) _) t h
 
 -- what is no free piece, is not at x and is not below x, is left
 at-left : (stages : ℕ) (q : Datum) (i : ℕ) (e : Datum) (r : Tree) → Children stages q r → isFree (e .kind) ≡ false → At i e r

@@ -1,17 +1,14 @@
 -- Document 01, "Insertion": a block takes the place of a free piece.
-use mathlib.Core.Bool.{Bool, true, false, cond}
+use mathlib.Core.Bool.{cond}
 use Prim.Native.Nat.{ℕ, _+_}
-use lib.Dec.{eqb}
 use Rattle.piece.specs.declared.orientation.Orientation.{Orientation}
 use Rattle.piece.specs.declared.size.Size.{Size}
 use Rattle.piece.specs.declared.node.Datum.{Datum}
-use Rattle.piece.specs.declared.node.Kind.{Kind}
-use Rattle.piece.specs.declared.node.Kind.the-variants.{Free, Part, Structure}
 use Rattle.piece.specs.declared.insertion_blueprint.InsertionShape.{InsertionShape}
 use Rattle.piece.specs.Sides.{other}
 use Rattle.piece.specs.Row.{Row, nil, grow}
 use Rattle.piece.specs.Insertion.{Made, blockOf}
-use Rattle.tree.specs.Tree.{Tree, isPart, after}
+use Rattle.tree.specs.Tree.{Tree, isPart, after, change}
 
 -- What is booked: a shape; the part's sides in its rotation, and its number; and the marks that the new nodes get: the place of each, by its
 -- place in the order of creation, and the serial of the first, from which "they rise by one per node in creation order".
@@ -46,6 +43,8 @@ block b d = planted b (d .level) (d .cut) (blockOf (b .shape) (d .cut) (d .size)
 
 -- "The free piece W x H goes"; "these nodes are created in order, at the end of their parent's children", where the free piece stood, since it
 -- is last
+abbrev pub booked : Booking → Datum → Tree → Tree
+booked b d r = after (block b d) r
+
 abbrev pub book : ℕ → Booking → Tree → Tree
-book x b nil = nil
-book x b (grow y d k r) = cond (eqb y x) (after (block b d) r) (grow y d (book x b k) (book x b r))
+book x b t = change x (booked b) t

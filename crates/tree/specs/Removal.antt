@@ -1,18 +1,17 @@
 -- Document 01, "Removal": "Let P be the parent. If P's last child is free, that piece and the removed one are replaced by one free piece,
 -- widths added if P's cut is Vertical, heights if Horizontal. If not, the removed node becomes a free piece of its own size. The new piece goes
 -- last. Part numbers of the subtree come out in tree order, first child first."
-use mathlib.Core.Bool.{Bool, true, false, cond, _&&_}
+use mathlib.Core.Bool.{cond, _&&_}
 use mathlib.Core.List.{List, [], _∷_, _++_}
 use mathlib.Core.Option.{Option, none, some}
 use Prim.Native.Nat.{ℕ, _+_}
 use lib.Dec.{eqb}
 use Rattle.piece.specs.declared.size.Size.{Size}
 use Rattle.piece.specs.declared.node.Datum.{Datum}
-use Rattle.piece.specs.declared.node.Kind.{Kind}
-use Rattle.piece.specs.declared.node.Kind.the-variants.{Free, Part, Structure}
+use Rattle.piece.specs.declared.node.Kind.the-variants.{Free}
 use Rattle.piece.specs.Sides.{sized, laid}
-use Rattle.piece.specs.Row.{Row, nil, grow}
-use Rattle.tree.specs.Tree.{Tree, isFree, isPart, isNil, after}
+use Rattle.piece.specs.Row.{nil, grow}
+use Rattle.tree.specs.Tree.{Tree, isFree, isPart, isNil, after, change}
 
 -- the free piece with this serial that stands where d stood, of this size
 abbrev pub freed : ℕ → Datum → Size → Datum
@@ -43,13 +42,14 @@ settled n s d r = after (withoutLast r) (grow n (freed s d (board d (lastFree r)
 
 -- the piece x goes
 abbrev pub remove : ℕ → ℕ → ℕ → Tree → Tree
-remove x n s nil = nil
-remove x n s (grow y d k r) = cond (eqb y x) (settled n s d r) (grow y d (remove x n s k) (remove x n s r))
+remove x n s t = change x (settled n s) t
 
 -- what is left of the tree before the new piece is there: x with all below it, and the free piece at the end of its row, are gone
+abbrev pub left : Datum → Tree → Tree
+left d r = withoutLast r
+
 abbrev pub cleared : ℕ → Tree → Tree
-cleared x nil = nil
-cleared x (grow y d k r) = cond (eqb y x) (withoutLast r) (grow y d (cleared x k) (cleared x r))
+cleared x t = change x left t
 
 -- the piece x with all below it
 abbrev pub subtree : ℕ → Tree → Tree

@@ -1,9 +1,10 @@
 -- Document 01, "The sheet and its pieces": a tree of pieces, as a row. A piece stands at a place and is what its datum says: level, size,
 -- next cut, kind, part number and serial; its children are ordered.
 use mathlib.Core.Path.{_≡_}
-use mathlib.Core.Bool.{Bool, true, false}
+use mathlib.Core.Bool.{Bool, true, false, cond}
 use mathlib.Core.Logic.{_⊎_}
 use Prim.Native.Nat.{ℕ, _+_}
+use lib.Dec.{eqb}
 use Rattle.piece.specs.declared.node.Datum.{Datum}
 use Rattle.piece.specs.declared.node.Kind.{Kind}
 use Rattle.piece.specs.declared.node.Kind.the-variants.{Free, Part, Structure}
@@ -61,3 +62,12 @@ Distinct (grow p d k r) =
 abbrev pub after : {A : Type 0} → Row A → Row A → Row A
 after nil b = b
 after (grow p d k r) b = grow p d k (after r b)
+
+-- the piece x, with its children, gives way to a row that may depend on what it is and on its later siblings
+abbrev pub change : ℕ → (Datum → Tree → Tree) → Tree → Tree
+change x f nil = nil
+change x f (grow y d k r) = cond (eqb y x) (f d r) (grow y d (change x f k) (change x f r))
+
+-- it gives way to its later siblings alone
+abbrev pub rest : Datum → Tree → Tree
+rest d r = r
