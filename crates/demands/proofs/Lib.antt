@@ -4,6 +4,7 @@ pub mod Lives
 pub mod Marks
 pub mod MarksNamed
 pub mod Refusals
+pub mod Examined
 pub mod Accepted
 pub mod Allowed
 pub mod Beside

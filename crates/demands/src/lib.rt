@@ -1,1 +1,1 @@
-// The three demands, as theorems over the layout's calls: nothing runs here. Rests on `layout` and `looks`.
+// The three demands, as theorems over the calls: nothing runs here. Rests on the crates that have them, `layout`, `looks`, `saw`, `reasons` and `session`.

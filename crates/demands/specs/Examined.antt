@@ -1,0 +1,55 @@
+-- Demand 1: "Every call .. examines the layout it is handed first." What each public call answers to a layout that isn't sound, whatever else it is handed:
+-- refusal 1, before any other; the layout as it came, zero in other fields, and a lent buffer as it was. One field to a call. (`Layout::sound` is the
+-- check itself, and `Layout::sought` a step that calls share behind it.)
+use mathlib.Core.Path.{_≡_}
+use mathlib.Core.List.{List}
+use Prim.Native.Nat.{ℕ}
+use Rattle.piece.specs.declared.rotation.Rotation.{Rotation}
+use Rattle.piece.specs.declared.parttype.PartType.{PartType}
+use Rattle.piece.specs.declared.insertion_blueprint.InsertionShape.{InsertionShape}
+use Rattle.answers.specs.declared.Mark.{Mark}
+use Rattle.answers.specs.declared.Refusal.the-variants.{NotSound}
+use Rattle.layout.specs.declared.layout.Layout.{Layout}
+use Rattle.layout.specs.declared.insert.Inserted.{Inserted}
+use Rattle.layout.specs.declared.remove.Removed.{Removed}
+use Rattle.layout.specs.Insert.{InsertSays, refusedInsert}
+use Rattle.layout.specs.Remove.{RemoveSays, numbersLeft, refusedRemove}
+use Rattle.layout.specs.Restore.{restoreOf, refusedRestore}
+use Rattle.looks.specs.declared.replies.AreaAnswer.the-variants as areas
+use Rattle.looks.specs.declared.replies.CountAnswer.the-variants as counts
+use Rattle.looks.specs.declared.replies.UsageAnswer.the-variants as usages
+use Rattle.looks.specs.declared.replies.LightAnswer.the-variants as lights
+use Rattle.looks.specs.declared.replies.MarkAnswer.the-variants as marks
+use Rattle.looks.specs.Answers.{usedAreaOf, freeAreaOf, nodesHeldOf, sheetUsageOf, treeUsageOf, isEmptyOf, freeMarkOf, removableMarkOf, lightOf, offersCall, refusedOffers}
+use Rattle.looks.specs.Written.{answerTo, heldNumbers, leftIn, snapshotBytes}
+use Rattle.saw.specs.Written.{sawBytes}
+use Rattle.reasons.specs.Answers.{refusedWhy, whyCall}
+
+-- of a call that would write this into a lent buffer
+pub record NothingWritten (l : Layout) (what : List ℕ) : Type 0 where
+  pub answer : (room : ℕ) → answerTo l what room ≡ counts.Refused NotSound
+  pub buffer : (out : List ℕ) → leftIn l what out ≡ out
+
+pub record Examined (l : Layout) : Type 0 where
+  -- crate layout; `restore` examines both that it is handed
+  pub insert : (m : Mark) (p : PartType) (r : Rotation) (s : InsertionShape) (a : Inserted) → InsertSays l m p r s a → a ≡ refusedInsert l NotSound
+  pub remove : (m : Mark) (room : ℕ) (a : Removed) → RemoveSays l m room a → a ≡ refusedRemove l NotSound
+  pub removeBuffer : (m : Mark) (out : List ℕ) → numbersLeft l m out ≡ out
+  pub restore : (snapshot : Layout) → restoreOf l snapshot ≡ refusedRestore l NotSound
+  pub restoreTo : (k : Layout) → restoreOf k l ≡ refusedRestore k NotSound
+  -- crate looks
+  pub usedArea : usedAreaOf l ≡ areas.Refused NotSound
+  pub freeArea : freeAreaOf l ≡ areas.Refused NotSound
+  pub nodesHeld : nodesHeldOf l ≡ counts.Refused NotSound
+  pub sheetUsage : sheetUsageOf l ≡ usages.Refused NotSound
+  pub treeUsage : treeUsageOf l ≡ usages.Refused NotSound
+  pub isEmpty : isEmptyOf l ≡ lights.Refused NotSound
+  pub freeMark : (position : ℕ) → freeMarkOf l position ≡ marks.Refused NotSound
+  pub removableMark : (position : ℕ) → removableMarkOf l position ≡ marks.Refused NotSound
+  pub roomLight : (p : PartType) → lightOf l p ≡ lights.Refused NotSound
+  pub offers : (m : Mark) (p : PartType) → offersCall l m p ≡ refusedOffers NotSound
+  pub snapshot : NothingWritten l (snapshotBytes l)
+  pub partNumbers : NothingWritten l (heldNumbers l)
+  -- crates saw and reasons
+  pub cuts : NothingWritten l (sawBytes l)
+  pub whyNot : (m : Mark) (p : PartType) → whyCall l m p ≡ refusedWhy NotSound
