@@ -59,7 +59,7 @@ areas-cover-sound l sized sound =
     }
 
 -- on a layout that is sound by the rule, and has this sheet
-sound-covers : (l : Layout) (sheet : Size) → Sized l → SoundLayout l → l .sheet ≡ sheet → AreasCover l sheet
+pub sound-covers : (l : Layout) (sheet : Size) → Sized l → SoundLayout l → l .sheet ≡ sheet → AreasCover l sheet
 sound-covers l sheet sized h e = subst (AreasCover l) e (areas-cover-sound l sized (sound-shown l sized h))
 
 next-covers : (l : Layout) {w : Tree} {list : List ℕ} {last : ℕ} (n : Layout) → Next l w list last n → AreasCover n (l .sheet)

@@ -12,6 +12,7 @@ pub mod BookedThenRemoved
 pub mod BookingsCommute
 pub mod RemovalsCommute
 pub mod Areas
+pub mod Throughout
 pub mod UniqueAnswers
 pub mod SomeAnswer
 pub mod MarksGiven

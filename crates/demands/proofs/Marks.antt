@@ -24,6 +24,7 @@ use Rattle.layout.proofs.Exactly.{sound-shown}
 use Rattle.layout.proofs.Marks.{sought-names}
 use Rattle.layout.proofs.Ways.{onward, ended}
 use Rattle.looks.specs.Answers.{offersCall}
+use Rattle.reasons.specs.Answers.{whyCall}
 use Rattle.demands.specs.Life.{OneOf, Life, Later, Names, SamePiece}
 use Rattle.demands.proofs.Lives.{states-sound, one-number, one-piece}
 
@@ -71,6 +72,10 @@ module _ {ls : List Layout} (life : Life ls) (l : Layout) (state : OneOf l ls) (
   pub gone-offers : (p : PartType) → partB p ≡ true → offersCall l m p .outcome ≡ Refused Gone
   unfolding offersCall
   gone-offers p part = rw (checked, part, gone) refl
+
+  pub gone-why-not : (p : PartType) → partB p ≡ true → whyCall l m p .outcome ≡ Refused Gone
+  unfolding whyCall
+  gone-why-not p part = rw (checked, part, gone) refl
 
   pub gone-insert : (p : PartType) (r : Rotation) (s : InsertionShape) → partB p ≡ true → insertNo l m p r s ≡ some Gone
   unfolding insertNo

@@ -86,10 +86,11 @@ open-refused number size cut stages e h = go (domainB stages size) refl
     go true x = let o = rw x at h in absurd (clash (cc))
     go false x = rw x refl
 
--- the calls that write into a buffer and hand no layout back: the buffer is as it was
-buffer-untouched : (l : Layout) (what out : List ℕ) (e : Refusal) → answerTo l what (length out) ≡ counts.Refused e
+-- the calls that write into a buffer and hand no layout back, whatever each writes, the tree snapshot, the part numbers or the saw cuts: the buffer is as
+-- it was
+pub writing-refused : (l : Layout) (what out : List ℕ) (e : Refusal) → answerTo l what (length out) ≡ counts.Refused e
     → leftIn l what out ≡ out
-buffer-untouched l what out e h = go (soundB l) (leb (length what) (length out)) refl refl
+writing-refused l what out e h = go (soundB l) (leb (length what) (length out)) refl refl
   where
     go : (a b : Bool) → soundB l ≡ a → leb (length what) (length out) ≡ b → leftIn l what out ≡ out
     go true true x y = let o = rw (x, y) at h in absurd (clash (cc))
@@ -98,8 +99,8 @@ buffer-untouched l what out e h = go (soundB l) (leb (length what) (length out))
 
 pub snapshot-refused : (l : Layout) (out : List ℕ) (e : Refusal) → answerTo l (snapshotBytes l) (length out) ≡ counts.Refused e
     → leftIn l (snapshotBytes l) out ≡ out
-snapshot-refused l = buffer-untouched l (snapshotBytes l)
+snapshot-refused l = writing-refused l (snapshotBytes l)
 
 pub part-numbers-refused : (l : Layout) (out : List ℕ) (e : Refusal) → answerTo l (heldNumbers l) (length out) ≡ counts.Refused e
     → leftIn l (heldNumbers l) out ≡ out
-part-numbers-refused l = buffer-untouched l (heldNumbers l)
+part-numbers-refused l = writing-refused l (heldNumbers l)

@@ -46,6 +46,23 @@ pub data Life : List Layout → Type 0 where
       → Life (a .layout ∷ l ∷ ls)
   restored : (l : Layout) (ls : List Layout) → Life (l ∷ ls) → (s : Layout) → OneOf s (l ∷ ls) → Life (restoreOf l s .layout ∷ l ∷ ls)
 
+-- the stock sheet that a layout is of: what stays of it as long as it lives
+pub record Stock : Type 0 where
+  pub number : ℕ
+  pub sheet : Size
+  pub stages : ℕ
+
+-- what the life's one opening was asked for
+abbrev pub openedOn : {ls : List Layout} → Life ls → Stock
+openedOn (opened number size cut stages m h) = record { number = number; sheet = size; stages = stages }
+openedOn (inserted l ls life m p r s a h) = openedOn life
+openedOn (removed l ls life m room a h) = openedOn life
+openedOn (restored l ls life s o) = openedOn life
+
+-- as a layout has it
+abbrev pub stock : Layout → Stock
+stock l = record { number = l .number; sheet = l .sheet; stages = l .stages }
+
 -- the state l came later than k in the life, or is k
 abbrev pub Later : Layout → Layout → List Layout → Type 0
 Later k l [] = ⊥
