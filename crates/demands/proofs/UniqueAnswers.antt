@@ -1,8 +1,9 @@
 -- Document 01, "How tight the contracts are": "For each call its contract determines the answer and the lent bytes afterwards, refusals too". Two
--- answers of a public call of `layout` or `looks` that meet its contract are the same, and so is what they leave in a lent buffer; the next
--- layout is a part of the answer. Determined of each has the theorem for each call; here are also the public tests `side_ok`, `domain_ok` and `part_ok`.
--- There is no exception.
-use mathlib.Core.Path.{_≡_, sym, _∙_}
+-- answers of a public call of `layout`, `looks`, `saw`, `reasons` or `session` that meet its contract are the same, and so is what they leave in a lent
+-- buffer; the next layout or state is a part of the answer. There is no exception. Of each crate Determined or Unique has the theorem for each call; the
+-- public tests `side_ok`, `domain_ok` and `part_ok` have theirs here. (The contracts of the public steps of `saw`, `columns_of`, `put_cut`,
+-- `list_vertical` and `list_horizontal`, are equations: `only`.)
+use mathlib.Core.Path.{_≡_}
 use mathlib.Core.Bool.{Bool}
 use Prim.Native.Nat.{ℕ}
 use Rattle.piece.specs.declared.size.Size.{Size}
@@ -10,16 +11,21 @@ use Rattle.piece.specs.declared.parttype.PartType.{PartType}
 use Rattle.layout.specs.Check.{domainB, sideB}
 use Rattle.layout.specs.Asked.{partB}
 pub use Rattle.layout.proofs.Determined.{open-is-one, insert-is-one, remove-is-one, remove-leaves-one, restore-is-one, zero-is-one}
-pub use Rattle.layout.proofs.Determined.{sound-is-one, sought-is-one}
+pub use Rattle.layout.proofs.Determined.{only, sound-is-one, sought-is-one}
 pub use Rattle.looks.proofs.Determined.{used-area-is-one, free-area-is-one, nodes-held-is-one, sheet-usage-is-one, tree-usage-is-one, is-empty-is-one}
 pub use Rattle.looks.proofs.Determined.{free-mark-is-one, removable-mark-is-one, room-light-is-one, offers-is-one}
 pub use Rattle.looks.proofs.Determined.{snapshot-is-one, snapshot-leaves-one, part-numbers-is-one, part-numbers-leaves-one}
+pub use Rattle.saw.proofs.Unique.{cuts-is-one, cuts-leaves-one}
+pub use Rattle.reasons.proofs.Determined.{number-is-one, reason-in-is-one, why-not-is-one}
+pub use Rattle.session.proofs.Unique.{session-start-is-one, asked-is-one, step-is-one, malformed-is-one, desk-start-is-one, turn-is-one, end-is-one}
+pub use Rattle.session.proofs.Unique.{scope-of-is-one}
+pub use Rattle.session.proofs.Decided.{replies-once, keeps-once, restores-once}
 
 pub side-ok-is-one : (side : ℕ) (a b : Bool) → a ≡ sideB side → b ≡ sideB side → a ≡ b
-side-ok-is-one side a b h k = h ∙ sym k
+side-ok-is-one side = only
 
 pub domain-ok-is-one : (stages : ℕ) (sheet : Size) (a b : Bool) → a ≡ domainB stages sheet → b ≡ domainB stages sheet → a ≡ b
-domain-ok-is-one stages sheet a b h k = h ∙ sym k
+domain-ok-is-one stages sheet = only
 
 pub part-ok-is-one : (p : PartType) (a b : Bool) → a ≡ partB p → b ≡ partB p → a ≡ b
-part-ok-is-one p a b h k = h ∙ sym k
+part-ok-is-one p = only

@@ -37,7 +37,7 @@ answers-once s Report g h = g ∙ sym h
 answers-once s Malformed g h = g ∙ sym h
 
 -- and where only layouts are at hand, a layout and a request, or the two layouts
-same-said : {a b : Answer} {r p : Said} → a ≡ b → Says a r → Says b p → r ≡ p
+pub same-said : {a b : Answer} {r p : Said} → a ≡ b → Says a r → Says b p → r ≡ p
 same-said e x y i =
     record {
       line = (x .padded ∙ ap held e ∙ sym (y .padded)) i;

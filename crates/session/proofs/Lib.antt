@@ -6,5 +6,6 @@ pub mod Reported
 pub mod AtDesk
 pub mod Laws
 pub mod Decided
+pub mod Unique
 pub mod Kept
 pub mod Uses
