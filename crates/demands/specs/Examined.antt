@@ -1,8 +1,9 @@
--- Demand 1: "Every call .. examines the layout it is handed first." What each public call answers to a layout that isn't sound, whatever else it is handed:
--- refusal 1, before any other; the layout as it came, zero in other fields, and a lent buffer as it was. One field to a call. (`Layout::sound` is the
--- check itself, and `Layout::sought` a step that calls share behind it.)
+-- Demand 1: "Every call .. examines the layout it is handed first." What each public call answers to a layout that isn't sound, whatever else it is
+-- handed: refusal 1, the layout as it came, zero in other fields, and a lent buffer as it was. One field to a call, and one for the ops of the counter.
+-- (`Layout::sound` is the check itself, and `Layout::sought` a step that calls share behind it.)
 use mathlib.Core.Path.{_≡_}
 use mathlib.Core.List.{List}
+use mathlib.Core.Option.{Option, none, some}
 use Prim.Native.Nat.{ℕ}
 use Rattle.piece.specs.declared.rotation.Rotation.{Rotation}
 use Rattle.piece.specs.declared.parttype.PartType.{PartType}
@@ -20,15 +21,33 @@ use Rattle.looks.specs.declared.replies.CountAnswer.the-variants as counts
 use Rattle.looks.specs.declared.replies.UsageAnswer.the-variants as usages
 use Rattle.looks.specs.declared.replies.LightAnswer.the-variants as lights
 use Rattle.looks.specs.declared.replies.MarkAnswer.the-variants as marks
-use Rattle.looks.specs.Answers.{usedAreaOf, freeAreaOf, nodesHeldOf, sheetUsageOf, treeUsageOf, isEmptyOf, freeMarkOf, removableMarkOf, lightOf, offersCall, refusedOffers}
+use Rattle.looks.specs.Answers.{usedAreaOf, freeAreaOf, nodesHeldOf, sheetUsageOf, treeUsageOf, isEmptyOf, freeMarkOf, removableMarkOf, lightOf}
+use Rattle.looks.specs.Answers.{offersCall, refusedOffers}
 use Rattle.looks.specs.Written.{answerTo, heldNumbers, leftIn, snapshotBytes}
 use Rattle.saw.specs.Written.{sawBytes}
 use Rattle.reasons.specs.Answers.{refusedWhy, whyCall}
+use Rattle.frames.specs.declared.Request.{Request}
+use Rattle.frames.specs.declared.Request.the-variants.{Open, Offers, Insert, Remove, Keep, Restore, Report, Malformed}
+use Rattle.frames.specs.Answers.{Answer, refused}
+use Rattle.session.specs.declared.Session.{Session}
+use Rattle.session.specs.Session.{Answers, reply}
+use Rattle.session.specs.Replies.{both}
 
 -- of a call that would write this into a lent buffer
 pub record NothingWritten (l : Layout) (what : List ℕ) : Type 0 where
   pub answer : (room : ℕ) → answerTo l what room ≡ counts.Refused NotSound
   pub buffer : (out : List ℕ) → leftIn l what out ≡ out
+
+-- the op of a request that is about the layout: all but an opening, and what is malformed ("before all others")
+abbrev pub opOf : Request → Option ℕ
+opOf (Open number size cut stages) = none
+opOf (Offers mark part) = some 2
+opOf (Insert mark part rotation shape) = some 3
+opOf (Remove mark) = some 4
+opOf Keep = some 5
+opOf Restore = some 6
+opOf Report = some 7
+opOf Malformed = none
 
 pub record Examined (l : Layout) : Type 0 where
   -- crate layout; `restore` examines both that it is handed
@@ -53,3 +72,7 @@ pub record Examined (l : Layout) : Type 0 where
   -- crates saw and reasons
   pub cuts : NothingWritten l (sawBytes l)
   pub whyNot : (m : Mark) (p : PartType) → whyCall l m p ≡ refusedWhy NotSound
+  -- crate session: the counter's state stays, and the answer is the op's refusal; `restore` examines the kept layout too
+  pub counter : (kept : Layout) (q : Request) (op : ℕ) → opOf q ≡ some op → (t : Session) (a : Answer) → Answers (both l kept) q t a
+      → reply t a ≡ reply (both l kept) (refused op NotSound)
+  pub counterRestoreTo : (k : Layout) (t : Session) (a : Answer) → Answers (both k l) Restore t a → reply t a ≡ reply (both k l) (refused 6 NotSound)

@@ -1,5 +1,5 @@
--- The contract of each public call of the session and the desk determines its answer, in which are the next state and the line that it says: two answers that
--- meet it are the same. Rests on Decided, which says so of what is answered. Assumes nothing.
+-- The contract of each public call of the session and the desk determines its answer, and with it the next state and the line that is said: two answers
+-- that meet it are the same. Rests on Decided, which says so of what is answered. Assumes nothing.
 use mathlib.Core.Path.{_≡_, sym, ap, _∙_}
 use mathlib.Core.List.{List}
 use Prim.Native.Nat.{ℕ}
