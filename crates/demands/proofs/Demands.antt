@@ -5,7 +5,7 @@ use mathlib.Core.Path.{_≡_}
 use mathlib.Core.List.{List}
 use mathlib.Core.Logic.{_⊎_}
 use mathlib.Core.Option.{some}
-use mathlib.Core.Bool.{true}
+use mathlib.Core.Bool.{false, true}
 use Prim.Native.Nat.{ℕ}
 use lib.ListN.{length}
 use Rattle.piece.specs.declared.size.Size.{Size}
@@ -36,9 +36,11 @@ use Rattle.layout.specs.Remove.{RemoveSays, numbersLeft, removeNo}
 use Rattle.layout.specs.Restore.{restoreOf}
 use Rattle.looks.specs.declared.replies.CountAnswer.the-variants as counts
 use Rattle.looks.specs.Answers.{offersCall}
-use Rattle.looks.specs.Written.{answerTo, heldNumbers, leftIn, snapshotBytes}
-use Rattle.demands.specs.Life.{Given, Later, Life, Names, OneOf, SamePiece}
+use Rattle.looks.specs.Written.{answerTo, leftIn}
+use Rattle.reasons.specs.Answers.{whyCall}
+use Rattle.demands.specs.Life.{Given, Later, Life, Names, OneOf, SamePiece, openedOn, stock}
 use Rattle.demands.specs.Calls.{AreasCover, InsertAccepted, RemoveAccepted, SameTree}
+use Rattle.demands.specs.Examined.{Examined}
 use Rattle.demands.proofs.Lives as lives
 use Rattle.demands.proofs.Marks as marks
 use Rattle.demands.proofs.MarksGiven as given
@@ -47,6 +49,8 @@ use Rattle.demands.proofs.BookedThenRemoved as booked
 use Rattle.demands.proofs.BookingsCommute as bookings
 use Rattle.demands.proofs.RemovalsCommute as removals
 use Rattle.demands.proofs.Areas as areas
+use Rattle.demands.proofs.Throughout as throughout
+use Rattle.demands.proofs.Examined as examined
 
 -- ---- Demand 1, marks: "Over the life of one layout, opened once and put back only to earlier states of itself, a mark names the piece it was issued
 -- for or is refused as gone."
@@ -59,9 +63,11 @@ a-mark-names-its-piece-or-is-gone life k l later m g = marks.marks-last life k l
 -- "refused as gone": refusal 5, by each call that takes a mark, unless the part asked for is refused first (3)
 pub gone-is-refused : {ls : List Layout} → Life ls → (l : Layout) → OneOf l ls → (m : Mark) → soughtOf l m ≡ sought.Refused Gone
     → ((p : PartType) → partB p ≡ true → offersCall l m p .outcome ≡ Refused Gone)
+    × ((p : PartType) → partB p ≡ true → whyCall l m p .outcome ≡ Refused Gone)
     × ((p : PartType) (r : Rotation) (s : InsertionShape) → partB p ≡ true → insertNo l m p r s ≡ some Gone)
     × ((room : ℕ) → removeNo l m room ≡ some Gone)
-gone-is-refused life l o m g = (marks.gone-offers life l o m g, marks.gone-insert life l o m g, marks.gone-remove life l o m g)
+gone-is-refused life l o m g =
+    (marks.gone-offers life l o m g, marks.gone-why-not life l o m g, marks.gone-insert life l o m g, marks.gone-remove life l o m g)
 
 -- no serial is issued twice: two pieces of any two states with the same serial are one piece, at one place, under one parent
 pub a-serial-is-issued-once : {ls : List Layout} → Life ls → (k l : Layout) → OneOf k ls → OneOf l ls
@@ -95,13 +101,13 @@ pub a-refused-opening : (number : ℕ) (size : Size) (cut : Orientation) (stages
     → openOf number size cut stages .outcome ≡ opening.Refused e → openOf number size cut stages .layout ≡ zeroLayout
 a-refused-opening = refusals.open-refused
 
-pub a-refused-snapshot : (l : Layout) (out : List ℕ) (e : Refusal) → answerTo l (snapshotBytes l) (length out) ≡ counts.Refused e
-    → leftIn l (snapshotBytes l) out ≡ out
-a-refused-snapshot = refusals.snapshot-refused
+-- the calls that write into a lent buffer and hand no layout back, by what each writes: `snapshotBytes l`, `heldNumbers l` and `sawBytes l`
+pub a-refused-writing : (l : Layout) (what out : List ℕ) (e : Refusal) → answerTo l what (length out) ≡ counts.Refused e → leftIn l what out ≡ out
+a-refused-writing = refusals.writing-refused
 
-pub refused-part-numbers : (l : Layout) (out : List ℕ) (e : Refusal) → answerTo l (heldNumbers l) (length out) ≡ counts.Refused e
-    → leftIn l (heldNumbers l) out ≡ out
-refused-part-numbers = refusals.part-numbers-refused
+-- "examines the layout it is handed first": specs/Examined.antt lists what every public call answers to a layout that isn't sound, refusal 1
+pub examined-first : (l : Layout) → soundB l ≡ false → Examined l
+examined-first = examined.examined-first
 
 -- ---- Demand 3: "On every sound layout, booking and then removing the first piece made gives the same tree; two bookings in different free pieces, and two
 -- removals neither inside the other, commute." An accepted call says that the layout is sound.
@@ -126,6 +132,10 @@ pub removals-commute : (l : Layout) → Sized l → (m m′ : Mark) → Names l 
     → RemoveAccepted l m′ room′ c × RemoveAccepted (c .layout) m room d × SameTree (b .layout) (d .layout)
 removals-commute = removals.removes-commute
 
--- "Part area plus free area is the sheet, throughout."
+-- "Part area plus free area is the sheet, throughout." On every sound layout:
 pub areas-add-up : (l : Layout) → Sized l → soundB l ≡ true → AreasCover l (l .sheet)
 areas-add-up = areas.areas-cover-sound
+
+-- and in every state of a life, where the sheet, the number and the stages are those that the opening was asked for
+pub areas-throughout : {ls : List Layout} (life : Life ls) (l : Layout) → OneOf l ls → (stock l ≡ openedOn life) × AreasCover l (openedOn life .sheet)
+areas-throughout = throughout.throughout

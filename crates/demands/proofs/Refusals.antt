@@ -28,7 +28,7 @@ use Rattle.layout.specs.Insert.{bookingFor, insertIs, insertNo, InsertSays}
 use Rattle.layout.specs.Remove.{numbersLeft, removeIs, removeNo, RemoveSays}
 use Rattle.layout.specs.Restore.{restoreOf}
 use Rattle.looks.specs.declared.replies.CountAnswer.the-variants as counts
-use Rattle.looks.specs.Written.{answerTo, heldNumbers, leftIn, snapshotBytes}
+use Rattle.looks.specs.Written.{answerTo, leftIn}
 
 -- insert: the layout as it came, and zero marks
 pub insert-refused : (l : Layout) (m : Mark) (p : PartType) (r : Rotation) (s : InsertionShape) (a : Inserted) (e : Refusal)
@@ -96,11 +96,3 @@ writing-refused l what out e h = go (soundB l) (leb (length what) (length out)) 
     go true true x y = let o = rw (x, y) at h in absurd (clash (cc))
     go true false x y = rw (x, y) refl
     go false b x y = rw x refl
-
-pub snapshot-refused : (l : Layout) (out : List ℕ) (e : Refusal) → answerTo l (snapshotBytes l) (length out) ≡ counts.Refused e
-    → leftIn l (snapshotBytes l) out ≡ out
-snapshot-refused l = writing-refused l (snapshotBytes l)
-
-pub part-numbers-refused : (l : Layout) (out : List ℕ) (e : Refusal) → answerTo l (heldNumbers l) (length out) ≡ counts.Refused e
-    → leftIn l (heldNumbers l) out ≡ out
-part-numbers-refused l = writing-refused l (heldNumbers l)
