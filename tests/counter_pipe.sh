@@ -1,32 +1,35 @@
 #!/usr/bin/env bash
 # Drives the counter over an open pipe: each answer comes before the next frame is sent, however a frame is cut into writes.
+# QUIET: how many seconds without an answer are a silence, 1 unless given.
 set -u
 cd "$(dirname "$0")/.." || exit 2
 . tests/run.bash
+quiet=${QUIET:-1}
 words_of counter
-coproc counter { exec "${program[@]}"; }
-process=$counter_PID
-exec 3<&"${counter[0]}" 4>&"${counter[1]}"
-eval "exec ${counter[0]}<&- ${counter[1]}>&-"
-trap '[ -z "$process" ] || kill "$process" 2>/dev/null' EXIT
+mkfifo "$room/frames" "$room/answers" || exit 2
+timeout --foreground "$limit" "${program[@]}" < "$room/frames" > "$room/answers" &
+process=$!
+exec 4> "$room/frames" 3< "$room/answers"
 
-send() { printf "$1" >&4; }
+# A program that is gone is told by its missing answer, and must not end this shell by the signal for a write that nobody reads.
+trap : PIPE
+send() { printf "$1" >&4; } 2> /dev/null
 
-# answer WHAT LINE: the next answer, which comes within a minute; after one that does not come there is no point in going on
+# answer WHAT LINE: the next answer, which comes while there is patience; after one that does not come there is no point in going on
 answer() {
-  local line
-  if ! IFS= read -r -t 60 line <&3; then
+  local line=
+  if ! IFS= read -r -t "$patience" line <&3; then
     tried 1 "$1: no answer"
-    exit 1
+    finished
   fi
   [ "$line" = "$2" ]
   tried $? "$1"
 }
 
-# silence WHAT: nothing is answered within a second
+# silence WHAT: nothing is answered for a while
 silence() {
   local line=
-  ! IFS= read -r -t 1 line <&3 && [ -z "$line" ]
+  ! IFS= read -r -t "$quiet" line <&3 && [ -z "$line" ]
   tried $? "$1"
 }
 
@@ -82,8 +85,11 @@ wait "$process"
 tried $? 'the counter ended with status 0'
 process=
 
-# whoever reads the answers goes away
-run counter < crates/counter/stdin 2> /dev/null | head -n 1 > /dev/null
-[ "${PIPESTATUS[0]}" -ne 0 ]
-tried $? 'the counter ends when nobody reads its answers'
-exit $status
+# Whoever reads the answers goes away, and most of them are still to come: more than a pipe holds. The system then ends the counter by SIGPIPE, which is 128 + 13
+# to the shell, under the emulator too. A shell that was started with this signal ignored hands that on, and the counter then ends quietly (decision 29): so it is set back.
+words_of counter
+timeout --foreground "$limit" env --default-signal=PIPE "${program[@]}" < crates/counter/stdin 2> /dev/null | head -n 1 > /dev/null
+ended=${PIPESTATUS[0]}
+[ "$ended" -eq 141 ]
+tried $? "when nobody reads its answers the counter ends by SIGPIPE, status 141: $ended"
+finished 23

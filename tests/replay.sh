@@ -6,18 +6,11 @@ set -u
 cd "$(dirname "$0")/.." || exit 2
 . tests/run.bash
 
-# digest NAME: the one that was recorded under this name
-digest() { sed -n "s/^\([0-9a-f]*\)  $1\$/\1/p" recorded/digests.txt; }
-sum() { sha256sum | cut -d ' ' -f 1; }
+writes 'the long sessions' recorded/long.out run counter < recorded/long.in
+cut -d ' ' -f 1 recorded/sessions.out > "$room/answers"
+writes 'the short sessions' "$room/answers" run counter < recorded/sessions.in
+[ $# -gt 0 ] || finished 2
 
-run counter < recorded/long.in | cmp - recorded/long.out
-tried $? 'the long sessions'
-run counter < recorded/sessions.in | cmp - <(cut -d ' ' -f 1 recorded/sessions.out)
-tried $? 'the short sessions'
-if [ $# -gt 0 ]; then
-  [ "$(sum < "$1")" = "$(digest 'gen 5 1 serials')" ]
-  tried $? "$1 holds the frames of gen 5 1 serials"
-  [ "$(run counter < "$1" | sum)" = "$(digest 'counter on gen 5 1 serials')" ]
-  tried $? 'the session to the last serial'
-fi
-exit $status
+writes "$1 holds the frames of gen 5 1 serials" "$(recorded_digest 'gen 5 1 serials')" digest_of cat < "$1"
+writes 'the session to the last serial' "$(recorded_digest 'counter on gen 5 1 serials')" digest_of run counter < "$1"
+finished 4

@@ -7,11 +7,7 @@ cd "$(dirname "$0")/.." || exit 2
 . tests/run.bash
 kib=2048
 
-run_on_stack $kib deep_chain < /dev/null | cmp - crates/deep_chain/stdout
-tried $? "deep_chain on a stack of 2 MiB"
-run_on_stack $kib counter < recorded/long.in | cmp - recorded/long.out
-tried $? "counter, with chains to level 253, on a stack of 2 MiB"
-run_on_stack $kib inspect < recorded/long.in | sha256sum | cut -d ' ' -f 1 |
-  cmp - <(sed -n 's/  inspect on long.in$//p' recorded/digests.txt)
-tried $? "inspect, with chains to level 253, on a stack of 2 MiB"
-exit $status
+writes 'deep_chain on a stack of 2 MiB' crates/deep_chain/stdout run_on_stack $kib deep_chain < /dev/null
+writes 'counter, with chains to level 253, on a stack of 2 MiB' recorded/long.out run_on_stack $kib counter < recorded/long.in
+writes 'inspect, with chains to level 253, on a stack of 2 MiB' "$(recorded_digest 'inspect on long.in')" digest_of run_on_stack $kib inspect < recorded/long.in
+finished 3

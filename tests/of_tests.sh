@@ -1,0 +1,168 @@
+#!/usr/bin/env bash
+# The tests, tested: every script of this folder that runs programs, and oracle/compare, must end in non-zero on programs that are wrong, and say what failed.
+# Programs are replaced by stand-ins (PROGRAMS, see tests/run.bash). A script is one of these tests if it sources tests/run.bash; one that does not has to say why, in
+# a line of its own such as the next.
+# No stand-ins: this is the script that makes them.
+set -u
+cd "$(dirname "$0")/.." || exit 2
+. tests/run.bash
+unset PROGRAMS
+
+# What a script is given here, so that it takes less time.
+declare -A arguments=([counter_random]=200000)
+
+# Real words for a stand-in: the program of the same name, as the tests run it.
+words_of NAME
+real=$(printf '%q ' "${program[@]%NAME}")
+real=${real% }'"$(basename "$0")"'
+
+# stand_in KIND: a folder with the script on standard input under the name of each program. Each writes a line to the file RUNS when it has begun.
+stand_in() {
+  mkdir "$room/$1" || exit 2
+  { echo '#!/usr/bin/env bash'; cat; } > "$room/$1/stand-in"
+  chmod +x "$room/$1/stand-in"
+  local name
+  for name in target/bin/*; do ln -s stand-in "$room/$1/$(basename "$name")"; done
+}
+
+stand_in wrong <<'END_OF_SCRIPT'
+# Answers every line, and the end of the input, with what is no answer.
+echo "$0" >> "$RUNS"
+export LC_ALL=C
+while IFS= read -r line; do echo wrong; done
+echo wrong
+END_OF_SCRIPT
+
+stand_in silent <<'END_OF_SCRIPT'
+# Answers nothing. Where there is no input that may be right, and so does not count as a run.
+if IFS= read -r -d '' -n 1 first; then echo "$0" >> "$RUNS"; fi
+cat > /dev/null
+END_OF_SCRIPT
+
+stand_in dying <<END_OF_SCRIPT
+# Answers rightly, and then dies: by its status, and in each second run by a signal.
+echo "\$0" >> "\$RUNS"
+$real
+[ \$((\$(wc -l < "\$RUNS") % 2)) -eq 0 ] || exit 1
+kill -KILL \$\$
+END_OF_SCRIPT
+
+stand_in stuck <<'END_OF_SCRIPT'
+# Does nothing, without end.
+echo "$0" >> "$RUNS"
+exec sleep 1000
+END_OF_SCRIPT
+
+mkdir "$room/missing" || exit 2
+
+stand_in late <<END_OF_SCRIPT
+# Answers rightly, but only when the input has ended.
+echo "\$0" >> "\$RUNS"
+cat > "\$RUNS.in"
+$real < "\$RUNS.in"
+END_OF_SCRIPT
+
+stand_in hoarding <<'END_OF_SCRIPT'
+# Says of every line that it is malformed, and keeps it.
+echo "$0" >> "$RUNS"
+export LC_ALL=C
+while IFS= read -r line || [ -n "$line" ]; do
+  kept+=("$line")
+  echo ff0ef3
+done
+END_OF_SCRIPT
+
+stand_in heavy <<END_OF_SCRIPT
+# Dies on a stack of 2 MiB.
+echo "\$0" >> "\$RUNS"
+[ "\$(ulimit -s)" = unlimited ] || [ "\$(ulimit -s)" -gt 2048 ] || kill -SEGV \$\$
+$real
+END_OF_SCRIPT
+
+# fails KIND COUNT SCRIPT [ARGUMENT...]: the script ends in non-zero on the stand-ins of a kind and has a line for what failed: one for each run of a stand-in, and COUNT at
+# least. Programs that answer get the time that they need.
+fails() {
+  local kind=$1 count=$2 waits=() ended runs failed
+  shift 2
+  local runs_file=$room/$kind.$(basename "$1")
+  case $kind in silent | stuck | late) waits=(PATIENCE=1 LIMIT=2) ;; esac
+  : > "$runs_file"
+  env PROGRAMS="$room/$kind" RUNS="$runs_file" QUIET=0.1 "${waits[@]}" bash "$@" > "$room/log" 2>&1
+  ended=$?
+  runs=$(wc -l < "$runs_file")
+  failed=$(grep -c '^FAILED: .' "$room/log")
+  [ "$ended" -ne 0 ] && [ "$failed" -ge "$count" ] && [ "$failed" -ge "$runs" ]
+  tried $? "$* fails on $kind programs: status $ended, $failed failures in $runs runs" || show
+}
+
+# what a script said that should have failed
+show() { tail -n 5 "$room/log" | sed 's/^/  /'; }
+
+kinds=(wrong silent dying stuck missing)
+meant=0
+for script in tests/*.sh; do
+  name=$(basename "$script" .sh)
+  if grep -q '^# No stand-ins: .' "$script"; then
+    continue
+  elif grep -qx '\. tests/run\.bash' "$script"; then
+    for kind in "${kinds[@]}"; do
+      fails "$kind" 1 "$script" ${arguments[$name]:-}
+      meant=$((meant + 1))
+    done
+  else
+    tried 1 "$script sources tests/run.bash, or says '# No stand-ins: ' and why"
+    meant=$((meant + 1))
+  fi
+done
+[ "$meant" -ge $((5 * ${#kinds[@]})) ]
+tried $? 'five scripts at least were tried'
+
+# What one script alone is to find.
+fails late 1 tests/counter_pipe.sh
+fails hoarding 1 tests/counter_random.sh 1000000
+grep -q '^FAILED: flat memory' "$room/log"
+tried $? 'it is the memory that tests/counter_random.sh finds'
+fails heavy 3 tests/stack.sh
+
+# ends STATUS WHAT: a test with the lines on standard input ends so
+ends() {
+  { echo '. tests/run.bash'; cat; } > "$room/test"
+  bash "$room/test" > "$room/log" 2>&1
+  [ $? -eq "$1" ]
+  tried $? "$2" || show
+}
+ends 0 'a test that tries what it means to try ends with 0' <<< 'tried 0 one; (tried 0 two); finished 2'
+ends 1 'one that tries nothing fails' <<< 'finished 0'
+ends 1 'one that tries less than it means to fails' <<< 'tried 0 one; finished 2'
+ends 1 'one that tries more than it means to fails' <<< 'tried 0 one; tried 0 two; finished 1'
+ends 1 'one that is given up fails' <<< 'tried 0 one; finished'
+ends 1 'a failure counts' <<< 'tried 1 one; tried 0 two; finished 2'
+ends 1 'a failure behind a pipe counts' <<< 'true | tried 1 one; finished 1'
+ends 1 'a failure in a subshell counts' <<< '(tried 1 one); finished 1'
+
+# oracle/compare, on judges that stand in for the Rust: FRAMES is how many it generates, and `judge` is a script that answers them.
+judge() { # NAME
+  { echo '#!/usr/bin/env bash'; echo 'case "$*" in gen*) head -n "$FRAMES" recorded/sessions.in; exit ;; esac'; cat; } > "$room/$1"
+  chmod +x "$room/$1"
+}
+words_of inspect && inspect=$(printf '%q ' "${program[@]}")
+words_of counter && counter=$(printf '%q ' "${program[@]}")
+judge right <<< "case \"\$*\" in 'run --counter') $counter ;; *) $inspect ;; esac"
+judge mute <<< 'cat > /dev/null'
+judge failing <<< "case \"\$*\" in 'run --counter') $counter ;; *) $inspect ;; esac; exit 1"
+
+# compares STATUS WHAT JUDGE PROGRAMS FRAMES BATCHES
+compares() {
+  env ORACLE="$room/$3" PROGRAMS="$4" FRAMES="$5" RUNS="$room/compare" oracle/compare 1 "$6" > "$room/log" 2>&1
+  [ $? -eq "$1" ]
+  tried $? "oracle/compare $2" || show
+  rm -rf "$(sed -n 's/^DIFFERENT: .* frames: \(.*\)\/[0-9]*\.in$/\1/p' "$room/log")"
+}
+compares 0 'says that a batch is the same' right '' 20 1
+compares 2 'refuses to compare 0 batches' right '' 20 0
+compares 1 'fails on a batch without frames' right '' 0 1
+compares 1 'fails where neither side says anything' mute "$room/silent" 20 1
+compares 1 'fails where the judge dies' failing '' 20 1
+compares 1 'fails on wrong programs' right "$room/wrong" 20 1
+compares 1 'fails on dying programs' right "$room/dying" 20 1
+finished $((meant + 20))
