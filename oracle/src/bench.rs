@@ -238,6 +238,9 @@ fn sides(named: &[&str]) -> Result<Vec<Vec<Row>>, String> {
     lines.into_iter().try_for_each(|lines| same_answers(&lines))?;
     let all: [(&str, fn(&[Sheet], &[(&'static str, Vec<String>)]) -> Vec<Row>); 3] =
         [(Ours::NAME, rows::<Ours>), (Frames::NAME, rows::<Frames>), (Bare::NAME, rows::<Bare>)];
+    if let Some(unknown) = named.iter().find(|word| all.iter().all(|(name, _)| name != *word)) {
+        return Err(format!("there is no side {unknown}"));
+    }
     let chosen = all.iter().filter(|(name, _)| named.is_empty() || named.contains(name));
     Ok(chosen.map(|(_, rows)| rows(&sheets, &sessions)).collect())
 }

@@ -26,7 +26,6 @@ const ALONG: Offer = Offer { rotation: 0, shape: 1 };
 const ACROSS: Offer = Offer { rotation: 0, shape: 2 };
 
 pub fn show() {
-    panic::set_hook(Box::new(|_| {}));
     println!("debug assertions are {}", if cfg!(debug_assertions) { "on" } else { "off" });
     restore_overwrites_the_number();
     restore_revives_keys();
@@ -216,7 +215,10 @@ fn mark(place: u8, serial: u32) -> Mark {
 
 /// What a call gives, or the words with which it panicked.
 fn attempt<T>(call: impl FnOnce() -> T) -> Result<T, String> {
-    panic::catch_unwind(AssertUnwindSafe(call)).map_err(|words| match words.downcast::<String>() {
+    panic::set_hook(Box::new(|_| {}));
+    let outcome = panic::catch_unwind(AssertUnwindSafe(call));
+    drop(panic::take_hook());
+    outcome.map_err(|words| match words.downcast::<String>() {
         Ok(words) => format!("panic: {}", first_line(&words)),
         Err(words) => format!("panic: {}", words.downcast_ref::<&str>().map_or("", |words| first_line(words))),
     })

@@ -101,17 +101,26 @@ fn number<N: std::str::FromStr>(word: &str) -> Result<N, String> {
     word.parse().map_err(|_| format!("{word} is no number"))
 }
 
+fn words_of(problem: io::Error) -> String {
+    problem.to_string()
+}
+
+/// The next line of an input with its newline, if it has one; empty at the end.
+fn next_line(input: &mut impl BufRead) -> Result<Vec<u8>, String> {
+    let mut line = Vec::new();
+    input.read_until(b'\n', &mut line).map_err(words_of)?;
+    Ok(line)
+}
+
 /// Hands on the lines of an input. One that lacks its newline is malformed, which no frame of ours can be mistaken for.
 fn each_line(mut input: impl BufRead, mut take: impl FnMut(&[u8]) -> Result<(), String>) -> Result<(), String> {
-    let mut line = Vec::new();
-    while input.read_until(b'\n', &mut line).map_err(|problem| problem.to_string())? > 0 {
-        match line.split_last() {
+    loop {
+        match next_line(&mut input)?.split_last() {
+            None => return Ok(()),
             Some((b'\n', frame)) => take(frame)?,
-            _ => take(b"")?,
+            Some(_) => take(b"")?,
         }
-        line.clear();
     }
-    Ok(())
 }
 
 fn open(path: &str) -> Result<BufReader<File>, String> {
@@ -121,9 +130,8 @@ fn open(path: &str) -> Result<BufReader<File>, String> {
 fn run(view: View) -> Result<bool, String> {
     let mut session = Session::default();
     let mut out = BufWriter::new(io::stdout().lock());
-    each_line(io::stdin().lock(), |line| {
-        writeln!(out, "{}", view.answer(&mut session, line)).map_err(|problem| problem.to_string())
-    })?;
+    each_line(io::stdin().lock(), |line| writeln!(out, "{}", view.answer(&mut session, line)).map_err(words_of))?;
+    out.flush().map_err(words_of)?;
     Ok(true)
 }
 
@@ -131,51 +139,60 @@ fn gen(seed: &str, sessions: &str, kind: &str) -> Result<bool, String> {
     let lines = generate::lines(number(seed)?, number(sessions)?, kind)?;
     let mut out = BufWriter::new(io::stdout().lock());
     for line in lines {
-        writeln!(out, "{line}").map_err(|problem| problem.to_string())?;
+        writeln!(out, "{line}").map_err(words_of)?;
     }
+    out.flush().map_err(words_of)?;
     Ok(true)
 }
 
-/// Replays frames and compares with the recorded answers, line by line.
+/// Replays frames and compares with the recorded answers, line by line and byte for byte.
 fn check(view: View, frames: &str, answers: &str) -> Result<bool, String> {
-    let mut recorded = open(answers)?.lines();
+    let mut recorded = open(answers)?;
     let mut session = Session::default();
-    let (mut lines, mut different) = (0, 0);
+    let (mut lines, mut different, mut surplus) = (0, 0, 0);
     each_line(open(frames)?, |line| {
         lines += 1;
-        let ours = view.answer(&mut session, line);
-        let theirs = recorded.next().transpose().map_err(|problem| problem.to_string())?.unwrap_or_default();
-        if ours != theirs {
+        let ours = view.answer(&mut session, line) + "\n";
+        let theirs = next_line(&mut recorded)?;
+        if ours.as_bytes() != theirs {
             different += 1;
-            println!("line {lines}, frame {}: {}", String::from_utf8_lossy(line), first_difference(&ours, &theirs));
+            let difference = first_difference(&ours, &String::from_utf8_lossy(&theirs));
+            println!("line {lines}, frame {}: {difference}", String::from_utf8_lossy(line));
         }
         Ok(())
     })?;
-    let surplus = recorded.count();
+    while !next_line(&mut recorded)?.is_empty() {
+        surplus += 1;
+    }
     println!("{lines} lines, {different} different, {surplus} recorded answers too many");
     Ok(lines > 0 && different == 0 && surplus == 0)
 }
 
 /// Names the first field in which two lines differ, with both its values.
 fn first_difference(ours: &str, theirs: &str) -> String {
-    let (mut ours, mut theirs) = (ours.split(' '), theirs.split(' '));
+    let (mut ours, mut theirs) = (ours.trim_end_matches('\n').split(' '), theirs.trim_end_matches('\n').split(' '));
     for name in inspect::FIELDS {
         let (mine, other) = (ours.next(), theirs.next());
         if mine != other {
             return format!("{name}: the Rust gives {}, recorded {}", mine.unwrap_or("nothing"), other.unwrap_or("nothing"));
         }
     }
-    "more fields than there are".to_string()
+    "more fields than there are, or no newline".to_string()
 }
 
 fn cover(files: &[&str]) -> Result<bool, String> {
     let mut coverage = Coverage::default();
     for file in files {
         let mut session = Session::default();
+        let mut lines = 0;
         each_line(open(file)?, |line| {
+            lines += 1;
             coverage.count(&mut session, line);
             Ok(())
         })?;
+        if lines == 0 {
+            return Err(format!("{file}: no frames"));
+        }
     }
     Ok(coverage.report())
 }

@@ -1,6 +1,6 @@
 //! A session at the counter: the layout and the kept snapshot, and the answer to each line.
 //!
-//! The refusals, which the Rust does not have, are tested in document 01's order; design.md lists them by op.
+//! The refusals, which the Rust does not have, are tested in document 01's order ("What a call says no with"), each op's as far as they concern it.
 
 use crate::core::entities::node::NodeKey;
 use crate::core::orientation::Orientation;
