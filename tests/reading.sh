@@ -107,7 +107,7 @@ at_least() {
 at_least 400 path 'paths'
 at_least 400 name 'names, in the files beside them'
 at_least 100 edit 'must-fail edits, where they are said to stand'
-at_least 40 entry 'decisions and differences, by their numbers'
+at_least 20 entry 'decisions and differences, by their numbers'
 at_least 0 unfound 'definitions and theorems without a file'
 at_least 10 command 'commands'
 finished 6
