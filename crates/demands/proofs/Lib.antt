@@ -16,4 +16,7 @@ pub mod Throughout
 pub mod UniqueAnswers
 pub mod SomeAnswer
 pub mod MarksGiven
+pub mod CounterSteps
+pub mod Counter
+pub mod Reopened
 pub mod Demands

@@ -1,3 +1,4 @@
 pub mod Life
 pub mod Calls
 pub mod Examined
+pub mod Counter
