@@ -38,11 +38,11 @@ use Rattle.session.specs.Desk.{askedIn, Runs, none, more, Served, opening}
 use Rattle.session.proofs.Decided.{answers-once}
 use Rattle.session.proofs.Laws.{served-run}
 use Rattle.demands.specs.Life.{OneOf, Names}
-use Rattle.demands.specs.Counter.{marksWritten, opens, openings, Stale, Lives, GoesOn, Carries, offersOn, insertIn, removeOf, Refuses, Lasts, names, gone, elsewhere}
+use Rattle.demands.specs.Counter.{marksWritten, opens, openings, AllDecline, Stale, Lives, GoesOn, Carries, offersOn, insertIn, removeOf, Refuses, Lasts, names, gone, elsewhere}
 use Rattle.demands.proofs.Lives.{states-sound}
 use Rattle.demands.proofs.Marks.{marks-last}
 use Rattle.demands.proofs.MarksGiven.{given-names}
-use Rattle.demands.proofs.CounterSteps.{Opens, Way, way, Moved, Stepped, opens-or-not, none-opened, started-stays, Unopened, started-unopened}
+use Rattle.demands.proofs.CounterSteps.{Opens, Way, way, Moved, Stepped, opens-or-not, none-opened, started-stays, started-declines, Unopened, started-unopened}
 use Rattle.demands.proofs.CounterSteps.{opened-number, unopened-after, same-goes, goes-on, life-begins, Writes, writes}
 
 -- ---- the openings of answers
@@ -67,15 +67,18 @@ the-life-goes-on {ls = ls} h (more {s} {t} {u} {line} {lines} {a} {xs} step run)
     let f = the-life-goes-on (g .lives) run (z .1) in
     record { then = f .then; lives = f .lives; holds = λ l o. f .holds l (g .holds l o) }
 
--- before any opening the counter stays as it started
-pub the-counter-waits : {t : Session} {lines : List Line} {xs : List Answer} → Runs started lines xs t → openings xs ≡ [] → t ≡ started
-the-counter-waits {t} {lines} {xs} = go refl
+-- before any opening the counter stays as it started, and refuses all
+pub before-any-opening : {t : Session} {lines : List Line} {xs : List Answer} → Runs started lines xs t → openings xs ≡ []
+    → (t ≡ started) × AllDecline xs
+before-any-opening {t} {lines} {xs} = go refl
   where
-    go : {s : Session} {ls : List Line} {ys : List Answer} → s ≡ started → Runs s ls ys t → openings ys ≡ [] → t ≡ started
-    go e none h = e
+    go : {s : Session} {ls : List Line} {ys : List Answer} → s ≡ started → Runs s ls ys t → openings ys ≡ [] → (t ≡ started) × AllDecline ys
+    go e none h = (e, tt)
     go e (more {s} {t = w} {line = line} {a = a} {xs = zs} step run) h =
         let z = neither (opens a) (openings zs) h in
-        ⊎-elim (λ o. none-opened o (z .0)) (λ y. go (started-stays e (y .1)) run (z .1)) (opens-or-not (way s (askedIn line) w a step))
+        let no = started-declines (askedIn line) w a (rw e at step) (z .0) in
+        ⊎-elim (λ o. none-opened o (z .0)) (λ y. let f = go (started-stays e (y .1)) run (z .1) in (f .0, (no, f .1)))
+        (opens-or-not (way s (askedIn line) w a step))
 
 -- ---- a run in which no number is opened twice
 
@@ -124,12 +127,25 @@ module _ (s t : Session) (a : Answer) where
   standing-after (inr h) w fresh = inr (living-after h w fresh)
   standing-after (inl e) w fresh = ⊎-elim (λ o. inr (begun fresh o)) (λ z. inl (started-stays e (z .1))) (opens-or-not w)
 
--- a run from the start is a life, unless the counter waits still
+-- a run from the start is a life as soon as an opening is accepted
 pub a-run-is-a-life : {t : Session} {lines : List Line} {xs : List Answer} → Runs started lines xs t → List·Nodup (openings xs)
-    → (t ≡ started) ⊎ ((earlier : List Layout) × Lives t earlier)
-unfolding Fresh Standing Living
-a-run-is-a-life {xs = xs} run once =
-    let nil = append-nil (openings xs) in along Standing standing-after [] run (rw nil once) (λ n h. started-unopened n) (inl refl) .0
+    → (openings xs ≡ []) ⊎ ((earlier : List Layout) × Lives t earlier)
+unfolding Fresh Living nodup-append
+a-run-is-a-life {t} run once = go refl run once
+  where
+    go : {s : Session} {ls : List Line} {ys : List Answer} → s ≡ started → Runs s ls ys t → List·Nodup (openings ys)
+        → (openings ys ≡ []) ⊎ ((earlier : List Layout) × Lives t earlier)
+    go e none once = inl refl
+    go e (more {s} {t = w} {line = line} {a = a} {xs = zs} step run) once =
+        let v = way s (askedIn line) w a step in
+        let nil = append-nil (openings zs) in
+        let rest = nodup-append {l₁ = opens a} .0 once .1 in
+        let fresh : Fresh s (opens a ++ openings zs) = λ n h. rw e (started-unopened n) in
+        let after = fresh-after v (openings zs) once fresh in
+        ⊎-elim
+        (λ o. inr (along Living living-after [] run (rw nil rest) (rw nil after)
+        (begun s w a (λ n h. fresh n (Memᴰ·append-left (openings zs) h)) o) .0))
+        (λ z. ⊎-elim (λ f. inl (rw (z .0) f)) inr (go (started-stays e (z .1)) run rest)) (opens-or-not v)
 
 -- an accepted opening, by its answer
 accepted : (s : Session) (q : Request) (t : Session) (m : Mark) → Answers s q t (opened m) → (o : Opens s t (opened m)) × (m ≡ o .mark)

@@ -44,7 +44,7 @@ use Rattle.session.specs.Session.{started, withLayout, Reply, reply, answerBy, 
 use Rattle.session.specs.Session.{numbersSaid, afterRemove, keptBy, afterKeep, afterRestore, reportBy, afterReport, Answers}
 use Rattle.demands.specs.Life.{OneOf, Life, Given, byOpen, byInsertFirst, byInsertPart, byInsertFree, byRemove}
 use Rattle.demands.specs.Life as life
-use Rattle.demands.specs.Counter.{marksWritten, opens, GoesOn, Stale, Lives}
+use Rattle.demands.specs.Counter.{marksWritten, opens, Declines, GoesOn, Stale, Lives}
 use Rattle.demands.proofs.Lives.{newest-number}
 use Rattle.demands.proofs.Outcomes.{opened-so}
 
@@ -204,6 +204,22 @@ started-stays {s} {t} e h i =
     kept : (t .kept ≡ s .kept) ⊎ (t .kept ≡ s .layout) → t .kept ≡ zeroLayout
     kept (inl y) = y ∙ ap (λ (x : Session). x .kept) e
     kept (inr y) = y ∙ ap (λ (x : Session). x .layout) e
+
+-- each request is refused
+pub started-declines : (q : Request) (t : Session) (a : Answer) → Answers started q t a → opens a ≡ [] → Declines a
+unfolding Answers afterOpen afterOffers afterInsert afterRemove afterKeep afterRestore afterReport offersCall InsertSays insertNo RemoveSays removeNo restoreOf
+started-declines (Open number size cut stages) t a h e = go (openOf number size cut stages .outcome) h
+  where
+    go : (o : Opening) → reply t a ≡ openedBy started (openOf number size cut stages .layout) o → Declines a
+    go (opening.Free m) h = let z : _≡_ {A = List ℕ} (m .layout ∷ []) [] = ap opens (sym (says h)) ∙ e in absurd (clash (cc))
+    go (opening.Refused r) h = rw (says h) tt
+started-declines (Offers m p) t a h e = rw (rw zero-refused at (says h)) tt
+started-declines (Insert m p r f) t a h e = let z = rw zero-refused at (h .1) in rw (says (h .2), z) tt
+started-declines (Remove m) t a h e = let z = rw zero-refused at (h .1) in rw (says (h .2), z) tt
+started-declines Keep t a h e = rw (ap (λ (r : Reply). r .answer) (rw zero-refused at h)) tt
+started-declines Restore t a h e = rw (rw zero-refused at (says h)) tt
+started-declines Report t a h e = rw (rw zero-refused at (says h)) tt
+started-declines Malformed t a h e = rw (says h) tt
 
 -- ---- a number that has not been opened: neither the layout nor what is kept could be put back on one of that number
 

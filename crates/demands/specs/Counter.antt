@@ -38,6 +38,22 @@ marksWritten (done op) = []
 marksWritten (reported used nodes bits) = []
 marksWritten malformed = []
 
+-- a refusal; a malformed line gets one too
+abbrev pub Declines : Answer → Type 0
+Declines (refused op e) = Unit
+Declines (opened m) = ⊥
+Declines (offered os) = ⊥
+Declines (inserted first part frees) = ⊥
+Declines (removed m numbers) = ⊥
+Declines (done op) = ⊥
+Declines (reported used nodes bits) = ⊥
+Declines malformed = Unit
+
+-- each of these answers is one
+abbrev pub AllDecline : List Answer → Type 0
+AllDecline [] = Unit
+AllDecline (x ∷ xs) = Declines x × AllDecline xs
+
 -- the number of the layout, if the answer accepts an opening
 abbrev pub opens : Answer → List ℕ
 opens (refused op e) = []
