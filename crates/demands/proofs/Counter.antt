@@ -1,19 +1,15 @@
--- Demand 1 at the counter: a run of lines is a life, from one accepted opening to the next, and so every mark that an answer has written names its piece,
--- or is refused with 5, or, once another layout was opened, with 4. And what an opening does to the marks before it. Rests on specs/Counter, on what an
--- answer does (CounterSteps) and on the laws of a life (Lives, Marks, MarksGiven). Assumes nothing.
+-- Demand 1 at the counter: a run of lines is a life, from the opening of a number to the next opening, if that number is opened once; and so every mark of it
+-- that an answer has written names its piece, or is refused with 5, or, once another layout was opened, with 4. Rests on specs/Counter, on what
+-- an answer does (CounterSteps), and on the laws of a life (Lives, Marks, MarksGiven). Assumes nothing.
 use mathlib.Core.Path.{_≡_, refl, sym, ap, _∙_}
-use mathlib.Core.Bool.{true, false}
+use mathlib.Core.Bool.{Bool, true, false}
 use mathlib.Core.List.{List, [], _∷_, _++_, append-nil, append-assoc, List·Memᴰ, List·Memᴰ·head, Memᴰ·append-left, Memᴰ·append-right}
-use mathlib.Core.List.{List·Nodup, nodup-append}
+use mathlib.Core.List.{List·Memᴰ·not-nil, List·Memᴰ·eq-of-singleton}
 use mathlib.Core.Logic.{_⊎_, inl, inr, ⊎-elim}
 use Prim.Native.Nat.{ℕ}
-use borrow.Author.Tests.{ne-eqb}
-use Rattle.piece.specs.declared.size.Size.{Size}
-use Rattle.piece.specs.declared.orientation.Orientation.{Orientation}
-use Rattle.piece.specs.declared.node.Datum.{Datum}
+use lib.Dec.{eqb}
+use borrow.Author.Tests.{eqb-true, eqb-false, ne-eqb}
 use Rattle.lists.proofs.Scan.{clash}
-use Rattle.tree.specs.Tree.{At}
-use Rattle.tree.specs.Open.{firstFree}
 use Rattle.answers.specs.declared.Mark.{Mark}
 use Rattle.answers.specs.declared.Refusal.{Refusal}
 use Rattle.answers.specs.declared.Refusal.the-variants.{OtherLayout, Gone}
@@ -21,29 +17,29 @@ use Rattle.lines.specs.Text.{Line}
 use Rattle.lines.specs.Stream.{empty, feeds}
 use Rattle.layout.specs.declared.layout.Layout.{Layout}
 use Rattle.layout.specs.declared.replies.Sought.the-variants as sought
-use Rattle.layout.specs.Check.{limit, soundB}
-use Rattle.layout.specs.SoundLayout.{Sized}
+use Rattle.layout.specs.Check.{soundB}
 use Rattle.layout.specs.Asked.{soughtOf}
 use Rattle.layout.specs.Insert.{InsertSays, insertNo, refusedInsert}
 use Rattle.layout.specs.Remove.{RemoveSays, removeNo, refusedRemove}
-use Rattle.layout.proofs.Exactly.{sound-shown, zero-refused, zero-sized}
+use Rattle.layout.proofs.Exactly.{sound-says, sound-shown}
 use Rattle.layout.proofs.Ways.{ended}
 use Rattle.looks.specs.Answers.{offersCall}
 use Rattle.frames.specs.declared.Request.{Request}
-use Rattle.frames.specs.Answers.{Answer, refused, opened}
+use Rattle.frames.specs.Answers.{Answer, refused}
 use Rattle.session.specs.declared.Session.{Session}
 use Rattle.session.specs.declared.desk.Desk.{Desk}
 use Rattle.session.specs.Session.{started, Reply, Answers, afterOffers, afterInsert, afterRemove}
 use Rattle.session.specs.Desk.{askedIn, Runs, none, more, Served, opening}
 use Rattle.session.proofs.Decided.{answers-once}
 use Rattle.session.proofs.Laws.{served-run}
-use Rattle.demands.specs.Life.{OneOf, Names}
-use Rattle.demands.specs.Counter.{marksWritten, opens, openings, AllDecline, Stale, Lives, GoesOn, Carries, offersOn, insertIn, removeOf, Refuses, Lasts, names, gone, elsewhere}
+use Rattle.demands.specs.Life.{Names}
+use Rattle.demands.specs.Counter.{marksWritten, opens, openings, OpenedOnce, AllDecline, Lives, GoesOn, Carries, offersOn, insertIn, removeOf, Refuses, Lasts, names, gone, elsewhere}
 use Rattle.demands.proofs.Lives.{states-sound}
 use Rattle.demands.proofs.Marks.{marks-last}
-use Rattle.demands.proofs.MarksGiven.{given-names}
+use Rattle.demands.proofs.MarksGiven.{named}
 use Rattle.demands.proofs.CounterSteps.{Opens, Way, way, Moved, Stepped, opens-or-not, none-opened, started-stays, started-declines, Unopened, started-unopened}
-use Rattle.demands.proofs.CounterSteps.{opened-number, unopened-after, same-goes, goes-on, life-begins, Writes, writes}
+use Rattle.demands.proofs.CounterSteps.{opened-number, opened-checked, Shaped, started-shaped, fits-after, unopened-after, same-goes, goes-on}
+use Rattle.demands.proofs.CounterSteps.{life-begins, writes}
 
 -- ---- the openings of answers
 
@@ -80,107 +76,78 @@ before-any-opening {t} {lines} {xs} = go refl
         ⊎-elim (λ o. none-opened o (z .0)) (λ y. let f = go (started-stays e (y .1)) run (z .1) in (f .0, (no, f .1)))
         (opens-or-not (way s (askedIn line) w a step))
 
--- ---- a run in which no number is opened twice
+-- ---- the openings of a run
 
--- nothing of these numbers has been opened yet
-Fresh : Session → List ℕ → Type 0
-Fresh s ns = (n : ℕ) → List·Memᴰ n ns → Unopened n s
-
-fresh-after : {s t : Session} {a : Answer} → Way s t a → (ns : List ℕ) → List·Nodup (opens a ++ ns) → Fresh s (opens a ++ ns) → Fresh t ns
-unfolding Fresh nodup-append
-fresh-after {a = a} w ns once fresh n h =
-    unopened-after n w (λ o. nodup-append {l₁ = opens a} {l₂ = ns} .0 once .2 n ∣ o ∣₁ ∣ h ∣₁) (fresh n (Memᴰ·append-right (opens a) h))
-
--- what holds of a state and is kept by each answer, as long as what stands is not of the number that it opens, holds after a run
-module _ (P : Session → Type 0)
-    (step : (s t : Session) (a : Answer) → P s → Way s t a → ((n : ℕ) → List·Memᴰ n (opens a) → Unopened n s) → P t) where
-  along : {s t : Session} {lines : List Line} {xs : List Answer} (ns : List ℕ) → Runs s lines xs t → List·Nodup (openings xs ++ ns)
-      → Fresh s (openings xs ++ ns) → P s → P t × Fresh t ns
-  unfolding Fresh
-  along ns none once fresh p = (p, fresh)
-  along ns (more {s} {t} {line = line} {a = a} {xs = xs} answer run) once fresh p =
-      let w = way s (askedIn line) t a answer in
-      let e = append-assoc (opens a) (openings xs) ns in
-      let once′ : List·Nodup (opens a ++ (openings xs ++ ns)) = rw (← e) once in
-      let fresh′ : Fresh s (opens a ++ (openings xs ++ ns)) = rw (← e) fresh in
-      along ns run (nodup-append {l₁ = opens a} .0 once′ .1) (fresh-after w (openings xs ++ ns) once′ fresh′)
-      (step s t a p w (λ n h. fresh′ n (Memᴰ·append-left (openings xs ++ ns) h)))
-
--- a life, or none yet
-Living : Session → Type 0
-Living s = (ls : List Layout) × Lives s ls
-
-Standing : Session → Type 0
-Standing s = (s ≡ started) ⊎ Living s
-
-module _ (s t : Session) (a : Answer) where
-  begun : ((n : ℕ) → List·Memᴰ n (opens a) → Unopened n s) → Opens s t a → Living t
-  unfolding Living
-  begun fresh o = ([], life-begins o (fresh (o .mark .layout) (rw (o .answer) (List·Memᴰ·head refl)) .kept))
-
-  living-after : Living s → Way s t a → ((n : ℕ) → List·Memᴰ n (opens a) → Unopened n s) → Living t
-  unfolding Living
-  living-after h w fresh = ⊎-elim (begun fresh) (λ z. let g = goes-on (h .1) w (z .0) in (g .then, g .lives)) (opens-or-not w)
-
-  standing-after : Standing s → Way s t a → ((n : ℕ) → List·Memᴰ n (opens a) → Unopened n s) → Standing t
-  unfolding Standing
-  standing-after (inr h) w fresh = inr (living-after h w fresh)
-  standing-after (inl e) w fresh = ⊎-elim (λ o. inr (begun fresh o)) (λ z. inl (started-stays e (z .1))) (opens-or-not w)
-
--- a run from the start is a life as soon as an opening is accepted
-pub a-run-is-a-life : {t : Session} {lines : List Line} {xs : List Answer} → Runs started lines xs t → List·Nodup (openings xs)
-    → (openings xs ≡ []) ⊎ ((earlier : List Layout) × Lives t earlier)
-unfolding Fresh Living nodup-append
-a-run-is-a-life {t} run once = go refl run once
-  where
-    go : {s : Session} {ls : List Line} {ys : List Answer} → s ≡ started → Runs s ls ys t → List·Nodup (openings ys)
-        → (openings ys ≡ []) ⊎ ((earlier : List Layout) × Lives t earlier)
-    go e none once = inl refl
-    go e (more {s} {t = w} {line = line} {a = a} {xs = zs} step run) once =
-        let v = way s (askedIn line) w a step in
-        let nil = append-nil (openings zs) in
-        let rest = nodup-append {l₁ = opens a} .0 once .1 in
-        let fresh : Fresh s (opens a ++ openings zs) = λ n h. rw e (started-unopened n) in
-        let after = fresh-after v (openings zs) once fresh in
-        ⊎-elim
-        (λ o. inr (along Living living-after [] run (rw nil rest) (rw nil after)
-        (begun s w a (λ n h. fresh n (Memᴰ·append-left (openings zs) h)) o) .0))
-        (λ z. ⊎-elim (λ f. inl (rw (z .0) f)) inr (go (started-stays e (z .1)) run rest)) (opens-or-not v)
-
--- an accepted opening, by its answer
-accepted : (s : Session) (q : Request) (t : Session) (m : Mark) → Answers s q t (opened m) → (o : Opens s t (opened m)) × (m ≡ o .mark)
-accepted s q t m answer = ⊎-elim (λ o. (o, cc)) (λ z. absurd (clash (cc))) (opens-or-not (way s q t (opened m) answer))
-
--- and the first opening of a number begins one, whatever was opened before
-pub a-life-begins : {t u : Session} {lines : List Line} {xs : List Answer} → Runs started lines xs t → (q : Request) (m : Mark)
-    → Answers t q u (opened m) → (List·Memᴰ (m .layout) (openings xs) → ⊥) → Lives u []
-a-life-begins {t} {u} {xs = xs} run q m answer new =
-    let z = accepted t q u m answer in
-    life-begins (z .0) (rw (z .1) at (unopened (m .layout) (started-unopened (m .layout)) run new .kept))
-  where
-    unopened : (n : ℕ) {s : Session} {ls : List Line} {ys : List Answer} → Unopened n s → Runs s ls ys t → (List·Memᴰ n (openings ys) → ⊥) → Unopened n t
-    unopened n h none other = h
-    unopened n h (more {s} {t = w} {line = line} {a = a} {xs = zs} step run) other =
-        unopened n (unopened-after n (way s (askedIn line) w a step) (λ o. other (Memᴰ·append-left (openings zs) o)) h) run
-        (λ o. other (Memᴰ·append-right (opens a) o))
-
--- the layout has the last number that was opened, and the one that it had where none was
 moved-number : (l n : Layout) → Moved l n → n .number ≡ l .number
 moved-number l n (inl e) = ap (λ (x : Layout). x .number) e
 moved-number l n (inr z) = z .1
 
-last-number : {s t : Session} {lines : List Line} {xs : List Answer} → Runs s lines xs t
-    → ((openings xs ≡ []) × (t .layout .number ≡ s .layout .number)) ⊎ List·Memᴰ (t .layout .number) (openings xs)
-last-number none = inl (refl, refl)
-last-number {t = t} (more {s} {t = w} {line = line} {a = a} {xs = xs} answer run) =
-    go (last-number run) (opens-or-not (way s (askedIn line) w a answer))
+-- no opening was accepted, and the layout has its number and stays sound; or it is sound, and has a number that was opened
+Last : Session → List ℕ → Session → Type 0
+Last s ns t =
+    ((ns ≡ []) × (t .layout .number ≡ s .layout .number) × (soundB (s .layout) ≡ true → soundB (t .layout) ≡ true))
+    ⊎ (List·Memᴰ (t .layout .number) ns × (soundB (t .layout) ≡ true))
+
+last-opened : {s t : Session} {lines : List Line} {xs : List Answer} → Shaped s → Runs s lines xs t → Last s (openings xs) t
+unfolding Last
+last-opened h none = inl (refl, refl, λ x. x)
+last-opened {t = t} h (more {s} {t = w} {line = line} {a = a} {xs = xs} answer run) =
+    let v = way s (askedIn line) w a answer in
+    let f = fits-after h v in
+    go (f .sound) (last-opened (f .shaped) run) (opens-or-not v)
   where
-    go : ((openings xs ≡ []) × (t .layout .number ≡ w .layout .number)) ⊎ List·Memᴰ (t .layout .number) (openings xs)
-        → Opens s w a ⊎ ((opens a ≡ []) × Stepped s w)
-        → ((opens a ++ openings xs ≡ []) × (t .layout .number ≡ s .layout .number)) ⊎ List·Memᴰ (t .layout .number) (opens a ++ openings xs)
-    go (inr h) o = inr (Memᴰ·append-right (opens a) h)
-    go (inl h) (inl o) = inr (Memᴰ·append-left {s = opens a} (openings xs) (rw (o .answer) (List·Memᴰ·head (h .1 ∙ opened-number o))))
-    go (inl h) (inr z) = inl (rw (z .0) (h .0), h .1 ∙ moved-number (s .layout) (w .layout) (z .1 .layout))
+    go : (soundB (s .layout) ≡ true → soundB (w .layout) ≡ true) → Last w (openings xs) t → Opens s w a ⊎ ((opens a ≡ []) × Stepped s w)
+        → Last s (opens a ++ openings xs) t
+    go f (inr y) o = inr (Memᴰ·append-right (opens a) (y .0), y .1)
+    go f (inl y) (inl o) =
+        inr (Memᴰ·append-left {s = opens a} (openings xs) (rw (o .answer) (List·Memᴰ·head (y .1 ∙ opened-number o))), y .2 (opened-checked o))
+    go f (inl y) (inr z) = inl (rw (z .0) (y .0), y .1 ∙ moved-number (s .layout) (w .layout) (z .1 .layout), λ x. y .2 (f x))
+
+-- ---- one number, opened at most once
+
+-- it was opened: its layout stands and lives, or another stands
+data Opened (n : ℕ) (s : Session) : Type 0 where
+  here : (ls : List Layout) → Lives s ls → s .layout .number ≡ n → Opened n s
+  away : (s .layout .number ≡ n → ⊥) → Opened n s
+
+opened-after : (n : ℕ) {s t : Session} {a : Answer} → Way s t a → (List·Memᴰ n (opens a) → ⊥) → Opened n s → Opened n t
+opened-after n {s} {t} {a} w other h = ⊎-elim leaves (λ z. stays (z .0) (moved-number (s .layout) (t .layout) (z .1 .layout)) h) (opens-or-not w)
+  where
+    leaves : Opens s t a → Opened n t
+    leaves o = away (λ e. other (rw (o .answer) (List·Memᴰ·head (sym e ∙ opened-number o))))
+
+    stays : opens a ≡ [] → t .layout .number ≡ s .layout .number → Opened n s → Opened n t
+    stays f same (here ls l e) = let g = goes-on l w f in here (g .then) (g .lives) (same ∙ e)
+    stays f same (away e) = away (λ z. e (sym same ∙ z))
+
+-- it is not opened yet, and will be once; or it was opened, and won't be again
+Once : ℕ → Session → List ℕ → Type 0
+Once n s ns = (Unopened n s × OpenedOnce n ns) ⊎ (Opened n s × (List·Memᴰ n ns → ⊥))
+
+once-after : (n : ℕ) {s t : Session} {a : Answer} (ns : List ℕ) → Way s t a → Once n s (opens a ++ ns) → Once n t ns
+unfolding Once
+once-after n {s} {t} {a} ns w (inr y) =
+    inr (opened-after n w (λ o. y .1 (Memᴰ·append-left ns o)) (y .0), λ h. y .1 (Memᴰ·append-right (opens a) h))
+once-after n {s} {t} {a} ns w (inl y) = ⊎-elim opening (λ z. inl (unopened-after n w (λ o. List·Memᴰ·not-nil (rw (z .0) at o)) (y .0), rw (z .0) at (y .1))) (opens-or-not w)
+  where
+    opening : Opens s t a → Once n t ns
+    opening o = go (eqb (o .mark .layout) n) refl (rw (ap opens (o .answer)) at (y .1))
+      where
+        go : (b : Bool) → eqb (o .mark .layout) n ≡ b → OpenedOnce n (o .mark .layout ∷ ns) → Once n t ns
+        go true e z =
+            let same = eqb-true (o .mark .layout) n e in
+            inr (here [] (life-begins o (rw (sym same) at (y .0 .kept))) (opened-number o ∙ same), z .0 same)
+        go false e z =
+            inl (unopened-after n w (λ h. eqb-false (o .mark .layout) n e (sym (List·Memᴰ·eq-of-singleton (rw (o .answer) at h)))) (y .0), z .1)
+
+once-run : (n : ℕ) {s t : Session} {lines : List Line} {xs : List Answer} (ns : List ℕ) → Runs s lines xs t → Once n s (openings xs ++ ns) → Once n t ns
+once-run n ns none h = h
+once-run n ns (more {s} {t} {line = line} {a = a} {xs = xs} answer run) h =
+    once-run n ns run (once-after n (openings xs ++ ns) (way s (askedIn line) t a answer) (rw (← append-assoc (opens a) (openings xs) ns) h))
+
+shaped-run : {s t : Session} {lines : List Line} {xs : List Answer} → Runs s lines xs t → Shaped s → Shaped t
+shaped-run none h = h
+shaped-run (more {s} {t} {line = line} {a = a} answer run) h = shaped-run run (fits-after h (way s (askedIn line) t a answer) .shaped)
 
 -- ---- refusals
 
@@ -209,67 +176,65 @@ other-refused s k sound other =
 
 -- ---- THE LAW
 
-lives-checked : {s : Session} {ls : List Layout} → Lives s ls → soundB (s .layout) ≡ true
-lives-checked {s} h = let z = states-sound (h .life) (s .layout) (inl refl) in sound-shown (s .layout) (z .1) (z .0)
+-- from the start to a state, with these openings still to come
+from-start : (n : ℕ) {t : Session} {lines : List Line} {xs : List Answer} (ns : List ℕ) → Runs started lines xs t → OpenedOnce n (openings xs ++ ns)
+    → Once n t ns
+unfolding Once
+from-start n ns run once = once-run n ns run (inl (started-unopened n, once))
 
--- the mark k named a piece of the state u, and the openings since then are of other numbers
-module _ {u v : Session} {ls ks : List Layout} {lines : List Line} {ys : List Answer} (hu : Lives u ls) (hv : Lives v ks) (run : Runs u lines ys v)
-    (fresh : (n : ℕ) → List·Memᴰ n (openings ys) → Unopened n u) (k : Mark) (named : Names (u .layout) k) where
-  -- no opening
-  in-one-life : openings ys ≡ [] → Lasts u ys v k
-  in-one-life e =
-      let g = the-life-goes-on hu run e in
-      ⊎-elim (λ z. gone (is-refused v k Gone (lives-checked hv) z)) (λ z. names (z .0) (z .1))
-      (marks-last (g .lives .life) (u .layout) (v .layout) (inl (refl, g .holds (u .layout) (inl refl))) k named)
+-- a layout that is sound, and whose number was opened once, lives
+standing : (n : ℕ) {s : Session} {ns : List ℕ} → Once n s ns → s .layout .number ≡ n → soundB (s .layout) ≡ true
+    → ((ls : List Layout) × Lives s ls) × (List·Memᴰ n ns → ⊥)
+unfolding Once
+standing n (inl y) e sound = ⊎-elim (λ z. absurd (clash (sym z ∙ sound))) (λ other. absurd (other e)) (y .0 .layout)
+standing n {s} {ns} (inr y) e sound = go (y .0)
+  where
+    go : Opened n s → ((ls : List Layout) × Lives s ls) × (List·Memᴰ n ns → ⊥)
+    go (here ls l f) = ((ls, l), y .1)
+    go (away other) = absurd (other e)
 
-  -- another layout stands
-  in-another : (openings ys ≡ [] → ⊥) → Lasts u ys v k
-  in-another some =
-      elsewhere some
-      (other-refused v k (lives-checked hv) (λ e. ⊎-elim (λ z. some (z .0)) (λ h. other (fresh (v .layout .number) h .layout) e) (last-number run)))
-    where
-      other : Stale (v .layout .number) (u .layout) → k .layout ≡ v .layout .number → ⊥
-      other (inl unsound) e = clash (sym unsound ∙ lives-checked hu)
-      other (inr differs) e = differs (sym (named .number) ∙ e)
+-- A RUN from the start IS A LIFE of the layout that stands, if its number was opened once (and else no opening was accepted)
+pub a-run-is-a-life : {t : Session} {lines : List Line} {xs : List Answer} → Runs started lines xs t → OpenedOnce (t .layout .number) (openings xs)
+    → (openings xs ≡ []) ⊎ ((earlier : List Layout) × Lives t earlier)
+unfolding Last
+a-run-is-a-life {t} {xs = xs} run once =
+    ⊎-elim (λ z. inl (z .0)) (λ z. inr (standing (t .layout .number) (from-start _ [] run (rw (append-nil (openings xs)) once)) refl (z .1) .0))
+    (last-opened started-shaped run)
 
+-- the mark k named a piece of the state u, whose number is not opened again
+module _ {u v : Session} {ls : List Layout} {lines : List Line} {ys : List Answer} (h : Lives u ls) (shaped : Shaped u) (run : Runs u lines ys v) (k : Mark)
+    (named : Names (u .layout) k) (never : List·Memᴰ (k .layout) (openings ys) → ⊥) where
   lasts : Lasts u ys v k
-  lasts = go (openings ys) refl
+  unfolding Last
+  lasts = ⊎-elim (λ z. one-life (z .0)) another (last-opened shaped run)
     where
-      go : (ns : List ℕ) → openings ys ≡ ns → Lasts u ys v k
-      go [] e = in-one-life e
-      go (n ∷ ns) e = in-another (λ z. clash (cc))
+      -- no opening: a state of the same life
+      one-life : openings ys ≡ [] → Lasts u ys v k
+      one-life e =
+          let g = the-life-goes-on h run e in
+          let c = states-sound (g .lives .life) (v .layout) (inl refl) in
+          ⊎-elim (λ z. gone (is-refused v k Gone (sound-shown (v .layout) (c .1) (c .0)) z)) (λ z. names (z .0) (z .1))
+          (marks-last (g .lives .life) (u .layout) (v .layout) (inl (refl, g .holds (u .layout) (inl refl))) k named)
 
--- a mark is written only in a life
-module _ {t u : Session} {a : Answer} (w : Way t u a) (fresh : (n : ℕ) → List·Memᴰ n (opens a) → Unopened n t) where
-  standing-sized : Standing t → Sized (t .layout)
-  unfolding Standing Living
-  standing-sized (inl e) = rw e zero-sized
-  standing-sized (inr z) = states-sound (z .1 .life) (t .layout) (inl refl) .1
+      -- another layout stands
+      another : List·Memᴰ (v .layout .number) (openings ys) × (soundB (v .layout) ≡ true) → Lasts u ys v k
+      another z =
+          elsewhere (λ e. List·Memᴰ·not-nil (rw e at (z .0))) (other-refused v k (z .1) (λ e. never (rw e (z .0))))
 
-  written-living : (k : Mark) → Standing t → Writes t u a k → Living u
-  unfolding Standing
-  written-living k (inr h) y = living-after t u a h w fresh
-  written-living k (inl e) y =
-      ⊎-elim (begun t u a fresh) (λ z. absurd (clash (sym zero-refused ∙ sym (ap (λ (x : Session). soundB (x .layout)) e) ∙ z))) (y .sound)
-
--- ANY RUN of the counter from its start in which no number is opened twice: every mark that an answer has written lasts
+-- EVERY MARK that an answer has written, in any run of the counter from its start, lasts, if its number was opened once
 pub marks-last-at-the-counter : {t u v : Session} {before after : List Line} {xs ys : List Answer} → Runs started before xs t
-    → (q : Request) (a : Answer) → Answers t q u a → Runs u after ys v → List·Nodup (openings (xs ++ (a ∷ ys)))
-    → (k : Mark) → List·Memᴰ k (marksWritten a) → Lasts u ys v k
-unfolding Fresh Standing Living nodup-append
-marks-last-at-the-counter {t} {u} {v} {xs = xs} {ys = ys} first q a answer run once k h =
-    let once′ : List·Nodup (openings xs ++ (opens a ++ openings ys)) = rw (openings-append xs (a ∷ ys)) at once in
+    → (q : Request) (a : Answer) → Answers t q u a → Runs u after ys v
+    → (k : Mark) → List·Memᴰ k (marksWritten a) → OpenedOnce (k .layout) (openings (xs ++ (a ∷ ys))) → Lasts u ys v k
+marks-last-at-the-counter {t} {u} {v} {xs = xs} {ys = ys} first q a answer run k h once =
     let w = way t q u a answer in
-    let y = along Standing standing-after (opens a ++ openings ys) first once′ (λ n z. started-unopened n) (inl refl) in
-    let here : (n : ℕ) → List·Memᴰ n (opens a) → Unopened n t = λ n z. y .1 n (Memᴰ·append-left (openings ys) z) in
-    let wr = writes (standing-sized w here (y .0)) w k h in
-    let hu = written-living w here k (y .0) wr in
-    let rest = nodup-append {l₁ = openings xs} .0 once′ .1 in
-    let fresh = fresh-after w (openings ys) rest (y .1) in
-    let nil = append-nil (openings ys) in
-    let last = nodup-append {l₁ = opens a} .0 rest .1 in
-    let hv = along Living living-after [] run (rw nil last) (rw nil fresh) hu .0 in
-    lasts {ls = hu .0} {ks = hv .0} (hu .1) (hv .1) run fresh k (given-names (hu .1 .life) (u .layout) (u .layout) (inl (refl, inl refl)) k (wr .given))
+    let shaped = shaped-run first started-shaped in
+    let f = fits-after shaped w in
+    let y = writes (shaped .layout) w k h in
+    let sound : soundB (u .layout) ≡ true = ⊎-elim opened-checked (f .sound) (y .sound) in
+    let n = named (f .shaped .layout) (sound-says (u .layout) (f .shaped .layout) sound) (y .given) in
+    let z = once-after (k .layout) (openings ys) w (from-start (k .layout) (opens a ++ openings ys) first (rw (openings-append xs (a ∷ ys)) at once)) in
+    let l = standing (k .layout) z (sym (n .number)) sound in
+    lasts {ls = l .0 .0} (l .0 .1) (f .shaped) run k n (l .1)
 
 -- ---- an input that arrives in chunks
 
@@ -305,8 +270,8 @@ through (x ∷ xs) a ys (more {line = line} step run) =
 
 -- The desk, however its input was cut: the marks of each of its answers last.
 pub marks-last-at-the-desk : {d : Desk} {cs : List (List ℕ)} (xs : List Answer) (a : Answer) (ys : List Answer) → Served opening cs (xs ++ (a ∷ ys)) d
-    → List·Nodup (openings (xs ++ (a ∷ ys)))
-    → (z : Through started (feeds empty cs .lines) xs a ys (d .session)) × ((k : Mark) → List·Memᴰ k (marksWritten a) → Lasts (z .to) ys (d .session) k)
-marks-last-at-the-desk xs a ys served once =
+    → (z : Through started (feeds empty cs .lines) xs a ys (d .session))
+    × ((k : Mark) → List·Memᴰ k (marksWritten a) → OpenedOnce (k .layout) (openings (xs ++ (a ∷ ys))) → Lasts (z .to) ys (d .session) k)
+marks-last-at-the-desk xs a ys served =
     let z = through xs a ys (served-run served .runs) in
-    (z, marks-last-at-the-counter (z .first) (askedIn (z .line)) a (z .answer) (z .rest) once)
+    (z, marks-last-at-the-counter (z .first) (askedIn (z .line)) a (z .answer) (z .rest))

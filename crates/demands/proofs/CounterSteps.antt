@@ -1,13 +1,13 @@
 -- What an answer of the counter does to the layout and to what is kept, and so to the life that they stand in. Each op is looked at once (`Way`).
 -- Rests on specs/Counter, on the session's rule (`Answers`) and on the life's laws (Lives). Assumes nothing.
 use mathlib.Core.Path.{_≡_, refl, sym, ap, _∙_}
-use mathlib.Core.Bool.{Bool, true, false, cond}
-use mathlib.Core.List.{List, [], _∷_, _++_, List·Memᴰ, List·Memᴰ·head, List·Memᴰ·not-nil, List·Memᴰ·cases-cons, List·Memᴰ·eq-of-singleton}
+use mathlib.Core.Bool.{Bool, true, false}
+use mathlib.Core.List.{List, [], _∷_, List·Memᴰ, List·Memᴰ·head, List·Memᴰ·not-nil, List·Memᴰ·cases-cons, List·Memᴰ·eq-of-singleton}
 use mathlib.Core.Logic.{_⊎_, inl, inr, ⊎-elim}
 use mathlib.Core.Option.{Option, none, some}
 use Prim.Native.Nat.{ℕ}
 use lib.Dec.{eqb}
-use borrow.Author.Tests.{eqb-true, eq-eqb, ne-eqb}
+use borrow.Author.Tests.{eqb-true}
 use Rattle.piece.specs.declared.size.Size.{Size}
 use Rattle.piece.specs.declared.orientation.Orientation.{Orientation}
 use Rattle.piece.specs.declared.rotation.Rotation.{Rotation}
@@ -25,28 +25,30 @@ use Rattle.layout.specs.declared.replies.Outcome.the-variants as outcomes
 use Rattle.layout.specs.declared.insert.Inserted.{Inserted}
 use Rattle.layout.specs.declared.remove.Removed.{Removed}
 use Rattle.layout.specs.Check.{limit, soundB}
-use Rattle.layout.specs.SoundLayout.{Sized}
+use Rattle.layout.specs.SoundLayout.{Sized, SoundLayout}
 use Rattle.layout.specs.Zero.{zeroLayout}
 use Rattle.layout.specs.Open.{freshLayout, openOf}
 use Rattle.layout.specs.Insert.{bookingFor, insertIs, insertNo, InsertSays}
 use Rattle.layout.specs.Remove.{removeIs, removeNo, RemoveSays}
-use Rattle.layout.specs.Restore.{restoreOf}
-use Rattle.layout.proofs.Exactly.{zero-refused}
+use Rattle.layout.specs.Restore.{greater, withSerial, restoreOf}
+use Rattle.layout.proofs.Exactly.{sound-says, sound-shown, zero-refused, zero-sized}
+use Rattle.layout.proofs.Opened.{fresh-sized, fresh-sound}
+use Rattle.layout.proofs.Restored.{restored-sound}
 use Rattle.layout.proofs.Admitted.{passed}
 use Rattle.layout.proofs.Inserted.{insert-accepted}
 use Rattle.layout.proofs.Gone.{remove-accepted}
 use Rattle.frames.specs.declared.Request.{Request}
 use Rattle.frames.specs.declared.Request.the-variants.{Open, Offers, Insert, Remove, Keep, Restore, Report, Malformed}
-use Rattle.frames.specs.Answers.{Answer, refused, opened, done, malformed}
+use Rattle.frames.specs.Answers.{Answer, refused, opened, done}
 use Rattle.session.specs.declared.Session.{Session}
 use Rattle.looks.specs.Answers.{offersCall}
 use Rattle.session.specs.Session.{started, withLayout, Reply, reply, answerBy, openedBy, afterOpen, offersSaid, afterOffers, marksSaid, afterInsert}
 use Rattle.session.specs.Session.{numbersSaid, afterRemove, keptBy, afterKeep, afterRestore, reportBy, afterReport, Answers}
-use Rattle.demands.specs.Life.{OneOf, Life, Given, byOpen, byInsertFirst, byInsertPart, byInsertFree, byRemove}
+use Rattle.demands.specs.Life.{Life, Given, byOpen, byInsertFirst, byInsertPart, byInsertFree, byRemove}
 use Rattle.demands.specs.Life as life
 use Rattle.demands.specs.Counter.{marksWritten, opens, Declines, GoesOn, Stale, Lives}
 use Rattle.demands.proofs.Lives.{newest-number}
-use Rattle.demands.proofs.Outcomes.{opened-so}
+use Rattle.demands.proofs.Outcomes.{opened-so, inserted-so, removed-so}
 
 -- ---- the ways of an answer
 
@@ -191,6 +193,79 @@ opens-or-not {s} {t} (byNone e b) = inr (b .number, rw e (record { layout = inl 
 pub none-opened : {s t : Session} {a : Answer} {A : Type 0} → Opens s t a → opens a ≡ [] → A
 none-opened o h = let z : _≡_ {A = List ℕ} (o .mark .layout ∷ []) [] = ap opens (sym (o .answer)) ∙ h in absurd (clash (cc))
 
+-- the number of an accepted opening's layout is that of its mark
+pub opened-number : {s t : Session} {a : Answer} (o : Opens s t a) → t .layout .number ≡ o .mark .layout
+unfolding freshLayout
+opened-number o =
+    let z = opened-so (o .number) (o .size) (o .cut) (o .stages) (o .mark) (o .accepted) in rw (o .state, z .1, z .2) refl
+
+-- ---- soundness stays
+
+-- the arrays are as long as their type says
+pub record Shaped (s : Session) : Type 0 where
+  pub layout : Sized (s .layout)
+  pub kept : Sized (s .kept)
+
+pub started-shaped : Shaped started
+started-shaped = record { layout = zero-sized; kept = zero-sized }
+
+-- n comes after l: its arrays have their length, and where l is sound, n is
+record Fit (l n : Layout) : Type 0 where
+  sized : Sized n
+  sound : soundB l ≡ true → soundB n ≡ true
+
+same-fit : (l n : Layout) → Sized l → n ≡ l → Fit l n
+same-fit l n h e = rw e (record { sized = h; sound = λ x. x })
+
+right-fit : (l n : Layout) → Sized n → SoundLayout n → Fit l n
+right-fit l n h s = record { sized = h; sound = λ x. sound-shown n h s }
+
+insert-fit : (l : Layout) (m : Mark) (p : PartType) (r : Rotation) (f : InsertionShape) (i : Inserted) → Sized l → InsertSays l m p r f i → Fit l (i .layout)
+insert-fit l m p r f i h says =
+    ⊎-elim (same-fit l (i .layout) h) (λ z. right-fit l (i .layout) (z .1 .next .sized) (z .1 .next .sound)) (inserted-so l m p r f i h says)
+
+remove-fit : (l : Layout) (m : Mark) (room : ℕ) (r : Removed) → Sized l → RemoveSays l m room r → Fit l (r .layout)
+remove-fit l m room r h says =
+    ⊎-elim (same-fit l (r .layout) h) (λ z. right-fit l (r .layout) (z .1 .next .sized) (z .1 .next .sound)) (removed-so l m room r h says)
+
+restore-fit : (l k : Layout) → Sized l → Sized k → Fit l (restoreOf l k .layout)
+unfolding restoreOf
+restore-fit l k h g = go (soundB l) (soundB k) (eqb (l .number) (k .number)) refl refl refl
+  where
+    sized : Sized (withSerial k (greater (l .serial) (k .serial)))
+    sized = record { nodes = g .nodes; free = g .free; removable = g .removable }
+
+    go : (a b c : Bool) → soundB l ≡ a → soundB k ≡ b → eqb (l .number) (k .number) ≡ c → Fit l (restoreOf l k .layout)
+    go true true true x y z = rw (x, y, z) (right-fit l _ sized (restored-sound l k (sound-says l h x) (sound-says k g y)))
+    go true true false x y z = rw (x, y, z) (same-fit l l h refl)
+    go true false c x y z = rw (x, y) (same-fit l l h refl)
+    go false b c x y z = rw x (same-fit l l h refl)
+
+opened-right : {s t : Session} {a : Answer} (o : Opens s t a) → Sized (t .layout) × SoundLayout (t .layout)
+opened-right o =
+    let z = opened-so (o .number) (o .size) (o .cut) (o .stages) (o .mark) (o .accepted) in
+    rw (o .state, z .1) (fresh-sized (o .size) (o .cut) (o .number) (o .stages), fresh-sound (o .size) (o .cut) (o .number) (o .stages) (z .0))
+
+pub opened-checked : {s t : Session} {a : Answer} (o : Opens s t a) → soundB (t .layout) ≡ true
+opened-checked {t = t} o = let z = opened-right o in sound-shown (t .layout) (z .0) (z .1)
+
+-- what is known of the layouts after an answer
+pub record Fits (s t : Session) : Type 0 where
+  pub shaped : Shaped t
+  pub sound : soundB (s .layout) ≡ true → soundB (t .layout) ≡ true
+
+fits : {s t : Session} (n : Layout) → Shaped s → t ≡ withLayout s n → Fit (s .layout) n → Fits s t
+fits n h e f = rw e (record { shaped = record { layout = f .sized; kept = h .kept }; sound = f .sound })
+
+pub fits-after : {s t : Session} {a : Answer} → Shaped s → Way s t a → Fits s t
+fits-after {s} {t} h (byOpening o) =
+    record { shaped = record { layout = opened-right o .0; kept = rw (o .state) (h .kept) }; sound = λ x. opened-checked o }
+fits-after {s} h (byInsert m p r f i says e b) = fits (i .layout) h e (insert-fit (s .layout) m p r f i (h .layout) says)
+fits-after {s} h (byRemoval m r says e b) = fits (r .layout) h e (remove-fit (s .layout) m limit r (h .layout) says)
+fits-after {s} h (byRestore e b) = fits _ h e (restore-fit (s .layout) (s .kept) (h .layout) (h .kept))
+fits-after {s} h (byKeep e b) = rw e (record { shaped = record { layout = h .layout; kept = h .layout }; sound = λ x. x })
+fits-after {s} h (byNone e b) = rw e (record { shaped = h; sound = λ x. x })
+
 -- ---- before any opening the layout and what is kept are all zero, and stay so
 
 zero-stays : (n : Layout) → Moved zeroLayout n → n ≡ zeroLayout
@@ -234,12 +309,6 @@ moved-stale : (n : ℕ) (l k : Layout) → Moved l k → Stale n l → Stale n k
 moved-stale n l k (inl e) h = rw e h
 moved-stale n l k (inr y) (inl unsound) = absurd (clash (sym unsound ∙ y .0))
 moved-stale n l k (inr y) (inr other) = inr (λ e. other (sym (y .1) ∙ e))
-
--- the number of an accepted opening's layout is that of its mark
-pub opened-number : {s t : Session} {a : Answer} (o : Opens s t a) → t .layout .number ≡ o .mark .layout
-unfolding freshLayout
-opened-number o =
-    let z = opened-so (o .number) (o .size) (o .cut) (o .stages) (o .mark) (o .accepted) in rw (o .state, z .1, z .2) refl
 
 pub unopened-after : (n : ℕ) {s t : Session} {a : Answer} → Way s t a → (List·Memᴰ n (opens a) → ⊥) → Unopened n s → Unopened n t
 unopened-after n {s} {t} {a} w other h = ⊎-elim opening (λ z. carried (z .1)) (opens-or-not w)

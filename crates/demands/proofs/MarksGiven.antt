@@ -9,7 +9,7 @@ use Rattle.demands.proofs.Lives.{states-sound}
 use Rattle.demands.proofs.Marks.{later-both}
 use Rattle.demands.proofs.MarksNamed.{open-mark-names, insert-marks-name, remove-mark-names, free-position-names, removable-position-names}
 
-named : {k : Layout} {m : Mark} → Sized k → SoundLayout k → Given k m → Names k m
+pub named : {k : Layout} {m : Mark} → Sized k → SoundLayout k → Given k m → Names k m
 named sized sound (byOpen number size cut stages m h) = open-mark-names number size cut stages m h .names
 named sized sound (byInsertFirst l n p r s a w h d) = insert-marks-name l n p r s a w h d .first
 named sized sound (byInsertPart l n p r s a w h d) = insert-marks-name l n p r s a w h d .part .names

@@ -1,11 +1,11 @@
--- What an opening at the counter does to the marks before it. Of another number: each is refused with 4. Of the same number: the mark that it answers is the very
--- mark of the first opening, but it names a piece of the new sheet. So the law of marks (Counter) asks that no number is opened twice, and can't do
+-- What an opening at the counter does to the marks before it. Of another number: each is refused with 4. Of the same number: its mark is the very mark of the
+-- first opening, and names a piece of the new sheet. So the law of marks (Counter) asks that a mark's number was opened once, and can't do
 -- without. Rests on the opened layout (layout's Opened). Assumes nothing.
 use mathlib.Core.Path.{_≡_, refl, sym, ap, _∙_}
 use mathlib.Core.Bool.{true}
-use mathlib.Core.List.{[]}
 use mathlib.Core.Logic.{inl, inr}
 use Prim.Native.Nat.{ℕ}
+use borrow.Author.Tests.{eq-eqb}
 use Rattle.piece.specs.declared.size.Size.{Size}
 use Rattle.piece.specs.declared.orientation.Orientation.{Orientation}
 use Rattle.piece.specs.declared.node.Datum.{Datum}
@@ -20,13 +20,15 @@ use Rattle.layout.specs.declared.open.Opening.the-variants as opening
 use Rattle.layout.specs.Check.{tree, soundB}
 use Rattle.layout.specs.Open.{freshLayout, openOf}
 use Rattle.layout.specs.Insert.{pieceAt}
+use Rattle.layout.specs.Restore.{greater, withSerial, restoreOf}
 use Rattle.layout.proofs.Exactly.{sound-shown}
 use Rattle.layout.proofs.Listed.{piece-is}
 use Rattle.layout.proofs.Opened.{fresh-tree, fresh-sized, fresh-sound}
-use Rattle.frames.specs.declared.Request.the-variants.{Open}
-use Rattle.frames.specs.Answers.{opened}
+use Rattle.frames.specs.declared.Request.the-variants.{Open, Restore}
+use Rattle.frames.specs.Answers.{opened, done}
 use Rattle.session.specs.declared.Session.{Session}
-use Rattle.session.specs.Session.{Reply, withLayout, reply, openedBy, afterOpen, Answers}
+use Rattle.session.specs.Session.{Reply, withLayout, reply, openedBy, afterOpen, afterRestore, Answers}
+use Rattle.session.proofs.Kept.{kept-after}
 use Rattle.demands.specs.Life.{Names, SamePiece}
 use Rattle.demands.specs.Counter.{Refuses}
 use Rattle.demands.proofs.Outcomes.{opened-so}
@@ -90,3 +92,17 @@ the-same-number s t u v number size cut stages m h size′ cut′ stages′ m′
           let new : pieceAt (v .layout) (m .place) ≡ firstFree cut′ size′ = ap (λ (k : Mark). pieceAt (v .layout) (k .place)) (sym same) ∙ second in
           ap (λ (d : Datum). d .size) (sym new ∙ p .piece ∙ first),
     )
+
+-- and what is kept of the first can be put back on it: the marks of the first opening name its pieces again
+pub the-first-put-back : (u v : Session) (number : ℕ) (size : Size) (cut : Orientation) (stages : ℕ) (m : Mark)
+    → Answers u (Open number size cut stages) v (opened m) → soundB (u .kept) ≡ true → u .kept .number ≡ number
+    → (w : Session) × Answers v Restore w (done 6) × (w .layout .nodes ≡ u .kept .nodes)
+unfolding Answers afterRestore restoreOf
+the-first-put-back u v number size cut stages m h sound same =
+    let z = accepted number size cut stages u v m h in
+    let kept : v .kept ≡ u .kept = kept-after u (Open number size cut stages) v (opened m) h in
+    let whole : soundB (v .layout) ≡ true = rw (z .1) (checked number size cut stages m (z .0)) in
+    let its = ap (λ (l : Layout). l .number) (z .1) ∙ its-number number size cut stages m (z .0) in
+    let agree = eq-eqb (v .layout .number) (v .kept .number) (its ∙ sym same ∙ ap (λ (l : Layout). l .number) (sym kept)) in
+    let again : soundB (v .kept) ≡ true = rw kept sound in
+    (withLayout v (withSerial (v .kept) (greater (v .layout .serial) (v .kept .serial))), rw (whole, again, agree) refl, rw kept refl)

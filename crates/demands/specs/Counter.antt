@@ -1,12 +1,13 @@
 -- Demand 1 at the counter. People have no layout in hand: they send lines and get answers, and a mark is what an answer has written. Here is what its
 -- law is said with: the marks and the openings of answers, the life that the counter's state stands in (Life.antt), and the refusal of a mark.
 --
--- From one accepted opening to the next the layout lives one life, as long as what is kept is of that life or can't be put back. What was kept before
--- outlives an opening; if it has another number, or isn't sound, restore refuses it (4, 1) until keep has taken its place. So the law asks for one
--- thing only: that no number is opened twice. An opening of the same number starts the serials at 1 again, and the first mark of both is the same.
+-- From an accepted opening to the next the layout lives one life, if what is kept is of that life or can't be put back. What was kept before outlives an
+-- opening; where it has another number, or isn't sound, restore refuses it (4, 1) until keep has put a state of this life in its place. So the law asks
+-- one thing only of a mark: that its number was opened once. A second opening of the same number starts the serials at 1 again: its first mark is that of
+-- the first opening, and what is kept of the first can be put back on the second (proofs/Reopened.antt).
 use mathlib.Core.Path.{_≡_}
 use mathlib.Core.Bool.{true, false}
-use mathlib.Core.List.{List, [], _∷_, _++_}
+use mathlib.Core.List.{List, [], _∷_, _++_, List·Memᴰ}
 use mathlib.Core.Logic.{_⊎_}
 use Prim.Native.Nat.{ℕ}
 use Rattle.piece.specs.declared.rotation.Rotation.{Rotation}
@@ -65,10 +66,15 @@ opens (done op) = []
 opens (reported used nodes bits) = []
 opens malformed = []
 
--- the numbers that have been opened, in order: no opening was accepted where there is none, and no number was opened twice where they differ
+-- the numbers that have been opened, in order
 abbrev pub openings : List Answer → List ℕ
 openings [] = []
 openings (x ∷ xs) = opens x ++ openings xs
+
+-- the number was opened at most once: where it stands, it doesn't stand again
+abbrev pub OpenedOnce : ℕ → List ℕ → Type 0
+OpenedOnce n [] = Unit
+OpenedOnce n (m ∷ ms) = (m ≡ n → List·Memᴰ n ms → ⊥) × OpenedOnce n ms
 
 -- ---- the life of what stands at the counter
 
