@@ -1,6 +1,6 @@
 -- Demand 1 at the counter: a run of lines is a life, from the opening of a number to the next opening, if that number is opened once; and so every mark of it
 -- that an answer has written names its piece, or is refused with 5, or, once another layout was opened, with 4. Rests on specs/Counter, on what
--- an answer does (CounterSteps), and on the laws of a life (Lives, Marks, MarksGiven). Assumes nothing.
+-- an answer does (CounterWays, CounterSteps), and on the laws of a life (Lives, Marks, MarksGiven). Assumes nothing.
 use mathlib.Core.Path.{_≡_, refl, sym, ap, _∙_}
 use mathlib.Core.Bool.{Bool, true, false}
 use mathlib.Core.List.{List, [], _∷_, _++_, append-nil, append-assoc, List·Memᴰ, List·Memᴰ·head, Memᴰ·append-left, Memᴰ·append-right}
@@ -33,13 +33,15 @@ use Rattle.session.specs.Desk.{askedIn, Runs, none, more, Served, opening}
 use Rattle.session.proofs.Decided.{answers-once}
 use Rattle.session.proofs.Laws.{served-run}
 use Rattle.demands.specs.Life.{Names}
-use Rattle.demands.specs.Counter.{marksWritten, opens, openings, OpenedOnce, AllDecline, Lives, GoesOn, Carries, offersOn, insertIn, removeOf, Refuses, Lasts, names, gone, elsewhere}
+use Rattle.demands.specs.Counter.{marksWritten, opens, openings, OpenedOnce, AllDecline, Lives, GoesOn}
+use Rattle.demands.specs.Counter.{Carries, offersOn, insertIn, removeOf, Refuses, Lasts, names, gone, elsewhere}
 use Rattle.demands.proofs.Lives.{states-sound}
 use Rattle.demands.proofs.Marks.{marks-last}
 use Rattle.demands.proofs.MarksGiven.{named}
-use Rattle.demands.proofs.CounterSteps.{Opens, Way, way, Moved, Stepped, opens-or-not, none-opened, started-stays, started-declines, Unopened, started-unopened}
-use Rattle.demands.proofs.CounterSteps.{opened-number, opened-checked, Shaped, started-shaped, fits-after, unopened-after, same-goes, goes-on}
-use Rattle.demands.proofs.CounterSteps.{life-begins, writes}
+use Rattle.demands.proofs.CounterWays.{Opens, Way, way, Moved, Stepped, opens-or-not, none-opened, opened-number}
+use Rattle.demands.proofs.CounterWays.{opened-checked, Shaped, started-shaped, shaped-after, sound-after}
+use Rattle.demands.proofs.CounterSteps.{started-stays, started-declines, Unopened, started-unopened, unopened-after}
+use Rattle.demands.proofs.CounterSteps.{same-goes, goes-on, life-begins, writes}
 
 -- ---- the openings of answers
 
@@ -66,7 +68,7 @@ the-life-goes-on {ls = ls} h (more {s} {t} {u} {line} {lines} {a} {xs} step run)
 -- before any opening the counter stays as it started, and refuses all
 pub before-any-opening : {t : Session} {lines : List Line} {xs : List Answer} → Runs started lines xs t → openings xs ≡ []
     → (t ≡ started) × AllDecline xs
-before-any-opening {t} {lines} {xs} = go refl
+before-any-opening {t} = go refl
   where
     go : {s : Session} {ls : List Line} {ys : List Answer} → s ≡ started → Runs s ls ys t → openings ys ≡ [] → (t ≡ started) × AllDecline ys
     go e none h = (e, tt)
@@ -74,13 +76,13 @@ before-any-opening {t} {lines} {xs} = go refl
         let z = neither (opens a) (openings zs) h in
         let no = started-declines (askedIn line) w a (rw e at step) (z .0) in
         ⊎-elim (λ o. none-opened o (z .0)) (λ y. let f = go (started-stays e (y .1)) run (z .1) in (f .0, (no, f .1)))
-        (opens-or-not (way s (askedIn line) w a step))
+        (opens-or-not (rw e started-shaped) (way s (askedIn line) w a step))
 
 -- ---- the openings of a run
 
 moved-number : (l n : Layout) → Moved l n → n .number ≡ l .number
 moved-number l n (inl e) = ap (λ (x : Layout). x .number) e
-moved-number l n (inr z) = z .1
+moved-number l n (inr z) = z .number
 
 -- no opening was accepted, and the layout has its number and stays sound; or it is sound, and has a number that was opened
 Last : Session → List ℕ → Session → Type 0
@@ -93,8 +95,7 @@ unfolding Last
 last-opened h none = inl (refl, refl, λ x. x)
 last-opened {t = t} h (more {s} {t = w} {line = line} {a = a} {xs = xs} answer run) =
     let v = way s (askedIn line) w a answer in
-    let f = fits-after h v in
-    go (f .sound) (last-opened (f .shaped) run) (opens-or-not v)
+    go (sound-after h v) (last-opened (shaped-after h v) run) (opens-or-not h v)
   where
     go : (soundB (s .layout) ≡ true → soundB (w .layout) ≡ true) → Last w (openings xs) t → Opens s w a ⊎ ((opens a ≡ []) × Stepped s w)
         → Last s (opens a ++ openings xs) t
@@ -110,8 +111,9 @@ data Opened (n : ℕ) (s : Session) : Type 0 where
   here : (ls : List Layout) → Lives s ls → s .layout .number ≡ n → Opened n s
   away : (s .layout .number ≡ n → ⊥) → Opened n s
 
-opened-after : (n : ℕ) {s t : Session} {a : Answer} → Way s t a → (List·Memᴰ n (opens a) → ⊥) → Opened n s → Opened n t
-opened-after n {s} {t} {a} w other h = ⊎-elim leaves (λ z. stays (z .0) (moved-number (s .layout) (t .layout) (z .1 .layout)) h) (opens-or-not w)
+opened-after : (n : ℕ) {s t : Session} {a : Answer} → Shaped s → Way s t a → (List·Memᴰ n (opens a) → ⊥) → Opened n s → Opened n t
+opened-after n {s} {t} {a} g w other h =
+    ⊎-elim leaves (λ z. stays (z .0) (moved-number (s .layout) (t .layout) (z .1 .layout)) h) (opens-or-not g w)
   where
     leaves : Opens s t a → Opened n t
     leaves o = away (λ e. other (rw (o .answer) (List·Memᴰ·head (sym e ∙ opened-number o))))
@@ -124,11 +126,12 @@ opened-after n {s} {t} {a} w other h = ⊎-elim leaves (λ z. stays (z .0) (move
 Once : ℕ → Session → List ℕ → Type 0
 Once n s ns = (Unopened n s × OpenedOnce n ns) ⊎ (Opened n s × (List·Memᴰ n ns → ⊥))
 
-once-after : (n : ℕ) {s t : Session} {a : Answer} (ns : List ℕ) → Way s t a → Once n s (opens a ++ ns) → Once n t ns
+once-after : (n : ℕ) {s t : Session} {a : Answer} (ns : List ℕ) → Shaped s → Way s t a → Once n s (opens a ++ ns) → Once n t ns
 unfolding Once
-once-after n {s} {t} {a} ns w (inr y) =
-    inr (opened-after n w (λ o. y .1 (Memᴰ·append-left ns o)) (y .0), λ h. y .1 (Memᴰ·append-right (opens a) h))
-once-after n {s} {t} {a} ns w (inl y) = ⊎-elim opening (λ z. inl (unopened-after n w (λ o. List·Memᴰ·not-nil (rw (z .0) at o)) (y .0), rw (z .0) at (y .1))) (opens-or-not w)
+once-after n {s} {t} {a} ns g w (inr y) =
+    inr (opened-after n g w (λ o. y .1 (Memᴰ·append-left ns o)) (y .0), λ h. y .1 (Memᴰ·append-right (opens a) h))
+once-after n {s} {t} {a} ns g w (inl y) =
+    ⊎-elim opening (λ z. inl (unopened-after n g w (λ o. List·Memᴰ·not-nil (rw (z .0) at o)) (y .0), rw (z .0) at (y .1))) (opens-or-not g w)
   where
     opening : Opens s t a → Once n t ns
     opening o = go (eqb (o .mark .layout) n) refl (rw (ap opens (o .answer)) at (y .1))
@@ -138,16 +141,19 @@ once-after n {s} {t} {a} ns w (inl y) = ⊎-elim opening (λ z. inl (unopened-af
             let same = eqb-true (o .mark .layout) n e in
             inr (here [] (life-begins o (rw (sym same) at (y .0 .kept))) (opened-number o ∙ same), z .0 same)
         go false e z =
-            inl (unopened-after n w (λ h. eqb-false (o .mark .layout) n e (sym (List·Memᴰ·eq-of-singleton (rw (o .answer) at h)))) (y .0), z .1)
+            let other : List·Memᴰ n (opens a) → ⊥ = λ h. eqb-false (o .mark .layout) n e (sym (List·Memᴰ·eq-of-singleton (rw (o .answer) at h))) in
+            inl (unopened-after n g w other (y .0), z .1)
 
-once-run : (n : ℕ) {s t : Session} {lines : List Line} {xs : List Answer} (ns : List ℕ) → Runs s lines xs t → Once n s (openings xs ++ ns) → Once n t ns
-once-run n ns none h = h
-once-run n ns (more {s} {t} {line = line} {a = a} {xs = xs} answer run) h =
-    once-run n ns run (once-after n (openings xs ++ ns) (way s (askedIn line) t a answer) (rw (← append-assoc (opens a) (openings xs) ns) h))
+once-run : (n : ℕ) {s t : Session} {lines : List Line} {xs : List Answer} (ns : List ℕ) → Shaped s → Runs s lines xs t
+    → Once n s (openings xs ++ ns) → Once n t ns
+once-run n ns g none h = h
+once-run n ns g (more {s} {t} {line = line} {a = a} {xs = xs} answer run) h =
+    let w = way s (askedIn line) t a answer in
+    once-run n ns (shaped-after g w) run (once-after n (openings xs ++ ns) g w (rw (← append-assoc (opens a) (openings xs) ns) h))
 
-shaped-run : {s t : Session} {lines : List Line} {xs : List Answer} → Runs s lines xs t → Shaped s → Shaped t
-shaped-run none h = h
-shaped-run (more {s} {t} {line = line} {a = a} answer run) h = shaped-run run (fits-after h (way s (askedIn line) t a answer) .shaped)
+shaped-run : {s t : Session} {lines : List Line} {xs : List Answer} → Shaped s → Runs s lines xs t → Shaped t
+shaped-run g none = g
+shaped-run g (more {s} {t} {line = line} {a = a} answer run) = shaped-run (shaped-after g (way s (askedIn line) t a answer)) run
 
 -- ---- refusals
 
@@ -180,7 +186,7 @@ other-refused s k sound other =
 from-start : (n : ℕ) {t : Session} {lines : List Line} {xs : List Answer} (ns : List ℕ) → Runs started lines xs t → OpenedOnce n (openings xs ++ ns)
     → Once n t ns
 unfolding Once
-from-start n ns run once = once-run n ns run (inl (started-unopened n, once))
+from-start n ns run once = once-run n ns started-shaped run (inl (started-unopened n, once))
 
 -- a layout that is sound, and whose number was opened once, lives
 standing : (n : ℕ) {s : Session} {ns : List ℕ} → Once n s ns → s .layout .number ≡ n → soundB (s .layout) ≡ true
@@ -227,14 +233,14 @@ pub marks-last-at-the-counter : {t u v : Session} {before after : List Line} {xs
     → (k : Mark) → List·Memᴰ k (marksWritten a) → OpenedOnce (k .layout) (openings (xs ++ (a ∷ ys))) → Lasts u ys v k
 marks-last-at-the-counter {t} {u} {v} {xs = xs} {ys = ys} first q a answer run k h once =
     let w = way t q u a answer in
-    let shaped = shaped-run first started-shaped in
-    let f = fits-after shaped w in
-    let y = writes (shaped .layout) w k h in
-    let sound : soundB (u .layout) ≡ true = ⊎-elim opened-checked (f .sound) (y .sound) in
-    let n = named (f .shaped .layout) (sound-says (u .layout) (f .shaped .layout) sound) (y .given) in
-    let z = once-after (k .layout) (openings ys) w (from-start (k .layout) (opens a ++ openings ys) first (rw (openings-append xs (a ∷ ys)) at once)) in
-    let l = standing (k .layout) z (sym (n .number)) sound in
-    lasts {ls = l .0 .0} (l .0 .1) (f .shaped) run k n (l .1)
+    let g = shaped-run started-shaped first in
+    let shaped = shaped-after g w in
+    let y = writes (g .layout) w k h in
+    let sound : soundB (u .layout) ≡ true = ⊎-elim opened-checked (sound-after g w) (y .sound) in
+    let n = named (shaped .layout) (sound-says (u .layout) (shaped .layout) sound) (y .given) in
+    let before = from-start (k .layout) (opens a ++ openings ys) first (rw (openings-append xs (a ∷ ys)) at once) in
+    let l = standing (k .layout) (once-after (k .layout) (openings ys) g w before) (sym (n .number)) sound in
+    lasts {ls = l .0 .0} (l .0 .1) shaped run k n (l .1)
 
 -- ---- an input that arrives in chunks
 

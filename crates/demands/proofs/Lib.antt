@@ -16,6 +16,7 @@ pub mod Throughout
 pub mod UniqueAnswers
 pub mod SomeAnswer
 pub mod MarksGiven
+pub mod CounterWays
 pub mod CounterSteps
 pub mod Counter
 pub mod Reopened
