@@ -1,8 +1,9 @@
--- THE THREE DEMANDS, as theorems over the calls of a layout. Read this first, with document 01 at hand. The words are in specs/Life.antt (the life of a layout, what a mark
--- names) and specs/Calls.antt (a call that is accepted, the same tree). A call is given by its contract alone, so what is said holds of every program
--- that meets it. `Sized` is what the type of a layout says: its arrays have as many entries as there are places. Nothing is assumed.
+-- THE THREE DEMANDS, as theorems over the calls of a layout and over the lines of the counter. Read this first, with document 01 at hand. The words are in
+-- specs/Life.antt (the life of a layout, what a mark names), specs/Calls.antt (an accepted call, the same tree), specs/Examined.antt (what each call
+-- answers to a layout that isn't sound) and specs/Counter.antt (the counter's answers). A call is given by its contract alone, so what is said holds of every program that meets it;
+-- each contract has one answer (UniqueAnswers, SomeAnswer). `Sized` is what the type of a layout says: its arrays have as many entries as there are places. Nothing is assumed.
 use mathlib.Core.Path.{_≡_}
-use mathlib.Core.List.{List}
+use mathlib.Core.List.{List, [], _∷_, _++_, List·Memᴰ}
 use mathlib.Core.Logic.{_⊎_}
 use mathlib.Core.Option.{some}
 use mathlib.Core.Bool.{false, true}
@@ -38,12 +39,22 @@ use Rattle.looks.specs.declared.replies.CountAnswer.the-variants as counts
 use Rattle.looks.specs.Answers.{offersCall}
 use Rattle.looks.specs.Written.{answerTo, leftIn}
 use Rattle.reasons.specs.Answers.{whyCall}
+use Rattle.lines.specs.Text.{Line}
+use Rattle.frames.specs.declared.Request.{Request}
+use Rattle.frames.specs.declared.Request.the-variants.{Open}
+use Rattle.frames.specs.Answers.{Answer, opened}
+use Rattle.session.specs.declared.Session.{Session}
+use Rattle.session.specs.Session.{Answers, started}
+use Rattle.session.specs.Desk.{Runs}
 use Rattle.demands.specs.Life.{Given, Later, Life, Names, OneOf, SamePiece, openedOn, stock}
 use Rattle.demands.specs.Calls.{AreasCover, InsertAccepted, RemoveAccepted, SameTree}
 use Rattle.demands.specs.Examined.{Examined}
+use Rattle.demands.specs.Counter.{Lasts, Lives, OpenedOnce, marksWritten, openings}
 use Rattle.demands.proofs.Lives as lives
 use Rattle.demands.proofs.Marks as marks
 use Rattle.demands.proofs.MarksGiven as given
+use Rattle.demands.proofs.Counter as counter
+use Rattle.demands.proofs.Reopened as reopened
 use Rattle.demands.proofs.Refusals as refusals
 use Rattle.demands.proofs.BookedThenRemoved as booked
 use Rattle.demands.proofs.BookingsCommute as bookings
@@ -79,6 +90,27 @@ a-serial-is-issued-once = lives.one-piece
 -- every state of a life is sound
 pub a-life-is-sound : {ls : List Layout} → Life ls → (l : Layout) → OneOf l ls → SoundLayout l × Sized l
 a-life-is-sound = lives.states-sound
+
+-- ---- Demand 1, at the counter: people send lines and have only what the answers say. The words are in specs/Counter.antt. (The same of an input in chunks:
+-- `marks-last-at-the-desk`, proofs/Counter.antt; what a second opening does: proofs/Reopened.antt.)
+
+-- from its start a run of the counter, over any lines, is a life of the layout that stands, if that number was opened once; or nothing was opened
+pub a-run-is-a-life : {t : Session} {lines : List Line} {xs : List Answer} → Runs started lines xs t
+    → OpenedOnce (t .layout .number) (openings xs) → (openings xs ≡ []) ⊎ ((earlier : List Layout) × Lives t earlier)
+a-run-is-a-life = counter.a-run-is-a-life
+
+-- k is a mark that the answer a has written, v any later state: k names its piece, or is refused with 5, or, once another layout was opened, with 4
+pub a-mark-at-the-counter : {t u v : Session} {before after : List Line} {xs ys : List Answer} → Runs started before xs t
+    → (q : Request) (a : Answer) → Answers t q u a → Runs u after ys v
+    → (k : Mark) → List·Memᴰ k (marksWritten a) → OpenedOnce (k .layout) (openings (xs ++ (a ∷ ys))) → Lasts u ys v k
+a-mark-at-the-counter = counter.marks-last-at-the-counter
+
+-- a second opening of the number answers the same mark, and it names a piece of the new sheet: so the law is of a number that was opened once
+pub a-second-opening : (s t u v : Session) (number : ℕ) (size : Size) (cut : Orientation) (stages : ℕ) (m : Mark)
+    → Answers s (Open number size cut stages) t (opened m) → (size′ : Size) (cut′ : Orientation) (stages′ : ℕ) (m′ : Mark)
+    → Answers u (Open number size′ cut′ stages′) v (opened m′)
+    → (m′ ≡ m) × Names (v .layout) m × (SamePiece (t .layout) (v .layout) m → size′ ≡ size)
+a-second-opening = reopened.the-same-number
 
 -- ---- Demand 1, answers: "A refusal gives its number, the layout as it came, lent memory untouched." (Every call ends with an answer on every input: its
 -- proof asks nothing of the caller.)

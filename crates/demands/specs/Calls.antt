@@ -1,4 +1,4 @@
--- Demand 3 is said over the calls, wherever each call is accepted: here is what that means. A call is given by its contract alone, so that what is
+-- Demand 3 is said over the calls: here is what an accepted call is. A call is given by its contract alone, so that what is
 -- proved holds of every `insert`, `remove`, `restore` and `open` that meets its contract.
 use mathlib.Core.Path.{_≡_}
 use Prim.Native.Nat.{ℕ, _+_}
