@@ -11,10 +11,13 @@ block() { awk -v n="$1" '/^    / { if (!inside) { inside = 1; at++ } if (at == n
 # same FILE: what the command printed is this text
 same() { diff "$1" "$room/printed"; }
 
+# printed: the first block of README.md that is fenced as text
+printed() { awk '/^```text$/ { at++; next } /^```/ { if (at) exit } at { print }' README.md; }
+
 block 1 > "$room/command"
-block 2 > "$room/said"
+printed > "$room/said"
 [ "$(wc -l < "$room/command")" -eq 1 ] && grep -q '| tools/run counter$' "$room/command" && [ "$(wc -l < "$room/said")" -eq 3 ]
-tried $? "README's first block is a command over tools/run, and its second block what that prints"
+tried $? "README's first command is over tools/run, and a block says what that prints"
 bash "$room/command" > "$room/printed" 2> "$room/errors" < /dev/null
 tried $? "README's first command: $(cat "$room/command")" || cat "$room/errors"
 same "$room/said"
@@ -22,7 +25,7 @@ tried $? 'it prints what README says'
 sed '2s/.$/0/' "$room/said" > "$room/other"
 ! same "$room/other" > /dev/null
 tried $? 'and not another text'
-[ "$(block 3)" = 'bash .ci/run' ]
+[ "$(block 2)" = 'bash .ci/run' ]
 tried $? "README's second command is this gate"
 
 tools/run no_such_program > "$room/printed" 2> "$room/errors" < /dev/null

@@ -156,7 +156,9 @@ function commands(line,    parts, count, i, words) {
   }
 }
 
-/^```/ { flush(); fenced = !fenced; next }
+# a block that is fenced as text holds no commands
+/^```/ { flush(); fenced = !fenced; plain = fenced && $0 == "```text"; next }
+fenced && plain { next }
 fenced || (/^    / && paragraph == "") { commands($0); next }
 /^[ \t]*$/ || /^#/ { flush(); begun = FNR; if (/^#/) whole($0); next }
 /^\|/ { flush(); begun = FNR; whole($0); next }
