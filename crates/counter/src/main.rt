@@ -1,5 +1,5 @@
 // The counter: frames in, a line each, and answers out (document 01, "Counter frames"). Each line is answered when its newline has arrived,
-// before more is read. Rests on `session`, where all of it is proved; here are the reads and the writes.
+// before more is read. Rests on `session`, where all of it is proved, and on `pipes` for the reads and the writes.
 ghost use mathlib.Core.List.{List};
 ghost use Prim.Native.Nat.{_≤_};
 ghost use lib.Dec.{T};
@@ -8,6 +8,7 @@ ghost use Rattle.session.specs.Session.{longest};
 ghost use Rattle.session.specs.Desk.{Turns};
 use libc::STDIN_FILENO;
 use libc::STDOUT_FILENO;
+use pipes::Came;
 use session::LONGEST;
 use session::desk::Desk;
 
@@ -21,7 +22,7 @@ struct Served {
 fn say(line: [u8; LONGEST], count: usize) -> bool
     requires { ⌜ count ≤ longest ⌝ }
 {
-    io::write_all(STDOUT_FILENO, &line[..count])
+    pipes::write_whole(STDOUT_FILENO, &line[..count], b"counter: writing")
 }
 
 // Takes turns until the chunk is used up.
@@ -50,27 +51,30 @@ fn serve(desk: Desk, chunk: &[u8]) -> Served
 }
 
 // A read brings as much as is there. A proved loop has to end, and nothing says that an input does: so it counts its reads down, from a number
-// that no run uses up. An answer that can't be written is the last. The kit gives a program no exit status: only where nobody reads the
-// answers any more does the system end it with one.
+// that no run uses up. An answer that can't be written is the last; and a read that fails is no end of the input, so a line that has begun gets no
+// answer then. The kit gives a program no exit status: what failed is said on standard error.
 fn main() {
     let mut desk = Desk::start();
     let mut reads = u64::MAX;
     while 0 < reads {
         let mut chunk = io::buffer();
-        let got = libc::read(STDIN_FILENO, &mut chunk);
-        let n = io::count(got, &chunk);
-        if n == 0 {
-            let last = desk.end();
-            let line = last.line;
-            say(line, last.count);
-            return;
+        match pipes::read_some(STDIN_FILENO, &mut chunk, b"counter: reading") {
+            Came::Bytes(n) => {
+                let served = serve(desk, &chunk[..n]);
+                if served.written {} else {
+                    return;
+                }
+                let next = served.desk;
+                desk = next;
+            }
+            Came::End => {
+                let last = desk.end();
+                let line = last.line;
+                say(line, last.count);
+                return;
+            }
+            Came::Failed => return,
         }
-        let served = serve(desk, &chunk[..n]);
-        if served.written {} else {
-            return;
-        }
-        let next = served.desk;
-        desk = next;
         reads -= 1;
     }
 }

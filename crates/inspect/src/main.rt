@@ -1,5 +1,5 @@
 // The inspector: the counter's frames in, and for each line its answer and then what frames don't show, in eight fields (recorded/README.md).
-// Rests on `session`, and takes the same turns as `counter`.
+// Rests on `session`, and takes the same turns as `counter`; the reads and the writes are those of `pipes`.
 mod fields;
 mod pen;
 
@@ -10,6 +10,7 @@ use lines::stream::Event;
 use lines::stream::MOST;
 use lines::stream::Pending;
 use pen::ROOM;
+use pipes::Came;
 use session::desk::Desk;
 use session::desk::Turn;
 
@@ -89,18 +90,21 @@ fn main() {
     let mut reads = u64::MAX;
     while 0 < reads {
         let mut chunk = io::buffer();
-        let got = libc::read(STDIN_FILENO, &mut chunk);
-        let n = io::count(got, &chunk);
-        if n == 0 {
-            tell(desk.end(), Request::Malformed);
-            return;
+        match pipes::read_some(STDIN_FILENO, &mut chunk, b"inspect: reading") {
+            Came::Bytes(n) => {
+                let served = serve(desk, &chunk[..n]);
+                if served.written {} else {
+                    return;
+                }
+                let next = served.desk;
+                desk = next;
+            }
+            Came::End => {
+                tell(desk.end(), Request::Malformed);
+                return;
+            }
+            Came::Failed => return,
         }
-        let served = serve(desk, &chunk[..n]);
-        if served.written {} else {
-            return;
-        }
-        let next = served.desk;
-        desk = next;
         reads -= 1;
     }
 }

@@ -1,4 +1,4 @@
-// Writing through a small buffer: characters wait in it until it is full, or until a line ends.
+// Writing through a small buffer: characters wait in it until it is full, or until a line ends. A write that fails is said by `pipes`.
 use libc::STDOUT_FILENO;
 
 // The characters that the buffer has room for.
@@ -17,6 +17,10 @@ pub fn start() -> Pen {
     }
 }
 
+fn sent(out: &[u8]) -> bool {
+    pipes::write_whole(STDOUT_FILENO, out, b"inspect: writing")
+}
+
 // Writes what waits. After a write that failed nothing is written any more.
 fn flush(out: &[u8], pen: Pen) -> Pen {
     let n = pen.waiting;
@@ -24,9 +28,9 @@ fn flush(out: &[u8], pen: Pen) -> Pen {
         return pen;
     }
     let written = if n < out.len() {
-        io::write_all(STDOUT_FILENO, &out[..n])
+        sent(&out[..n])
     } else {
-        io::write_all(STDOUT_FILENO, out)
+        sent(out)
     };
     Pen {
         waiting: 0,

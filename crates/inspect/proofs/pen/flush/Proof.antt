@@ -9,16 +9,16 @@ use Rattle.inspect.proofs.pen.flush.Tie as tie
 returns : tie.Need-returns
 returns c = search needs
 
-slice-aggregate-write-all : tie.Need-slice-aggregate-write-all
-slice-aggregate-write-all c =
+slice-aggregate-sent : tie.Need-slice-aggregate-sent
+slice-aggregate-sent c =
     let s = c .before .before .before .before in
     sym (length-take-le (s .args .pen .waiting) (s .args .out .now) (omega arith))
 
-write-all-requires : tie.Need-write-all-requires
-write-all-requires c κs = search needs
+sent-requires : tie.Need-sent-requires
+sent-requires c κs = search needs
 
-write-all-requires-2 : tie.Need-write-all-requires-2
-write-all-requires-2 c κs = search needs
+sent-requires-2 : tie.Need-sent-requires-2
+sent-requires-2 c κs = search needs
 
 returns-2 : tie.Need-returns-2
 returns-2 c = search needs
@@ -31,8 +31,8 @@ flush-spec =
     tie.close
     (tie.spec
     returns
-    slice-aggregate-write-all
-    write-all-requires
-    write-all-requires-2
+    slice-aggregate-sent
+    sent-requires
+    sent-requires-2
     returns-2
     returns-3)
