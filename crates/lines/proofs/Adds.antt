@@ -1,15 +1,16 @@
 -- What more characters make of a pending line. Rests on specs/Stream alone.
 use mathlib.Core.Path.{_≡_, refl, ap, _∙_}
-use mathlib.Core.Bool.{true, false}
+use mathlib.Core.Bool.{Bool, true, false, cond}
 use mathlib.Core.List.{List, [], _∷_, _++_}
-use Prim.Native.Nat.{ℕ, _+_, _≤_, _<_}
+use Prim.Native.Nat.{ℕ, _+_, _-_, _≤_, _<_}
 use native.Mathlib.Numerals.{add-one}
+use native.Mathlib.Omega.{arith}
+use lib.Dec.{ltb}
 use lib.ListN.{length, drop, getD, drop-of-length-le}
 use lib.Seq.{drop-cons}
-use borrow.Author.Tests.{lt-ltb, le-ltb}
 use Rattle.lines.specs.declared.stream.Pending.{Pending}
 use Rattle.lines.specs.declared.stream.Event.the-variants.{Whole, Long, More}
-use Rattle.lines.specs.Lines.{newlineFrom, charsAt}
+use Rattle.lines.specs.Lines.{newlineFrom, charsAt, pastAt}
 use Rattle.lines.proofs.Ahead.{chars-length}
 use Rattle.lines.specs.Stream.{add, adds, stepOf, takeOf}
 
@@ -40,24 +41,34 @@ unfolding adds
 adds-append p [] b = refl
 adds-append p (x ∷ a) b = adds-append (add p x) a b
 
--- the characters reach from the position to the next newline
-pub reach : (chunk chars : List ℕ) (at : ℕ) → chars ≡ charsAt chunk at → at + length chars ≡ newlineFrom chunk at
-reach chunk chars at e = ap (λ (l : List ℕ). at + length l) e ∙ chars-length chunk at
-
--- the cases of a step, by what is pending after it and where the next newline is
+-- the cases of a step, by what is pending after it and where the text goes on: how far that is tells whether a newline stands behind the characters
 module _ (p q : Pending) (chunk chars : List ℕ) (at n : ℕ) (are : chars ≡ charsAt chunk at) (made : q ≡ adds p chars)
-    (there : n ≡ newlineFrom chunk at) where
+    (there : n ≡ pastAt chunk at) where
   grown : q ≡ adds p (charsAt chunk at)
   grown = made ∙ ap (λ (l : List ℕ). adds p l) are
 
-  pub took-all : length chunk ≤ n → stepOf q n More ≡ takeOf p chunk at
-  unfolding takeOf
-  took-all h = rw (← there, ← grown, le-ltb n (length chunk) h) refl
+  reach : at + length chars ≡ newlineFrom chunk at
+  reach = ap (λ (l : List ℕ). at + length l) are ∙ chars-length chunk at
 
-  pub took-long : n < length chunk → q .over ≡ true → stepOf q (n + 1) Long ≡ takeOf p chunk at
-  unfolding takeOf
-  took-long h o = rw (← there, ← grown, lt-ltb n (length chunk) h, o) refl
+  far : (b : Bool) → ltb (newlineFrom chunk at) (length chunk) ≡ b → n ≡ cond b (newlineFrom chunk at + 1) (newlineFrom chunk at)
+  far b e = there ∙ ap (λ (c : Bool). cond c (newlineFrom chunk at + 1) (newlineFrom chunk at)) e
 
-  pub took-line : n < length chunk → q .over ≡ false → stepOf q (n + 1) Whole ≡ takeOf p chunk at
+  none : n - at ≤ length chars → (b : Bool) → ltb (newlineFrom chunk at) (length chunk) ≡ b → b ≡ false
+  none h true e = absurd (omega (arith, far true e, reach))
+  none h false e = refl
+
+  newline : length chars < n - at → (b : Bool) → ltb (newlineFrom chunk at) (length chunk) ≡ b → b ≡ true
+  newline h true e = refl
+  newline h false e = absurd (omega (arith, far false e, reach))
+
+  pub took-all : n - at ≤ length chars → stepOf q n More ≡ takeOf p chunk at
   unfolding takeOf
-  took-line h o = rw (← there, ← grown, lt-ltb n (length chunk) h, o) refl
+  took-all h = rw (← there, ← grown, none h (ltb (newlineFrom chunk at) (length chunk)) refl) refl
+
+  pub took-long : length chars < n - at → q .over ≡ true → stepOf q n Long ≡ takeOf p chunk at
+  unfolding takeOf
+  took-long h o = rw (← there, ← grown, newline h (ltb (newlineFrom chunk at) (length chunk)) refl, o) refl
+
+  pub took-line : length chars < n - at → q .over ≡ false → stepOf q n Whole ≡ takeOf p chunk at
+  unfolding takeOf
+  took-line h o = rw (← there, ← grown, newline h (ltb (newlineFrom chunk at) (length chunk)) refl, o) refl

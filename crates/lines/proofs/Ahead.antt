@@ -5,12 +5,11 @@ use mathlib.Core.List.{List, [], _∷_}
 use Prim.Native.Nat.{ℕ, zero, suc, _+_, _-_, _≤_, _<_}
 use native.Mathlib.Numerals.{add-one}
 use native.Mathlib.Omega.{arith}
-use lib.Dec.{eqb}
+use lib.Dec.{eqb, ltb}
 use lib.ListN.{length, take, drop, getD, length-drop, drop-of-length-le}
 use lib.Seq.{drop-cons, length-take-le}
 use borrow.Author.Tests.{eq-eqb, ne-eqb, lt-ltb, le-ltb}
-use Rattle.lines.specs.Lines.{ahead, newlineFrom, lineAt, charsAt}
-use Rattle.lines.specs.declared.Found.the-variants.{Line, Rest, End}
+use Rattle.lines.specs.Lines.{ahead, newlineFrom, charsAt, pastAt}
 
 -- by a Bool, so that both cases of a test are had at once
 within : (b : Bool) (m n : ℕ) → m ≤ n → cond b zero (suc m) ≤ suc n
@@ -71,16 +70,16 @@ chars-part s at =
     let z : (at + ahead (drop at s)) - at ≡ ahead (drop at s) = omega arith in
     ap (λ (n : ℕ). take n (drop at s)) z
 
--- the three cases of what is found
-pub found-end : (s : List ℕ) (at : ℕ) → length s ≤ at → End ≡ lineAt s at
-unfolding lineAt
-found-end s at h = rw (le-ltb at (length s) h) refl
+-- where the text goes on: never back, past a newline, or nowhere
+pub past-line : (s : List ℕ) (at : ℕ) → newlineFrom s at < length s → newlineFrom s at + 1 ≡ pastAt s at
+past-line s at h = rw (lt-ltb (newlineFrom s at) (length s) h) refl
 
-pub found-line : (s : List ℕ) (at : ℕ) → at < length s → newlineFrom s at < length s
-    → Line at (newlineFrom s at) (newlineFrom s at + 1) ≡ lineAt s at
-unfolding lineAt
-found-line s at h l = rw (lt-ltb at (length s) h, lt-ltb (newlineFrom s at) (length s) l) refl
+pub past-rest : (s : List ℕ) (at : ℕ) → length s ≤ newlineFrom s at → newlineFrom s at ≡ pastAt s at
+past-rest s at h = rw (le-ltb (newlineFrom s at) (length s) h) refl
 
-pub found-rest : (s : List ℕ) (at : ℕ) → at < length s → length s ≤ newlineFrom s at → Rest at ≡ lineAt s at
-unfolding lineAt
-found-rest s at h l = rw (lt-ltb at (length s) h, le-ltb (newlineFrom s at) (length s) l) refl
+pub at-past : (s : List ℕ) (at : ℕ) → at ≤ pastAt s at
+at-past s at = go (ltb (newlineFrom s at) (length s))
+  where
+    go : (b : Bool) → at ≤ cond b (newlineFrom s at + 1) (newlineFrom s at)
+    go true = omega (arith, at-newline s at)
+    go false = at-newline s at

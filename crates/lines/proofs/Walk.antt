@@ -1,4 +1,4 @@
--- A reader that walks a whole text meets its lines, one after another: what the line finder says at a position is what `linesOf` has there.
+-- A reader that walks a whole text meets its lines, one after another: what it hands on at a position, and the lines past it, are what `linesOf` has there.
 -- Rests on specs/ and on Ahead.
 use mathlib.Core.Path.{_≡_, refl, ap, _∙_}
 use mathlib.Core.Bool.{Bool, true, false, cond}
@@ -8,8 +8,9 @@ use native.Mathlib.Omega.{arith}
 use lib.Dec.{eqb}
 use lib.ListN.{length, take, drop, length-drop, drop-of-length-le}
 use lib.Seq.{append-snoc, drop-drop, drop-cons}
-use Rattle.lines.specs.Lines.{ahead, newlineFrom, charsAt}
+use Rattle.lines.specs.Lines.{ahead, newlineFrom, charsAt, pastAt}
 use Rattle.lines.specs.Text.{cut, lineOf, lastOf, linesFrom, linesOf}
+use Rattle.lines.proofs.Ahead.{past-line}
 
 -- a line of the text, after the characters a
 from-line : (a s : List ℕ) → ahead s < length s → linesFrom a s ≡ lineOf (a ++ take (ahead s) s) ∷ linesOf (drop (suc (ahead s)) s)
@@ -37,12 +38,12 @@ from-rest a (x ∷ s) h = go (eqb x 10) h (λ g. from-rest (a ++ x ∷ []) s g)
 
 -- the three cases of the line finder: a line and those after it; a last one that lacks its newline; the end
 pub walk-line : (s : List ℕ) (at : ℕ) → newlineFrom s at < length s
-    → linesOf (drop at s) ≡ lineOf (charsAt s at) ∷ linesOf (drop (newlineFrom s at + 1) s)
+    → linesOf (drop at s) ≡ lineOf (charsAt s at) ∷ linesOf (drop (pastAt s at) s)
 unfolding newlineFrom charsAt
 walk-line s at h =
     let t = drop at s in
     let m : at + ahead t + 1 ≡ at + suc (ahead t) = omega arith in
-    rw (m, ← drop-drop (suc (ahead t)) at s) (from-line [] t (omega (arith, length-drop at s)))
+    rw (← past-line s at h, m, ← drop-drop (suc (ahead t)) at s) (from-line [] t (omega (arith, length-drop at s)))
 
 pub walk-rest : (s : List ℕ) (at : ℕ) → at < length s → length s ≤ newlineFrom s at → linesOf (drop at s) ≡ cut ∷ []
 unfolding newlineFrom lastOf

@@ -5,7 +5,7 @@ use mathlib.Core.List.{List, [], _∷_, _++_}
 use Prim.Native.Nat.{ℕ, zero, suc, _+_}
 use lib.Dec.{ltb}
 use lib.ListN.{length, take, set, replicate}
-use Rattle.lines.specs.Lines.{newlineFrom, charsAt}
+use Rattle.lines.specs.Lines.{newlineFrom, charsAt, pastAt}
 use Rattle.lines.specs.Text.{Line, whole, long, cut}
 use Rattle.lines.specs.declared.stream.Pending.{Pending}
 use Rattle.lines.specs.declared.stream.Taken.{Taken}
@@ -33,9 +33,8 @@ stepOf p n e = record { pending = p; next = n; event = e }
 unfoldable pub takeOf : Pending → List ℕ → ℕ → Taken
 takeOf p chunk at =
     let q = adds p (charsAt chunk at) in
-    let n = newlineFrom chunk at in
-    let b = ltb n (length chunk) in
-    stepOf q (cond b (n + 1) n) (cond b (cond (q .over) Long Whole) More)
+    let b = ltb (newlineFrom chunk at) (length chunk) in
+    stepOf q (pastAt chunk at) (cond b (cond (q .over) Long Whole) More)
 
 -- at the end of the input: a last line lacks its newline
 abbrev pub unfinished : Pending → Bool

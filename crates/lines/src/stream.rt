@@ -87,19 +87,16 @@ impl Pending {
     pub fn take(self, chunk: &[u8], at: usize) -> Taken
         ensures { λ r. ⌜ r ≡ takeOf self (now (chunk .entry)) at ⌝ }
     {
-        let chars = super::read(chunk, at);
-        let p = self.some(chars);
-        if chunk.len() <= at {
-            return step(p, at, Event::More);
-        }
-        let end = at + chars.len();
-        if chunk.len() <= end {
-            return step(p, end, Event::More);
+        let line = super::read(chunk, at);
+        let p = self.some(line);
+        let next = super::after(chunk, at);
+        if next - at <= line.len() {
+            return step(p, next, Event::More);
         }
         if p.over {
-            return step(p, end + 1, Event::Long);
+            return step(p, next, Event::Long);
         }
-        step(p, end + 1, Event::Whole)
+        step(p, next, Event::Whole)
     }
 
     // At the end of the input: whether a last line lacks its newline.
