@@ -1,6 +1,6 @@
 #!/usr/bin/env bash
-# What the programs make of reads and writes that fail or are not ready: nothing is lost, no line is answered that has not come, and a failure is said in one
-# line on standard error. `dd` sets the flag O_NONBLOCK of an end of a pipe.
+# What the programs make of reads and writes that fail or are not ready: nothing is lost, no line is answered that has not come, and a failure is
+# said in one line on standard error. `dd` sets the flag O_NONBLOCK of an end of a pipe.
 set -u
 cd "$(dirname "$0")/.." || exit 2
 . tests/run.bash

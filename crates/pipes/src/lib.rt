@@ -1,7 +1,9 @@
 // Reading from and writing to a pipe, a file or a terminal, so that nothing is lost and nothing fails in silence. A call that a signal ends is made
 // again; where nothing is there yet, or there is no room yet, it is made again after a pause; any other failure is said on standard error.
 // Rests on C's calls alone, whose contracts say how many bytes moved and not which.
+ghost use mathlib.Core.Path.{_≡_};
 ghost use Rattle.pipes.specs.Came.{Within};
+ghost use Rattle.pipes.specs.Remedy.{remedyOf};
 use libc::types::timespec;
 
 // What a read brought.
@@ -27,22 +29,47 @@ fn pause() {
     libc::nanosleep(&asked, &mut left);
 }
 
-// After a call that moved nothing: whether to make it again. A signal ended it; or nothing is there yet, or no room, and then it waits a little.
-// Where nobody reads any more nothing is to be said; any other failure is: `what` names the program and what it was doing.
-fn again(what: &[u8]) -> bool {
-    let error = os::errno();
+// What is to be done about a call that moved nothing.
+enum Remedy {
+    // A signal ended it: make it again.
+    Again,
+    // Nothing is there to read yet, or there is no room to write yet: make it again after a pause.
+    Wait,
+    // Nobody reads any more: there is nothing to say.
+    Quit,
+    // Anything else has failed, and is said.
+    Tell,
+}
+
+fn remedy_for(error: i32) -> Remedy
+    ensures { λ r. ⌜ r ≡ remedyOf error ⌝ }
+{
     if error == libc::EINTR {
-        return true;
+        return Remedy::Again;
     }
     if error == libc::EAGAIN {
-        pause();
-        return true;
+        return Remedy::Wait;
     }
     if error == libc::EPIPE {
-        return false;
+        return Remedy::Quit;
     }
-    os::fail(what);
-    false
+    Remedy::Tell
+}
+
+// After a call that moved nothing: whether to make it again. What failed is said in a line that begins with `what`, the program and what it was doing.
+fn again(what: &[u8]) -> bool {
+    match remedy_for(os::errno()) {
+        Remedy::Again => true,
+        Remedy::Wait => {
+            pause();
+            true
+        }
+        Remedy::Quit => false,
+        Remedy::Tell => {
+            os::fail(what);
+            false
+        }
+    }
 }
 
 // Reads what is there, and waits for it if it has to. A proved loop has to end, and nothing says that a wait does: so the tries are counted down, from a

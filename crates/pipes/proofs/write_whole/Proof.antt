@@ -1,4 +1,5 @@
--- `write_whole` is safe and ends: what is lent lies in the text, and what was taken of it too. The measure is the number of tries that are left. Assumes nothing.
+-- `write_whole` is safe and ends: what is lent lies in the text, and so does what was taken of it. The measure is the number of tries that are left.
+-- Assumes nothing.
 use borrow.Author.Needs.{needs}
 use Rattle.pipes.proofs.write_whole.Statement.{statement}
 use Rattle.pipes.proofs.write_whole.Tie as tie
