@@ -5,3 +5,4 @@ pub mod Cuts
 pub mod Walk
 pub mod Uses
 pub mod Cases
+pub mod Apart
