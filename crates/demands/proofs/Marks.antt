@@ -17,7 +17,7 @@ use Rattle.layout.specs.declared.replies.Outcome.the-variants.{Refused}
 use Rattle.layout.specs.declared.replies.Sought.the-variants as sought
 use Rattle.layout.specs.Check.{soundB}
 use Rattle.layout.specs.SoundLayout.{SoundLayout}
-use Rattle.layout.specs.Asked.{partB, goneB, soughtOf}
+use Rattle.layout.specs.Asked.{partB, goneB, soughtOf, freePieceOf}
 use Rattle.layout.specs.Insert.{insertNo, pieceAt}
 use Rattle.layout.specs.Remove.{removeNo}
 use Rattle.layout.proofs.Exactly.{sound-shown}
@@ -70,7 +70,7 @@ module _ {ls : List Layout} (life : Life ls) (l : Layout) (state : OneOf l ls) (
   checked = let h = states-sound life l state in sound-shown l (h .1) (h .0)
 
   pub gone-offers : (p : PartType) → partB p ≡ true → offersCall l m p .outcome ≡ Refused Gone
-  unfolding offersCall
+  unfolding offersCall freePieceOf
   gone-offers p part = rw (checked, part, gone) refl
 
   pub gone-why-not : (p : PartType) → partB p ≡ true → whyCall l m p .outcome ≡ Refused Gone
@@ -78,7 +78,7 @@ module _ {ls : List Layout} (life : Life ls) (l : Layout) (state : OneOf l ls) (
   gone-why-not p part = rw (checked, part, gone) refl
 
   pub gone-insert : (p : PartType) (r : Rotation) (s : InsertionShape) → partB p ≡ true → insertNo l m p r s ≡ some Gone
-  unfolding insertNo
+  unfolding insertNo freePieceOf
   gone-insert p r s part = rw (checked, part, gone) refl
 
   pub gone-remove : (room : ℕ) → removeNo l m room ≡ some Gone

@@ -20,21 +20,21 @@ use Rattle.tree.specs.Sound.{Topped}
 use Rattle.sound.proofs.Says.{clash}
 use Rattle.answers.specs.declared.Mark.{Mark}
 use Rattle.answers.specs.declared.Refusal.{Refusal}
-use Rattle.answers.specs.declared.Refusal.the-variants.{NotSound, PartOutside, NotFree, NotOffered, TooManyNodes, SerialsSpent}
+use Rattle.answers.specs.declared.Refusal.the-variants.{NotOffered, TooManyNodes, SerialsSpent}
 use Rattle.booking.specs.Offered.{offeredB}
 use Rattle.layout.specs.declared.layout.Layout.{Layout}
 use Rattle.layout.specs.declared.insert.Inserted.{Inserted}
 use Rattle.layout.specs.declared.replies.Outcome.the-variants.{Done, Refused}
 use Rattle.layout.specs.declared.replies.Sought.{Sought}
 use Rattle.layout.specs.declared.replies.Sought.the-variants as sought
-use Rattle.layout.specs.Check.{limit, maxSerial, tree, soundB}
-use Rattle.layout.specs.Asked.{partB, soughtOf}
+use Rattle.layout.specs.Check.{limit, maxSerial, tree}
+use Rattle.layout.specs.Asked.{freePieceOf}
 use Rattle.layout.specs.SoundLayout.{SoundLayout, Sized}
 use Rattle.layout.specs.Refusing.{outcomeOf}
 use Rattle.layout.specs.Insert.{InsertDone, InsertSays, Insertable, bookNo, bookingFor, insertNo, pieceAt, pieceNo, refusedInsert}
 use Rattle.layout.proofs.Exactly.{sound-says}
 use Rattle.layout.proofs.Listed.{piece-is}
-use Rattle.layout.proofs.Marks.{Names, sought-names}
+use Rattle.layout.proofs.Marks.{Names, headed, sought-names}
 
 -- ---- a refusal, and none
 
@@ -82,14 +82,13 @@ module _ (l : Layout) (m : Mark) (p : PartType) (r : Rotation) (s : InsertionSha
   unfolding InsertSays
   done-says a h f = rw (sym h) f
 
-  -- the mark names a piece, and that is not refused
+  -- the mark names a free piece, and that is not refused
   found-piece : (q : Sought) → pieceNo l p r s q ≡ none → (d : Datum) × (q ≡ sought.Piece d) × (bookNo l d p r s ≡ none)
   found-piece (sought.Refused e) h = nothing h
   found-piece (sought.Piece d) h = (d, refl, h)
 
   -- what bookNo tests of a piece
   record Passes (d : Datum) : Type 0 where
-    free : d .kind ≡ Free
     offered : offeredB d p (l .stages) r s ≡ true
     room : l .held - 1 + newNodes s ≤ limit
     spent : l .serial + newNodes s ≤ maxSerial
@@ -97,12 +96,10 @@ module _ (l : Layout) (m : Mark) (p : PartType) (r : Rotation) (s : InsertionSha
   book-passes : (d : Datum) → bookNo l d p r s ≡ none → Passes d
   unfolding bookNo
   book-passes d h =
-      let f = passed (isFree (d .kind)) _ NotFree h in
-      let o = passed (offeredB d p (l .stages) r s) _ NotOffered (f .1) in
+      let o = passed (offeredB d p (l .stages) r s) _ NotOffered h in
       let n = passed (leb (l .held - 1 + newNodes s) limit) _ TooManyNodes (o .1) in
       let k = passed (leb (l .serial + newNodes s) maxSerial) none SerialsSpent (n .1) in
       record {
-        free = is-free (d .kind) (f .0);
         offered = o .0;
         room = leb-true (l .held - 1 + newNodes s) limit (n .0);
         spent = leb-true (l .serial + newNodes s) maxSerial (k .0);
@@ -112,11 +109,10 @@ module _ (l : Layout) (m : Mark) (p : PartType) (r : Rotation) (s : InsertionSha
   pub admitted : Sized l → insertNo l m p r s ≡ none → Names l m (pieceAt l (m .place)) × Insertable l (m .place) p r s
   unfolding insertNo
   admitted sized h =
-      let c = passed (soundB l) _ NotSound h in
-      let q = passed (partB p) _ PartOutside (c .1) in
-      let g = found-piece (soughtOf l m) (q .1) in
-      let sound = sound-says l sized (c .0) in
-      let found = sought-names l sound m (g .0) (g .1) in
+      let g = found-piece (freePieceOf l m p) h in
+      let q = headed l m p (g .0) (g .1) in
+      let sound = sound-says l sized (q .sound) in
+      let found = sought-names l sound m (g .0) (q .named) in
       let is : pieceAt l (m .place) ≡ g .0 = piece-is (l .nodes) (tree l) (sound .holds) (m .place) (g .0) (found .there) in
       let named : Names l m (pieceAt l (m .place)) = rw is found in
       let y : Passes (pieceAt l (m .place)) = rw is (book-passes (g .0) (g .2)) in (
@@ -125,8 +121,8 @@ module _ (l : Layout) (m : Mark) (p : PartType) (r : Rotation) (s : InsertionSha
           sized = sized;
           sound = sound;
           there = named .there;
-          free = y .free;
-          part = q .0;
+          free = rw is (is-free (g .0 .kind) (q .free));
+          part = q .part;
           offered = y .offered;
           room = y .room;
           spent = y .spent;

@@ -23,7 +23,7 @@ use Rattle.layout.specs.Check.{soundB}
 use Rattle.layout.specs.Zero.{zeroLayout}
 use Rattle.layout.specs.Open.{openOf}
 use Rattle.layout.specs.Restore.{restoreOf}
-use Rattle.layout.specs.Asked.{soughtOf}
+use Rattle.layout.specs.Asked.{freePieceOf}
 use Rattle.layout.specs.Insert.{InsertSays, bookingFor, insertIs, insertNo}
 use Rattle.layout.specs.Remove.{RemoveSays, numbersLeft, removeIs, removeNo}
 use Rattle.layout.proofs.Changed.{next-is-one}
@@ -36,8 +36,8 @@ module _ (l : Layout) where
   pub sound-is-one : (r s : Bool) → r ≡ soundB l → s ≡ soundB l → r ≡ s
   sound-is-one = only
 
-  pub sought-is-one : (m : Mark) (r s : Sought) → r ≡ soughtOf l m → s ≡ soughtOf l m → r ≡ s
-  sought-is-one m = only
+  pub free-piece-is-one : (m : Mark) (p : PartType) (r s : Sought) → r ≡ freePieceOf l m p → s ≡ freePieceOf l m p → r ≡ s
+  free-piece-is-one m p = only
 
 pub open-is-one : (number : ℕ) (size : Size) (cut : Orientation) (stages : ℕ) (r s : Opened)
     → r ≡ openOf number size cut stages → s ≡ openOf number size cut stages → r ≡ s

@@ -1,5 +1,6 @@
 -- Document 01, "Marks": in a sound layout a mark names the piece of the tree that stands at its place with its serial, and `sought` finds exactly
--- that piece. (Crate `looks` says that every piece has one mark, and which marks the two lists give.)
+-- that piece; what the head of a call on a free piece has passed. (Crate `looks` says that every piece has one mark, and which marks the two lists
+-- give.)
 use mathlib.Core.Path.{_≡_, refl, sym, ap, _∙_}
 use mathlib.Core.Bool.{Bool, true, false, cond, not, _||_}
 use Prim.Native.Nat.{_<_}
@@ -7,15 +8,17 @@ use native.Mathlib.Omega.{arith}
 use lib.Dec.{eqb, leb}
 use borrow.Author.Tests.{eq-eqb, ne-eqb, lt-leb, eqb-true, eqb-false, leb-false, not-false}
 use Rattle.piece.specs.declared.node.Datum.{Datum}
-use Rattle.tree.specs.Tree.{At}
+use Rattle.piece.specs.declared.parttype.PartType.{PartType}
+use Rattle.tree.specs.Tree.{At, isFree}
 use Rattle.table.specs.Table.{at}
 use Rattle.answers.specs.declared.Mark.{Mark}
-use Rattle.answers.specs.declared.Refusal.the-variants.{OtherLayout, Gone}
+use Rattle.answers.specs.declared.Refusal.the-variants.{NotSound, PartOutside, OtherLayout, Gone, NotFree}
 use Rattle.sound.proofs.Says.{clash}
 use Rattle.layout.specs.declared.layout.Layout.{Layout}
+use Rattle.layout.specs.declared.replies.Sought.{Sought}
 use Rattle.layout.specs.declared.replies.Sought.the-variants as sought
-use Rattle.layout.specs.Check.{limit, tree}
-use Rattle.layout.specs.Asked.{goneB, soughtOf}
+use Rattle.layout.specs.Check.{limit, tree, soundB}
+use Rattle.layout.specs.Asked.{partB, goneB, soughtOf, onlyFree, freePieceOf}
 use Rattle.layout.specs.SoundLayout.{SoundLayout}
 use Rattle.layout.proofs.Listed.{piece-low, piece-is, piece-held}
 use Rattle.layout.proofs.Ways.{onward, ended, or-else}
@@ -77,3 +80,30 @@ module _ (l : Layout) (s : SoundLayout l) where
       or-else (lt-leb limit (m .place) low) (or-else (ne-eqb _ 0 some) (ap not (eq-eqb _ (m .serial) (serial ∙ n .serial))))
       in
       sym (onward _ (eq-eqb (m .layout) (l .number) (n .layout)) (ended _ gone (ap sought.Piece (sym is))))
+
+-- ---- the head of a call on a free piece
+
+-- each of its refusals is passed, and d is the piece that the mark names
+pub record Headed (l : Layout) (m : Mark) (p : PartType) (d : Datum) : Type 0 where
+  pub sound : soundB l ≡ true
+  pub part : partB p ≡ true
+  pub named : soughtOf l m ≡ sought.Piece d
+  pub free : isFree (d .kind) ≡ true
+
+free-only : (x d : Datum) (b : Bool) → isFree (x .kind) ≡ b → cond b (sought.Piece x) (sought.Refused NotFree) ≡ sought.Piece d
+    → (x ≡ d) × (isFree (d .kind) ≡ true)
+free-only x d true e h = let is : x ≡ d = cc in (is, rw is at e)
+free-only x d false e h = absurd (clash (cc))
+
+pub headed : (l : Layout) (m : Mark) (p : PartType) (d : Datum) → freePieceOf l m p ≡ sought.Piece d → Headed l m p d
+unfolding freePieceOf
+headed l m p d = go (soundB l) refl (partB p) refl (soughtOf l m) refl
+  where
+    go : (a : Bool) → soundB l ≡ a → (b : Bool) → partB p ≡ b → (q : Sought) → soughtOf l m ≡ q
+        → cond a (cond b (onlyFree q) (sought.Refused PartOutside)) (sought.Refused NotSound) ≡ sought.Piece d → Headed l m p d
+    go true e true f (sought.Piece x) g h =
+        let o = free-only x d (isFree (x .kind)) refl h in
+        record { sound = e; part = f; named = g ∙ ap sought.Piece (o .0); free = o .1 }
+    go true e true f (sought.Refused r) g h = absurd (clash (cc))
+    go true e false f q g h = absurd (clash (cc))
+    go false e b f q g h = absurd (clash (cc))

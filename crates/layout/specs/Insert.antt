@@ -1,19 +1,18 @@
 -- Document 01, "Insertion": what `insert` answers. Refusals 1, 3, 4, 5, 6, 7, 8, 9, in this order, each exactly on its condition; and else what is
 -- booked, the marks, and the next layout.
 use mathlib.Core.Path.{_≡_}
-use mathlib.Core.Bool.{Bool, true, false, cond, _&&_, _||_}
-use mathlib.Core.List.{List, [], _∷_}
+use mathlib.Core.Bool.{true, cond}
 use mathlib.Core.Option.{Option, none, some}
 use Prim.Native.Nat.{ℕ, _+_, _-_, _≤_}
-use lib.Dec.{eqb, leb}
+use lib.Dec.{leb}
 use Rattle.piece.specs.declared.rotation.Rotation.{Rotation}
 use Rattle.piece.specs.declared.parttype.PartType.{PartType}
 use Rattle.piece.specs.declared.node.Datum.{Datum}
 use Rattle.piece.specs.declared.insertion_blueprint.InsertionShape.{InsertionShape}
 use Rattle.piece.specs.Insertion.{newNodes}
-use Rattle.piece.specs.Offers.{offersOf, turned}
+use Rattle.piece.specs.Offers.{turned}
 use Rattle.piece.specs.declared.node.Kind.the-variants.{Free}
-use Rattle.tree.specs.Tree.{At, isFree}
+use Rattle.tree.specs.Tree.{At}
 use Rattle.tree.specs.Booking.{Booking, block, book}
 use Rattle.table.specs.Table.{at}
 use Rattle.table.specs.Steps.{less}
@@ -24,39 +23,36 @@ use Rattle.booking.specs.Marks.{blockMarks, zeroMarks}
 use Rattle.booking.specs.Offered.{offeredB}
 use Rattle.answers.specs.declared.Mark.{Mark}
 use Rattle.answers.specs.declared.Refusal.{Refusal}
-use Rattle.answers.specs.declared.Refusal.the-variants.{NotSound, PartOutside, NotFree, NotOffered, TooManyNodes, SerialsSpent}
+use Rattle.answers.specs.declared.Refusal.the-variants.{NotOffered, TooManyNodes, SerialsSpent}
 use Rattle.layout.specs.declared.layout.Layout.{Layout}
 use Rattle.layout.specs.declared.replies.Outcome.the-variants.{Done, Refused}
 use Rattle.layout.specs.declared.replies.Sought.{Sought}
 use Rattle.layout.specs.declared.replies.Sought.the-variants as sought
 use Rattle.layout.specs.declared.insert.Inserted.{Inserted}
-use Rattle.layout.specs.Check.{limit, tree, soundB}
-use Rattle.layout.specs.Asked.{partB, soughtOf}
+use Rattle.layout.specs.Check.{limit, tree}
+use Rattle.layout.specs.Asked.{partB, freePieceOf}
 use Rattle.layout.specs.SoundLayout.{SoundLayout, Sized}
 use Rattle.layout.specs.Next.{Next, removables}
 
--- refusals 6, 7, 8 and 9, of the piece d that the mark names
+-- refusals 7, 8 and 9, of the free piece d that the mark names
 unfoldable pub bookNo : Layout → Datum → PartType → Rotation → InsertionShape → Option Refusal
 bookNo l d p r s =
-    cond (isFree (d .kind))
-    (cond (offeredB d p (l .stages) r s)
+    cond (offeredB d p (l .stages) r s)
     -- "nodes held, less one, plus new ones, exceed 255"
     (cond (leb (l .held - 1 + newNodes s) limit)
     -- "last serial plus new nodes exceeds 1,000,000"
     (cond (leb (l .serial + newNodes s) maxSerial) none (some SerialsSpent))
     (some TooManyNodes))
-    (some NotOffered))
-    (some NotFree)
+    (some NotOffered)
 
--- after refusals 4 and 5
+-- after refusals 1, 3, 4, 5 and 6
 abbrev pub pieceNo : Layout → PartType → Rotation → InsertionShape → Sought → Option Refusal
 pieceNo l p r s (sought.Refused e) = some e
 pieceNo l p r s (sought.Piece d) = bookNo l d p r s
 
 -- what it is refused with
 unfoldable pub insertNo : Layout → Mark → PartType → Rotation → InsertionShape → Option Refusal
-insertNo l m p r s =
-    cond (soundB l) (cond (partB p) (pieceNo l p r s (soughtOf l m)) (some PartOutside)) (some NotSound)
+insertNo l m p r s = pieceNo l p r s (freePieceOf l m p)
 
 -- "Refused: number, layout as handed in .., zero in other fields"
 abbrev pub refusedInsert : Layout → Refusal → Inserted

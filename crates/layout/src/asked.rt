@@ -1,13 +1,14 @@
-// What a call is asked about, behind the check: the part, and the piece that a mark names. `insert`, `remove` and the offers (crate `looks`) share
-// these; neither examines the layout, and neither is a call of the counter's.
+// What a call is asked about: the part, the piece that a mark names, and the head that the calls on a free piece share: `insert`, the offers (crate
+// `looks`) and why not (crate `reasons`). `sought` is asked behind the check, inside this crate.
 ghost use mathlib.Core.Path.{_≡_};
-ghost use Rattle.layout.specs.Asked.{partB, soughtOf};
+ghost use Rattle.layout.specs.Asked.{freePieceOf, partB, soughtOf};
 use crate::assertions::side_ok;
 use crate::layout::Layout;
 use crate::replies::Sought;
 use answers::Mark;
 use answers::Refusal;
 use piece::parttype::PartType;
+use sound::places::is_free;
 use table::NONE;
 
 // Whether the part's sides are in the domain.
@@ -24,7 +25,7 @@ pub fn part_ok(part: PartType) -> bool
 
 impl Layout {
     // What a mark names: refusals 4 and 5.
-    pub fn sought(self, mark: Mark) -> Sought
+    pub(crate) fn sought(self, mark: Mark) -> Sought
         ensures { λ r. ⌜ r ≡ soughtOf self mark ⌝ }
     {
         if mark.layout != self.number {
@@ -44,5 +45,28 @@ impl Layout {
             return Sought::Refused(Refusal::Gone);
         }
         Sought::Piece(d)
+    }
+
+    // The free piece that a mark names, for a part: refusals 1, 3, 4, 5 and 6.
+    pub fn free_piece(self, mark: Mark, part: PartType) -> Sought
+        ensures { λ r. ⌜ r ≡ freePieceOf self mark part ⌝ }
+    {
+        if self.sound() {} else {
+            return Sought::Refused(Refusal::NotSound);
+        }
+        if part_ok(part) {} else {
+            return Sought::Refused(Refusal::PartOutside);
+        }
+        match self.sought(mark) {
+            Sought::Refused(refusal) => Sought::Refused(refusal),
+            Sought::Piece(d) => {
+                let kind = d.kind;
+                if is_free(kind) {
+                    Sought::Piece(d)
+                } else {
+                    Sought::Refused(Refusal::NotFree)
+                }
+            }
+        }
     }
 }

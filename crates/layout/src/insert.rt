@@ -5,7 +5,6 @@ ghost use Prim.Native.Nat.{_≤_};
 ghost use Rattle.layout.specs.Check.{limit, maxSerial};
 ghost use Rattle.layout.specs.Refusing.{outcomeOf};
 ghost use Rattle.layout.specs.Insert.{InsertDone, InsertSays, Insertable, bookNo, bookingFor, refusedInsert};
-use crate::asked::part_ok;
 use crate::assertions::MAX_SERIAL;
 use crate::layout::Layout;
 use crate::replies::Outcome;
@@ -22,7 +21,6 @@ use piece::insertion_blueprint::InsertionShape;
 use piece::node::Datum;
 use piece::parttype::PartType;
 use piece::rotation::Rotation;
-use sound::places::is_free;
 use table::LIMIT;
 
 // The marks of the new nodes; zero, with the layout as it came, where it is refused.
@@ -43,7 +41,7 @@ impl Layout {
         }
     }
 
-    // Refusals 6, 7, 8 and 9, of the piece that the mark names.
+    // Refusals 7, 8 and 9, of the free piece that the mark names.
     fn may_book(
         self,
         piece: Datum,
@@ -54,10 +52,6 @@ impl Layout {
         requires { ⌜ (1 ≤ self .held) × (self .held ≤ limit) × (self .serial ≤ maxSerial) ⌝ }
         ensures { λ r. ⌜ r ≡ outcomeOf (bookNo self piece part rotation shape) ⌝ }
     {
-        let kind = piece.kind;
-        if is_free(kind) {} else {
-            return Outcome::Refused(Refusal::NotFree);
-        }
         if is_offered(piece, part, self.stages, rotation, shape) {} else {
             return Outcome::Refused(Refusal::NotOffered);
         }
@@ -115,13 +109,7 @@ impl Layout {
     ) -> Inserted
         ensures { λ r. ⌜ InsertSays self mark part rotation shape r ⌝ }
     {
-        if self.sound() {} else {
-            return self.refused_insert(Refusal::NotSound);
-        }
-        if part_ok(part) {} else {
-            return self.refused_insert(Refusal::PartOutside);
-        }
-        match self.sought(mark) {
+        match self.free_piece(mark, part) {
             Sought::Refused(refusal) => self.refused_insert(refusal),
             Sought::Piece(piece) => match self.may_book(piece, part, rotation, shape) {
                 Outcome::Refused(refusal) => self.refused_insert(refusal),

@@ -16,13 +16,13 @@ use Rattle.tree.specs.Figures.{partArea, freeArea, sheetUsage, treeUsage}
 use Rattle.table.specs.Table.{at}
 use Rattle.answers.specs.declared.Mark.{Mark}
 use Rattle.answers.specs.declared.Refusal.{Refusal}
-use Rattle.answers.specs.declared.Refusal.the-variants.{NotSound, PartOutside, NotFree, PastTheEnd}
+use Rattle.answers.specs.declared.Refusal.the-variants.{NotSound, PartOutside, PastTheEnd}
 use Rattle.layout.specs.declared.layout.Layout.{Layout}
 use Rattle.layout.specs.declared.replies.Sought.{Sought}
 use Rattle.layout.specs.declared.replies.Sought.the-variants as sought
 use Rattle.layout.specs.declared.replies.Outcome.the-variants as outcomes
 use Rattle.layout.specs.Check.{tree, soundB}
-use Rattle.layout.specs.Asked.{partB, soughtOf}
+use Rattle.layout.specs.Asked.{partB, freePieceOf}
 use Rattle.looks.specs.declared.replies.AreaAnswer.{AreaAnswer}
 use Rattle.looks.specs.declared.replies.AreaAnswer.the-variants as areas
 use Rattle.looks.specs.declared.replies.CountAnswer.{CountAnswer}
@@ -93,16 +93,14 @@ unfoldable pub lightOf : Layout → PartType → LightAnswer
 lightOf l p =
     cond (soundB l) (cond (partB p) (lights.Says (lightB l p)) (lights.Refused PartOutside)) (lights.Refused NotSound)
 
--- ---- Offers on a mark: refusals 1, 3, 4, 5, 6
+-- ---- Offers on a mark, after the head of a call on a free piece: refusals 1, 3, 4, 5, 6
 
 abbrev pub refusedOffers : Refusal → OffersAnswer
 refusedOffers r = record { outcome = outcomes.Refused r; offers = noOffers }
 
 abbrev pub offeredFor : Layout → PartType → Sought → OffersAnswer
 offeredFor l p (sought.Refused r) = refusedOffers r
-offeredFor l p (sought.Piece d) =
-    cond (isFree (d .kind)) (record { outcome = outcomes.Done; offers = held (offersOf d p (l .stages)) }) (refusedOffers NotFree)
+offeredFor l p (sought.Piece d) = record { outcome = outcomes.Done; offers = held (offersOf d p (l .stages)) }
 
 unfoldable pub offersCall : Layout → Mark → PartType → OffersAnswer
-offersCall l m p =
-    cond (soundB l) (cond (partB p) (offeredFor l p (soughtOf l m)) (refusedOffers PartOutside)) (refusedOffers NotSound)
+offersCall l m p = offeredFor l p (freePieceOf l m p)

@@ -14,7 +14,6 @@ use piece::node::insertion_possible;
 use piece::parttype::PartType;
 use piece::rotation::Rotation;
 use piece::size::Size;
-use sound::places::is_free;
 
 fn fits_in(size: Size, part: PartType, rotation: Rotation) -> bool
     ensures { λ r. ⌜ r ≡ fitsIn size part rotation ⌝ }
@@ -70,24 +69,11 @@ pub fn room_light(layout: Layout, part: PartType) -> LightAnswer
 pub fn offers(layout: Layout, mark: Mark, part: PartType) -> OffersAnswer
     ensures { λ r. ⌜ r ≡ offersCall layout mark part ⌝ }
 {
-    if layout.sound() {} else {
-        return refused_offers(Refusal::NotSound);
-    }
-    if part_ok(part) {} else {
-        return refused_offers(Refusal::PartOutside);
-    }
-    match layout.sought(mark) {
+    match layout.free_piece(mark, part) {
         Sought::Refused(refusal) => refused_offers(refusal),
-        Sought::Piece(d) => {
-            let kind = d.kind;
-            if is_free(kind) {
-                OffersAnswer {
-                    outcome: Outcome::Done,
-                    offers: piece::insertion_option::offers(d, part, layout.stages),
-                }
-            } else {
-                refused_offers(Refusal::NotFree)
-            }
-        }
+        Sought::Piece(d) => OffersAnswer {
+            outcome: Outcome::Done,
+            offers: piece::insertion_option::offers(d, part, layout.stages),
+        },
     }
 }

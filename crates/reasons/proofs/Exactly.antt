@@ -17,17 +17,15 @@ use Rattle.piece.specs.declared.rotation.Rotation.the-variants.{Default, Rotate
 use Rattle.piece.specs.Offers.{allowed, along, across, fits, held, inRotation, offersIn, offersOf, shapes, turned}
 use Rattle.piece.proofs.Sizes.{fits-sides}
 use Rattle.piece.proofs.Offered.{held-count}
-use Rattle.tree.specs.Tree.{isFree}
 use Rattle.lists.proofs.Scan.{clash, and-false}
 use Rattle.answers.specs.declared.Mark.{Mark}
 use Rattle.answers.specs.declared.Refusal.{Refusal}
-use Rattle.answers.specs.declared.Refusal.the-variants.{NotSound, PartOutside, NotFree}
 use Rattle.layout.specs.declared.layout.Layout.{Layout}
 use Rattle.layout.specs.declared.replies.Sought.{Sought}
 use Rattle.layout.specs.declared.replies.Sought.the-variants as sought
 use Rattle.layout.specs.declared.replies.Outcome.the-variants as outcomes
-use Rattle.layout.specs.Check.{soundB}
-use Rattle.layout.specs.Asked.{partB, soughtOf}
+use Rattle.layout.specs.Asked.{soughtOf, freePieceOf}
+use Rattle.layout.proofs.Marks.{headed}
 use Rattle.looks.specs.declared.replies.OffersAnswer.{OffersAnswer}
 use Rattle.looks.specs.Answers.{offeredFor, offersCall, refusedOffers}
 use Rattle.reasons.specs.declared.reason.Reason.{Reason}
@@ -205,10 +203,6 @@ refused-agree e =
       offers = ((λ h. let z : ⊥ = omega arith in absurd z), λ k. absurd (⊎-elim not-offered not-offered k));
     }
 
-test-agrees : (b : Bool) {w v : WhyAnswer} {o q : OffersAnswer} → Agree w o → Agree v q → Agree (cond b w v) (cond b o q)
-test-agrees true a c = a
-test-agrees false a c = c
-
 -- one of two lists has an entry
 either-some : (a b : ℕ) → 0 < a + b → (0 < a) ⊎ (0 < b)
 either-some zero b h = inr (omega arith)
@@ -229,13 +223,11 @@ module _ (d : Datum) (p : PartType) (stages : ℕ) where
 
 sought-agree : (l : Layout) (p : PartType) (s : Sought) → Agree (whyFor l p s) (offeredFor l p s)
 sought-agree l p (sought.Refused e) = refused-agree e
-sought-agree l p (sought.Piece d) =
-    test-agrees (isFree (d .kind)) (record { outcome = refl; offers = piece-offers d p (l .stages) }) (refused-agree NotFree)
+sought-agree l p (sought.Piece d) = record { outcome = refl; offers = piece-offers d p (l .stages) }
 
 calls-agree : (l : Layout) (m : Mark) (p : PartType) → Agree (whyCall l m p) (offersCall l m p)
 unfolding whyCall offersCall
-calls-agree l m p =
-    test-agrees (soundB l) (test-agrees (partB p) (sought-agree l p (soughtOf l m)) (refused-agree PartOutside)) (refused-agree NotSound)
+calls-agree l m p = sought-agree l p (freePieceOf l m p)
 
 module _ (l : Layout) (m : Mark) (p : PartType) where
   -- "Refusals: those of offers."
@@ -250,14 +242,9 @@ module _ (l : Layout) (m : Mark) (p : PartType) where
   pub reasons-of-piece : (d : Datum) → soughtOf l m ≡ sought.Piece d → whyCall l m p .outcome ≡ outcomes.Done
       → whyCall l m p ≡ reasonsFor d p (l .stages)
   unfolding whyCall
-  reasons-of-piece d e h = rw e (go (soundB l) (partB p) (isFree (d .kind)) (rw e at h))
+  reasons-of-piece d e = go (freePieceOf l m p) refl
     where
-      answer : Bool → Bool → Bool → WhyAnswer
-      answer a b c =
-          cond a (cond b (cond c (reasonsFor d p (l .stages)) (refusedWhy NotFree)) (refusedWhy PartOutside)) (refusedWhy NotSound)
-
-      go : (a b c : Bool) → answer a b c .outcome ≡ outcomes.Done → answer a b c ≡ reasonsFor d p (l .stages)
-      go true true true q = refl
-      go true true false q = absurd (clash (cc))
-      go true false c q = absurd (clash (cc))
-      go false b c q = absurd (clash (cc))
+      go : (q : Sought) → freePieceOf l m p ≡ q → whyFor l p q .outcome ≡ outcomes.Done → whyFor l p q ≡ reasonsFor d p (l .stages)
+      go (sought.Refused r) f h = absurd (clash (cc))
+      go (sought.Piece x) f h =
+          let is : x ≡ d = cc (headed l m p x f .named) in ap (λ (y : Datum). reasonsFor y p (l .stages)) is

@@ -1,19 +1,16 @@
--- What `why_not` answers: the reasons of the free piece that a mark names, after "those of offers", refusals 1, 3, 4, 5, 6 in their order.
-use mathlib.Core.Bool.{cond}
+-- What `why_not` answers: the reasons of the free piece that a mark names, after "those of offers", refusals 1, 3, 4, 5, 6 in their order (layout's
+-- head of a call on a free piece).
 use Prim.Native.Nat.{ℕ}
 use Rattle.piece.specs.declared.node.Datum.{Datum}
 use Rattle.piece.specs.declared.parttype.PartType.{PartType}
 use Rattle.piece.specs.declared.rotation.Rotation.the-variants.{Default, Rotated}
-use Rattle.tree.specs.Tree.{isFree}
 use Rattle.answers.specs.declared.Mark.{Mark}
 use Rattle.answers.specs.declared.Refusal.{Refusal}
-use Rattle.answers.specs.declared.Refusal.the-variants.{NotSound, PartOutside, NotFree}
 use Rattle.layout.specs.declared.layout.Layout.{Layout}
 use Rattle.layout.specs.declared.replies.Sought.{Sought}
 use Rattle.layout.specs.declared.replies.Sought.the-variants as sought
 use Rattle.layout.specs.declared.replies.Outcome.the-variants as outcomes
-use Rattle.layout.specs.Check.{soundB}
-use Rattle.layout.specs.Asked.{partB, soughtOf}
+use Rattle.layout.specs.Asked.{freePieceOf}
 use Rattle.reasons.specs.declared.reason.Reason.the-variants.{Forbidden}
 use Rattle.reasons.specs.declared.why_not.WhyAnswer.{WhyAnswer}
 use Rattle.reasons.specs.Reasons.{reasonIn}
@@ -29,7 +26,7 @@ reasonsFor d p stages =
 
 abbrev pub whyFor : Layout → PartType → Sought → WhyAnswer
 whyFor l p (sought.Refused r) = refusedWhy r
-whyFor l p (sought.Piece d) = cond (isFree (d .kind)) (reasonsFor d p (l .stages)) (refusedWhy NotFree)
+whyFor l p (sought.Piece d) = reasonsFor d p (l .stages)
 
 unfoldable pub whyCall : Layout → Mark → PartType → WhyAnswer
-whyCall l m p = cond (soundB l) (cond (partB p) (whyFor l p (soughtOf l m)) (refusedWhy PartOutside)) (refusedWhy NotSound)
+whyCall l m p = whyFor l p (freePieceOf l m p)

@@ -5,14 +5,12 @@ use crate::reason::Reason;
 use crate::reason::reason_in;
 use answers::Mark;
 use answers::Refusal;
-use layout::asked::part_ok;
 use layout::layout::Layout;
 use layout::replies::Outcome;
 use layout::replies::Sought;
 use piece::node::Datum;
 use piece::parttype::PartType;
 use piece::rotation::Rotation;
-use sound::places::is_free;
 
 // A reason for each rotation; where it is refused, both are the zero case.
 pub struct WhyAnswer {
@@ -45,21 +43,8 @@ fn reasons_for(piece: Datum, part: PartType, stages: u8) -> WhyAnswer
 pub fn why_not(layout: Layout, mark: Mark, part: PartType) -> WhyAnswer
     ensures { λ r. ⌜ r ≡ whyCall layout mark part ⌝ }
 {
-    if layout.sound() {} else {
-        return refused_why(Refusal::NotSound);
-    }
-    if part_ok(part) {} else {
-        return refused_why(Refusal::PartOutside);
-    }
-    match layout.sought(mark) {
+    match layout.free_piece(mark, part) {
         Sought::Refused(refusal) => refused_why(refusal),
-        Sought::Piece(d) => {
-            let kind = d.kind;
-            if is_free(kind) {
-                reasons_for(d, part, layout.stages)
-            } else {
-                refused_why(Refusal::NotFree)
-            }
-        }
+        Sought::Piece(d) => reasons_for(d, part, layout.stages),
     }
 }

@@ -10,17 +10,14 @@ use Rattle.piece.specs.declared.rotation.Rotation.{Rotation}
 use Rattle.piece.specs.declared.size.Size.{Size}
 use Rattle.piece.specs.declared.parttype.PartType.{PartType}
 use Rattle.piece.specs.declared.insertion_blueprint.InsertionShape.{InsertionShape}
-use Rattle.piece.specs.declared.node.Datum.{Datum}
-use Rattle.piece.specs.Offers.{held, offersOf}
+use Rattle.piece.specs.Offers.{offersOf}
 use Rattle.piece.proofs.Offered.{held-count, offers-few}
-use Rattle.tree.specs.Tree.{isFree}
 use Rattle.answers.specs.declared.Mark.{Mark}
-use Rattle.answers.specs.declared.Refusal.the-variants.{NotSound, PartOutside, NotFree}
+use Rattle.answers.specs.declared.Refusal.the-variants.{NotSound}
 use Rattle.layout.specs.declared.layout.Layout.{Layout}
 use Rattle.layout.specs.declared.open.Opening.{Opening}
 use Rattle.layout.specs.declared.open.Opened.{Opened}
 use Rattle.layout.specs.declared.replies.Outcome.{Outcome}
-use Rattle.layout.specs.declared.replies.Outcome.the-variants as outcomes
 use Rattle.layout.specs.declared.replies.Sought.{Sought}
 use Rattle.layout.specs.declared.replies.Sought.the-variants as sought
 use Rattle.layout.specs.declared.insert.Inserted.{Inserted}
@@ -28,13 +25,13 @@ use Rattle.layout.specs.declared.remove.Removed.{Removed}
 use Rattle.layout.specs.declared.restore.Restored.{Restored}
 use Rattle.layout.specs.Check.{limit, soundB}
 use Rattle.layout.specs.Open.{openOf}
-use Rattle.layout.specs.Asked.{partB, soughtOf}
+use Rattle.layout.specs.Asked.{freePieceOf}
 use Rattle.layout.specs.Insert.{InsertSays}
 use Rattle.layout.specs.Remove.{RemoveSays, numbersOut, numbersLeft}
 use Rattle.layout.specs.Restore.{restoreOf}
 use Rattle.layout.proofs.Answered.{TakenOut}
 use Rattle.looks.specs.declared.replies.OffersAnswer.{OffersAnswer}
-use Rattle.looks.specs.Answers.{refusedOffers, offeredFor, offersCall}
+use Rattle.looks.specs.Answers.{offeredFor, offersCall}
 use Rattle.frames.specs.declared.Request.{Request}
 use Rattle.frames.specs.declared.Request.the-variants.{Open, Offers, Insert, Remove, Keep, Restore, Report, Malformed}
 use Rattle.frames.specs.Answers.{Answer, refused, removed, done, malformed}
@@ -167,22 +164,11 @@ malformed-steps y = steps refl y
 -- an answer to offers has at most four
 pub offers-four : (l : Layout) (m : Mark) (p : PartType) → offersCall l m p .offers .count ≤ 4
 unfolding offersCall
-offers-four l m p = go (soundB l) (partB p) (soughtOf l m)
+offers-four l m p = go (freePieceOf l m p)
   where
-    piece : (b : Bool) (d : Datum)
-        → cond b (record { outcome = outcomes.Done; offers = held (offersOf d p (l .stages)) }) (refusedOffers NotFree) .offers .count ≤ 4
-    piece true d = omega (arith, held-count (offersOf d p (l .stages)), offers-few d p (l .stages))
-    piece false d = omega arith
-
-    named : (f : Sought) → offeredFor l p f .offers .count ≤ 4
-    named (sought.Refused e) = omega arith
-    named (sought.Piece d) = piece (isFree (d .kind)) d
-
-    go : (a b : Bool) (f : Sought)
-        → cond a (cond b (offeredFor l p f) (refusedOffers PartOutside)) (refusedOffers NotSound) .offers .count ≤ 4
-    go true true f = named f
-    go true false f = omega arith
-    go false b f = omega arith
+    go : (f : Sought) → offeredFor l p f .offers .count ≤ 4
+    go (sought.Refused e) = omega arith
+    go (sought.Piece d) = omega (arith, held-count (offersOf d p (l .stages)), offers-few d p (l .stages))
 
 -- the part numbers that an accepted removal left in a buffer of zeros
 pub numbers-out : {left : List ℕ} (l : Layout) (m : Mark) (d : Removed) → TakenOut l m limit d → left ≡ numbersLeft l m (replicate limit 0)

@@ -1,4 +1,4 @@
--- `offers` meets its contract: each way out is one outcome of the tests of `offersCall`.
+-- `offers` meets its contract: what the head gives is refused, or the offers of that piece are given.
 use mathlib.Core.Path.{_≡_, sym, ap, _∙_}
 use borrow.Author.Needs.{needs}
 use Rattle.piece.specs.declared.insertion_option.OfferList.{OfferList}
@@ -6,7 +6,6 @@ use Rattle.piece.specs.declared.parttype.PartType.{PartType}
 use Rattle.layout.specs.declared.layout.Layout.{Layout}
 use Rattle.layout.specs.declared.replies.Outcome.the-variants as outcomes
 use Rattle.layout.specs.declared.replies.Sought.{Sought}
-use Rattle.layout.proofs.Ways.{onward-by, ended-by}
 use Rattle.looks.specs.declared.replies.OffersAnswer.{OffersAnswer}
 use Rattle.looks.specs.Answers.{offeredFor, offersCall}
 use Rattle.looks.proofs.room.offers.Statement.{statement}
@@ -17,109 +16,39 @@ as-sought : {r : OffersAnswer} {x y t : Sought} (l : Layout) (p : PartType) → 
     → r ≡ offeredFor l p y
 as-sought l p f e h = h ∙ ap (offeredFor l p) (sym e ∙ f)
 
-sound-requires : tie.Need-sound-requires
-sound-requires c κs = search needs
-
-refused-offers-requires : tie.Need-refused-offers-requires
-refused-offers-requires c κs = search needs
-
-returns : tie.Need-returns
-unfolding offersCall
-returns c = let c1 = c .before in ended-by _ (c1 .before .sound .ensures) (c1 .if1 .left) (c .refused-offers .ensures)
-
-part-ok-requires : tie.Need-part-ok-requires
-part-ok-requires c κs = search needs
-
-refused-offers-requires-2 : tie.Need-refused-offers-requires-2
-refused-offers-requires-2 c κs = search needs
-
-returns-2 : tie.Need-returns-2
-unfolding offersCall
-returns-2 c =
-    let c2 = c .before in
-    let c1 = c2 .before .before in
-    onward-by _ (c1 .before .sound .ensures) (c1 .if1 .taken)
-    (ended-by _ (c2 .before .part-ok .ensures) (c2 .if2 .left) (c .refused-offers2 .ensures))
-
-sought-requires : tie.Need-sought-requires
-sought-requires c κs = search needs
+free-piece-requires : tie.Need-free-piece-requires
+free-piece-requires c κs = search needs
 
 enum-known-refusal : tie.Need-enum-known-refusal
 enum-known-refusal c = search needs
 
-refused-offers-requires-3 : tie.Need-refused-offers-requires-3
-refused-offers-requires-3 c κs = search needs
+refused-offers-requires : tie.Need-refused-offers-requires
+refused-offers-requires c κs = search needs
 
 enum-known-d : tie.Need-enum-known-d
 enum-known-d c = search needs
 
-is-free-requires : tie.Need-is-free-requires
-is-free-requires c κs = search needs
-
 offers-requires : tie.Need-offers-requires
 offers-requires c κs = search needs
 
-refused-offers-requires-4 : tie.Need-refused-offers-requires-4
-refused-offers-requires-4 c κs = search needs
-
-returns-3 : tie.Need-returns-3
+returns : tie.Need-returns
 unfolding offersCall
-returns-3 c =
+returns c =
     let k = c .before .before in
     let t = k .before .before in
-    let c2 = t .before in
-    let c1 = c2 .before .before in
-    let a = c1 .before .before .args in
-    onward-by _ (c1 .before .sound .ensures) (c1 .if1 .taken)
-    (onward-by _ (c2 .before .part-ok .ensures) (c2 .if2 .taken)
-    (as-sought (a .layout) (a .part) (t .sought .ensures) (k .refusal .given .1) (c .refused-offers3 .ensures)))
+    let a = t .before .args in
+    as-sought (a .layout) (a .part) (t .free-piece .ensures) (k .refusal .given .1) (c .refused-offers .ensures)
 
-returns-4 : tie.Need-returns-4
+returns-2 : tie.Need-returns-2
 unfolding offersCall
-returns-4 c =
-    let c3 = c .before in
-    let k = c3 .before .before .before in
+returns-2 c =
+    let k = c .before .before in
     let t = k .before .before in
-    let c2 = t .before in
-    let c1 = c2 .before .before in
-    let a = c1 .before .before .args in
-    onward-by _ (c1 .before .sound .ensures) (c1 .if1 .taken)
-    (onward-by _ (c2 .before .part-ok .ensures) (c2 .if2 .taken)
-    (as-sought (a .layout) (a .part) (t .sought .ensures) (k .d .given .1)
-    (onward-by _ (c3 .before .is-free .ensures) (c3 .if3 .taken)
-    (ap (λ (o : OfferList). record { outcome = outcomes.Done; offers = o }) (c .offers .ensures)))))
-
-returns-5 : tie.Need-returns-5
-unfolding offersCall
-returns-5 c =
-    let c3 = c .before in
-    let k = c3 .before .before .before in
-    let t = k .before .before in
-    let c2 = t .before in
-    let c1 = c2 .before .before in
-    let a = c1 .before .before .args in
-    onward-by _ (c1 .before .sound .ensures) (c1 .if1 .taken)
-    (onward-by _ (c2 .before .part-ok .ensures) (c2 .if2 .taken)
-    (as-sought (a .layout) (a .part) (t .sought .ensures) (k .d .given .1)
-    (ended-by _ (c3 .before .is-free .ensures) (c3 .if3 .left) (c .refused-offers4 .ensures))))
+    let a = t .before .args in
+    as-sought (a .layout) (a .part) (t .free-piece .ensures) (k .d .given .1)
+    (ap (λ (o : OfferList). record { outcome = outcomes.Done; offers = o }) (c .offers .ensures))
 
 pub offers-spec : {M : Type 1} → statement M
 offers-spec =
     tie.close
-    (tie.spec
-    sound-requires
-    refused-offers-requires
-    returns
-    part-ok-requires
-    refused-offers-requires-2
-    returns-2
-    sought-requires
-    enum-known-refusal
-    refused-offers-requires-3
-    enum-known-d
-    is-free-requires
-    offers-requires
-    refused-offers-requires-4
-    returns-3
-    returns-4
-    returns-5)
+    (tie.spec free-piece-requires enum-known-refusal refused-offers-requires enum-known-d offers-requires returns returns-2)
