@@ -18,8 +18,8 @@ use piece::orientation::Orientation;
 use piece::size::Size;
 use register::listing::Listing;
 use table::LIMIT;
-use table::NONE;
 use table::Node;
+use table::places::unheld;
 
 // A node to be made: the place of its parent, whether it is the first child of that one, its own place, and what it is.
 pub struct NewNode {
@@ -212,18 +212,7 @@ pub fn new_places(nodes: [Node; LIMIT]) -> [u16; 5]
     let mut from: u16 = 0;
     let mut k: usize = 0;
     while k < 5 {
-        let mut i = from;
-        let place = loop {
-            if NONE <= i {
-                break i;
-            }
-            let at = i as usize;
-            let n = nodes[at];
-            if n.datum.serial == 0 {
-                break i;
-            }
-            i += 1;
-        };
+        let place = unheld(nodes, from);
         places[k] = place;
         from = place + 1;
         k += 1;

@@ -286,6 +286,11 @@ module _ (xs : List ℕ) (p : ℕ) (inside : spot xs p < length xs) where
   unfolding strike
   strike-fewer = rw (lt-ltb (spot xs p) (length xs) inside) (swapped-fewer xs (spot xs p) inside)
 
+  -- "removal puts the final entry into the hole"
+  pub strike-hole : spot xs p < length xs - 1 → getD (strike xs p) (spot xs p) 0 ≡ getD xs (length xs - 1) 0
+  unfolding strike
+  strike-hole b = rw (lt-ltb (spot xs p) (length xs) inside) (swapped-hole xs (spot xs p) inside b)
+
 -- two entries of ys, one behind the other, stood so in xs
 abbrev pub Orderly : List ℕ → List ℕ → Type 0
 Orderly xs ys =
