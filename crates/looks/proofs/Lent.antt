@@ -1,12 +1,12 @@
 -- The calls that write into a lent buffer (specs/Written.antt): the three ways that one can end, and what is written on a sound layout. It rests
--- on what `walks` says of the orders of a tree and of what is written along them. Assumes nothing.
+-- on what `walks` says of the snapshot and of the numbers along every place. Assumes nothing.
 use mathlib.Core.Path.{_≡_, refl, sym, ap, _∙_}
 use mathlib.Core.List.{List}
-use mathlib.Core.Bool.{Bool, true, false}
+use mathlib.Core.Bool.{true, false}
 use mathlib.Core.Logic.{inl}
-use Prim.Native.Nat.{ℕ, _+_, _*_, _≤_, _<_}
+use Prim.Native.Nat.{ℕ, _*_, _≤_, _<_}
 use native.Mathlib.Omega.{arith}
-use lib.ListN.{length, length-replicate}
+use lib.ListN.{length}
 use lib.Seq.{sets}
 use borrow.Author.Tests.{eq-eqb, le-leb, lt-leb}
 use Rattle.piece.specs.declared.size.Size.{Size}
@@ -15,17 +15,12 @@ use Rattle.tree.specs.Tree.{Tree, In, count}
 use Rattle.tree.specs.Sound.{Sound}
 use Rattle.tree.specs.Removal.{subtree}
 use Rattle.tree.specs.Snapshot.{snapshot}
-use Rattle.table.specs.declared.Node.{Node}
-use Rattle.table.specs.Table.{Holds}
-use Rattle.lists.specs.Lists.{zeros}
-use Rattle.walks.specs.Order.{orderOf, preorder, inOrder}
-use Rattle.walks.specs.Columns.{orderIn}
-use Rattle.walks.specs.Along.{below, entries, Placed, bytesAlong, numbersAlong}
-use Rattle.walks.proofs.Meaning.{length-order, order-subtree}
+use Rattle.walks.specs.declared.columns.Columns.{Columns}
+use Rattle.walks.specs.Columns.{columnsOf, snapshotIn}
+use Rattle.walks.specs.Along.{below, entries, Placed, numbersAlong}
+use Rattle.walks.proofs.Meaning.{snapshot-subtree}
 use Rattle.walks.proofs.Entries.{entries-below, placed-below}
-use Rattle.walks.proofs.Along.{bytes-tree, length-snapshot, order-entries, order-placed, numbers-held-count, parts-most}
-use Rattle.sound.specs.declared.columns.Columns.{Columns}
-use Rattle.sound.specs.Columns.{columnsOf}
+use Rattle.walks.proofs.Along.{length-snapshot, numbers-held-count, parts-most}
 use Rattle.answers.specs.declared.Refusal.the-variants.{NotSound, BufferTooShort}
 use Rattle.layout.specs.declared.layout.Layout.{Layout}
 use Rattle.layout.specs.Check.{limit, tree, soundB}
@@ -62,28 +57,9 @@ top-whole : {limit stages : ℕ} {sheet : Size} (w : Tree) → Sound limit stage
 top-whole nil s = absurd (s .topped)
 top-whole (grow p d k r) s = rw (eq-eqb p 0 (s .topped .0 .place), s .topped .0 .alone) refl
 
--- the walk from place 0 with fuel for all nodes, in either order, and what is written along it
-module _ {limit stages : ℕ} {sheet : Size} (t : List Node) (w : Tree) (n : ℕ) (sound : Sound limit stages sheet w)
-    (holds : Holds limit t w) (held : n ≡ count w) where
-  walk-whole : (f : Bool) → orderIn limit f t n 0 ≡ inOrder f w
-  walk-whole f = order-subtree limit t w 0 n holds (top-in w sound) (omega arith) f ∙ ap (inOrder f) (top-whole w sound)
-
-  module _ (b : List ℕ) (room : length b ≡ limit) where
-    fits : count (subtree 0 w) ≤ length b
-    fits = rw (top-whole w sound) (omega (arith, sound .room))
-
-    whole-placed : (f : Bool) → Placed limit n (sets b 0 (inOrder f w))
-    whole-placed f = rw held (rw (top-whole w sound) at (order-placed limit t w holds f 0 b fits))
-
-    whole-bytes : bytesAlong t (entries n (sets b 0 (preorder w))) ≡ snapshot w
-    whole-bytes =
-        let e : entries n (sets b 0 (preorder w)) ≡ preorder w =
-        rw held (rw (top-whole w sound) at (order-entries limit t w holds true 0 b fits)) in
-        ap (bytesAlong t) e ∙ bytes-tree limit t w holds
-
--- the walk over columns, each node before its children or after them
-abbrev pub walked : Bool → Layout → Columns → List ℕ
-walked f l c = orderOf limit f (c .first) (c .next) (l .held) 0
+-- what is written down the tree from place 0, over columns
+abbrev pub written : Layout → Columns → List ℕ
+written l c = snapshotIn limit c (l .held) 0
 
 module _ (l : Layout) (s : SoundLayout l) where
   pub held-room : l .held ≤ limit
@@ -93,26 +69,13 @@ module _ (l : Layout) (s : SoundLayout l) where
   unfolding snapshotBytes
   bytes-length = length-snapshot (tree l) ∙ rw (s .held) refl
 
-  module _ {c : Columns} (e : c ≡ columnsOf (l .nodes)) where
-    walk-is : (f : Bool) → walked f l c ≡ inOrder f (tree l)
-    walk-is f = ap (walked f l) e ∙ walk-whole (l .nodes) (tree l) (l .held) (s .sound) (s .holds) (s .held) f
-
-    -- either order has room, and gives places
-    pub walk-room : (f : Bool) → 0 + length (walked f l c) ≤ limit
-    walk-room f = omega (arith, ap length (walk-is f), length-order f (tree l), s .sound .room)
-
-    pub walk-placed : (f : Bool) {o : List ℕ} → o ≡ sets (zeros limit) 0 (walked f l c) → Placed limit (l .held) o
-    walk-placed f wrote =
-        rw (wrote ∙ ap (sets (zeros limit) 0) (walk-is f))
-        (whole-placed (l .nodes) (tree l) (l .held) (s .sound) (s .holds) (s .held) (zeros limit) (length-replicate {A = ℕ} limit 0) f)
-
-    -- the bytes are the snapshot's where each node comes before its children
-    pub walk-bytes : {o : List ℕ} → o ≡ sets (zeros limit) 0 (walked true l c)
-        → bytesAlong (l .nodes) (entries (l .held) o) ≡ snapshotBytes l
-    unfolding snapshotBytes
-    walk-bytes wrote =
-        rw (wrote ∙ ap (sets (zeros limit) 0) (walk-is true))
-        (whole-bytes (l .nodes) (tree l) (l .held) (s .sound) (s .holds) (s .held) (zeros limit) (length-replicate {A = ℕ} limit 0))
+  -- is the snapshot
+  pub written-is : {c : Columns} → c ≡ columnsOf (l .nodes) → written l c ≡ snapshotBytes l
+  unfolding snapshotBytes
+  written-is e =
+      ap (written l) e
+      ∙ snapshot-subtree limit (l .nodes) (tree l) 0 (l .held) (s .holds) (top-in (tree l) (s .sound)) (omega (arith, s .held))
+      ∙ ap snapshot (top-whole (tree l) (s .sound))
 
 -- ---- the part numbers
 

@@ -6,15 +6,14 @@ ghost use Rattle.looks.specs.Written.{answerTo, heldNumbers, leftIn, sna
 use crate::replies::CountAnswer;
 use answers::Refusal;
 use layout::layout::Layout;
-use sound::columns::columns_of;
 use table::LIMIT;
+use walks::columns::columns_of;
 use walks::numbers::count_numbers;
 use walks::numbers::every_place;
 use walks::numbers::put_numbers;
-use walks::order::order_out;
-use walks::snapshot::put_nodes;
+use walks::snapshot::put_subtree;
 
-// The snapshot of the tree, 13 bytes a node, and how many bytes it has. It recurses over the tree by the columns of links alone.
+// The snapshot of the tree, 13 bytes a node, and how many bytes it has. It is written down the tree from the top, which is at place 0.
 pub fn snapshot(layout: Layout, out: &mut [u8]) -> CountAnswer
     ensures answer { λ r. ⌜ r ≡ answerTo layout (snapshotBytes layout) (length (now (out .entry))) ⌝ }
     ensures written { λ r. ⌜ now (out .exit) ≡ leftIn layout (snapshotBytes layout) (now (out .entry)) ⌝ }
@@ -29,11 +28,20 @@ pub fn snapshot(layout: Layout, out: &mut [u8]) -> CountAnswer
     }
     let nodes = layout.nodes;
     let c = columns_of(nodes);
-    let first = c.first;
-    let next = c.next;
-    let mut order = [0u16; LIMIT];
-    order_out(&first, &next, 0, held, true, &mut order, 0);
-    put_nodes(nodes, &order, held, out);
+    put_subtree(
+        &c.first,
+        &c.next,
+        &c.level,
+        &c.kind,
+        &c.cut,
+        &c.number,
+        &c.width,
+        &c.height,
+        0,
+        held,
+        out,
+        0,
+    );
     CountAnswer::Count(bytes as u16)
 }
 

@@ -1,6 +1,6 @@
--- What is written along an order, on a table that holds a tree: along the tree's order the bytes are its snapshot; along the order of a
--- removal the numbers are those that come out; along every place they are those that the tree's parts have, each as often. It rests on what
--- `table` says of a table that holds a row (Rep, Holds) and on what `tree` says of rows. Assumes nothing.
+-- The part numbers along an order, on a table that holds a tree: along the order of a removal they are those that come out; along every place
+-- they are those that the tree's parts have, each as often. It rests on what `table` says of a table that holds a row (Rep, Holds) and on what
+-- `tree` says of rows. Assumes nothing.
 use mathlib.Core.Path.{_≡_, refl, sym, ap, _∙_}
 use mathlib.Core.List.{List, [], _∷_, _++_, append-nil}
 use mathlib.Core.Bool.{Bool, true, false, cond}
@@ -19,12 +19,12 @@ use Rattle.piece.specs.Row.{nil, grow}
 use Rattle.tree.specs.Tree.{Tree, In, isPart, count, after}
 use Rattle.tree.specs.Sound.{Kinded, Children, Sound}
 use Rattle.tree.specs.Removal.{numbers, subtree, removed}
-use Rattle.tree.specs.Snapshot.{nodeBytes, snapshot}
+use Rattle.tree.specs.Snapshot.{snapshot}
 use Rattle.table.specs.declared.Node.{Node}
 use Rattle.table.specs.Table.{at, Rep, Holds}
 use Rattle.walks.specs.Order.{preorder, childrenFirst, inOrder}
 use Rattle.walks.specs.Columns.{orderIn}
-use Rattle.walks.specs.Along.{below, entries, Placed, bytesAt, bytesAlong, partNumber, numberAt, numbersAlong}
+use Rattle.walks.specs.Along.{below, entries, Placed, partNumber, numberAt, numbersAlong}
 use Rattle.walks.specs.Along.{occurrences, parts, Each, PartsEnd}
 use Rattle.walks.proofs.Meaning.{length-order, order-subtree, order-room}
 use Rattle.walks.proofs.Entries.{written-entries, written-placed, gathered-append, gathered-last}
@@ -116,10 +116,6 @@ parts-most (grow p d k r) =
 
 -- ---- along the orders of a row that the table shows
 
-node-first : (d : Datum) (l : List ℕ) → nodeBytes d [] ++ l ≡ nodeBytes d l
-unfolding nodeBytes
-node-first d l = refl
-
 number-first : (b : Bool) (v : ℕ) (l : List ℕ) → cond b (v ∷ []) [] ++ l ≡ cond b (v ∷ l) l
 number-first true v l = refl
 number-first false v l = refl
@@ -132,13 +128,6 @@ number-last Structure v k l e = ap (λ (z : List ℕ). z ++ l) (append-nil (numb
 number-last Part v k l e = rw (e refl) refl
 
 module _ (limit : ℕ) (t : List Node) where
-  pub bytes-shown : (r : Tree) → Shown limit t r → bytesAlong t (preorder r) ≡ snapshot r
-  unfolding snapshot
-  bytes-shown nil e = refl
-  bytes-shown (grow p d k r) e =
-      ap (λ (l : List ℕ). bytesAt t p ++ l) (gathered-append (bytesAt t) (preorder k) (preorder r))
-      ∙ rw (bytes-shown k (e .1), bytes-shown r (e .2), e .0 .1) (node-first d (snapshot k ++ snapshot r))
-
   pub numbers-shown : (r : Tree) → Shown limit t r → numbersAlong t (preorder r) ≡ numbers r
   numbers-shown nil e = refl
   numbers-shown (grow p d k r) e =
@@ -193,9 +182,6 @@ occurrences-append v (x ∷ a) b = let h = occurrences-append v a b in omega ari
 
 -- of any row
 module _ (limit : ℕ) (t : List Node) (q pv : ℕ) (r : Tree) (rep : Rep limit t q pv r) where
-  pub bytes-row : bytesAlong t (preorder r) ≡ snapshot r
-  bytes-row = bytes-shown limit t r (rep-shown limit t q pv r rep)
-
   pub numbers-row : numbersAlong t (preorder r) ≡ numbers r
   numbers-row = numbers-shown limit t r (rep-shown limit t q pv r rep)
 
@@ -205,10 +191,6 @@ module _ (limit : ℕ) (t : List Node) (q pv : ℕ) (r : Tree) (rep : Rep limit 
 module _ (limit : ℕ) (t : List Node) (w : Tree) (holds : Holds limit t w) where
   tree-shown : Shown limit t w
   tree-shown = rep-shown limit t limit limit w (holds .rep)
-
-  -- of the whole tree: its snapshot
-  pub bytes-tree : bytesAlong t (preorder w) ≡ snapshot w
-  bytes-tree = bytes-row limit t limit limit w (holds .rep)
 
   -- of the subtree at any place: what a removal hands out
   pub numbers-removed : (x : ℕ) → PartsEnd w → numbersAlong t (childrenFirst (subtree x w)) ≡ removed x w
@@ -230,8 +212,8 @@ module _ (limit : ℕ) (t : List Node) (w : Tree) (holds : Holds limit t w) wher
         let n = length-order b u in
         rw (← n) (written-entries l (inOrder b u) {order = sets l 0 (inOrder b u)} {n = length (inOrder b u)} refl (omega arith) (omega arith))
 
-  -- of what `order_out` leaves in an array with room for it, and of how many places it says that there are: what `put_nodes` and `put_numbers`
-  -- ask of both, and the places that they go along
+  -- of what `order_out` leaves in an array with room for it, and of how many places it says that there are: what `put_numbers`
+  -- asks of both, and the places that it goes along
   module _ (b : Bool) (x left : ℕ) (is : In x w) (fuel : count w ≤ left) (l order : List ℕ) (n : ℕ) (room : count w ≤ length l)
       (written : order ≡ sets l 0 (orderIn limit b t left x)) (counted : n ≡ 0 + length (orderIn limit b t left x)) where
     taken : orderIn limit b t left x ≡ inOrder b (subtree x w)

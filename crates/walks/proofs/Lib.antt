@@ -1,6 +1,7 @@
 mod Chain
 mod Written
 mod OrderSteps
+mod WalkSteps
 mod UsageSteps
 pub mod Meaning
 pub mod Entries

@@ -1,6 +1,6 @@
--- What the walks give on the columns of a table that holds a tree: document 01's orders and its tree usage. The laws stand at the end. They
--- rest on the steps of the two walks (Chain, OrderSteps, UsageSteps), on what `table` says of a table that holds a row (Rep, Holds), and on
--- what `tree` says of rows. Assumes nothing.
+-- What the walks give on the columns of a table that holds a tree: document 01's orders, its snapshot and its tree usage. The laws stand at the
+-- end. They rest on the steps of the walks (Chain, OrderSteps, WalkSteps, UsageSteps), on what `table` says of a table that holds a row (Rep,
+-- Holds), and on what `tree` says of rows. Assumes nothing.
 use mathlib.Core.Path.{_≡_, refl, sym, ap, _∙_, subst}
 use mathlib.Core.List.{List, [], _∷_, _++_, map, append-nil}
 use mathlib.Core.Bool.{Bool, true, false, not}
@@ -18,18 +18,23 @@ use Rattle.piece.specs.Sides.{area}
 use Rattle.piece.specs.Row.{Row, nil, grow}
 use Rattle.tree.specs.Tree.{Tree, In, Distinct, count}
 use Rattle.tree.specs.Removal.{subtree}
-use Rattle.tree.specs.Snapshot.{kindNo}
+use Rattle.tree.specs.Snapshot.{kindNo, nodeBytes, snapshot}
 use Rattle.tree.specs.Figures.{nought, whole, added, treeUsage}
 use Rattle.tree.specs.Figures as figures
 use Rattle.tree.proofs.Rows.{same?, after-nil}
 use Rattle.table.specs.declared.Node.{Node}
 use Rattle.table.specs.Table.{zeroNode, at, head, Rep, Holds}
 use Rattle.walks.specs.Chain.{siblings}
-use Rattle.walks.specs.Order.{own, gathered, preorder, childrenFirst, inOrder}
+use Rattle.walks.specs.Walk.{gathered, nothing, walkOf}
+use Rattle.walks.specs.Order.{own, preorder, childrenFirst, inOrder}
 use Rattle.walks.specs.Usage.{Small, weight, summed, usageOf}
-use Rattle.walks.specs.Columns.{firstsOf, nextsOf, kindsOf, areasOf, orderIn, usageIn}
+use Rattle.table.specs.Columns.{kindOf}
+use Rattle.walks.specs.Columns.{firstsOf, nextsOf, kindsOf, areasOf, levelOf, cutOf, numberOf, widthOf, heightOf, columnsOf}
+use Rattle.walks.specs.Columns.{bytesIn, orderIn, snapshotIn, usageIn}
 use Rattle.walks.proofs.Chain.{siblings-over, siblings-more}
 use Rattle.walks.proofs.OrderSteps.{order-more}
+use Rattle.walks.proofs.WalkSteps.{walk-more}
+use Rattle.walks.proofs.NodeBytes.{node-before}
 use Rattle.walks.proofs.UsageSteps.{sum, usage-free, usage-part, usage-more}
 
 -- the places of a row alone
@@ -68,6 +73,7 @@ record Piece (limit : ℕ) (t : List Node) (p : ℕ) (d : Datum) (k r : Tree) : 
   next : getD (nextsOf t) p 0 ≡ head limit r
   kind : getD (kindsOf t) p 0 ≡ kindNo (d .kind)
   covers : getD (areasOf t) p 0 ≡ area (d .size)
+  bytes : bytesIn (columnsOf t) p ≡ nodeBytes d []
 
 -- of each piece of a row and below it
 abbrev Shown : ℕ → List Node → Tree → Type 0
@@ -77,6 +83,18 @@ Shown limit t (grow p d k r) = Piece limit t p d k r × Shown limit t k × Shown
 -- a column at a place is that field of the node there
 column : (f : Node → ℕ) (t : List Node) (p : ℕ) (n : Node) → at t p ≡ n → getD (map f t) p (f zeroNode) ≡ f n
 column f t p n e = List·getD-map f t p zeroNode ∙ ap f e
+
+bytes-column : (t : List Node) (p : ℕ) (n : Node) → at t p ≡ n → bytesIn (columnsOf t) p ≡ nodeBytes (n .datum) []
+unfolding nodeBytes
+bytes-column t p n e =
+    rw (
+      column levelOf t p n e,
+      column kindOf t p n e,
+      column cutOf t p n e,
+      column numberOf t p n e,
+      column widthOf t p n e,
+      column heightOf t p n e,
+    ) refl
 
 -- a table that holds a row shows it
 shown : (limit : ℕ) (t : List Node) (q pv : ℕ) (r : Tree) → Rep limit t q pv r → Shown limit t r
@@ -88,6 +106,7 @@ shown limit t q pv (grow p d k r) e = (
     next = column (λ (n : Node). n .next) t p _ (e .1);
     kind = column (λ (n : Node). kindNo (n .datum .kind)) t p _ (e .1);
     covers = column (λ (n : Node). area (n .datum .size)) t p _ (e .1);
+    bytes = bytes-column t p _ (e .1);
   },
   shown limit t p limit k (e .2),
   shown limit t q p r (e .3),
@@ -106,6 +125,39 @@ module _ (limit : ℕ) (t : List Node) where
   children : {p : ℕ} {d : Datum} {k r : Tree} (m : ℕ) → Piece limit t p d k r → Shown limit t k → count k ≤ m
       → siblings limit (nextsOf t) m (getD (firstsOf t) p 0) ≡ tops k
   children {k = k} m e f h = ap (siblings limit (nextsOf t) m) (e .first) ∙ chain k m f h
+
+  -- A walk down a row, and W, what it is to write of a row: nothing of the empty row, and of a piece its own before its children's or after them,
+  -- and then that of its later siblings.
+  module _ (before after : ℕ → List ℕ) (W : Tree → List ℕ) (none : W nil ≡ [])
+      (more : (p : ℕ) (d : Datum) (k r : Tree) → bytesIn (columnsOf t) p ≡ nodeBytes d []
+      → (before p ++ (W k ++ after p)) ++ W r ≡ W (grow p d k r)) where
+    abbrev walked : ℕ → ℕ → List ℕ
+    walked n x = walkOf limit (firstsOf t) (nextsOf t) before after n x
+
+    -- of a piece, from what it writes of its children
+    walk-of : {p : ℕ} {d : Datum} {k r : Tree} (n : ℕ) → Piece limit t p d k r → Shown limit t k → count k < n
+        → gathered (walked (n - 1)) (tops k) ≡ W k → walked n p ≡ before p ++ (W k ++ after p)
+    walk-of {p = p} {k = k} n e f h g =
+        walk-more limit (firstsOf t) (nextsOf t) before after n p (λ z. omega arith)
+        ∙ ap (λ (l : List ℕ). before p ++ (gathered (walked (n - 1)) l ++ after p)) (children (n - 1) e f (omega arith))
+        ∙ ap (λ (l : List ℕ). before p ++ (l ++ after p)) g
+
+    -- of a row
+    walk-row : (r : Tree) (n : ℕ) → Shown limit t r → count r ≤ n → gathered (walked n) (tops r) ≡ W r
+    walk-row nil n e h = sym none
+    walk-row (grow p d k r) n e h =
+        ap (λ (l : List ℕ). l ++ gathered (walked n) (tops r)) (walk-of n (e .0) (e .1) (omega arith) (walk-row k (n - 1) (e .1) (omega arith)))
+        ∙ ap (λ (l : List ℕ). (before p ++ (W k ++ after p)) ++ l) (walk-row r n (e .2) (omega arith))
+        ∙ more p d k r (e .0 .bytes)
+
+    -- of a piece alone
+    walk-at : {p : ℕ} {d : Datum} {k r : Tree} (n : ℕ) → Piece limit t p d k r → Shown limit t k → count k < n
+        → walked n p ≡ W (grow p d k nil)
+    walk-at {p = p} {d = d} {k = k} n e f h =
+        walk-of n e f h (walk-row k (n - 1) f (omega arith))
+        ∙ sym (append-nil (before p ++ (W k ++ after p)))
+        ∙ ap (λ (l : List ℕ). (before p ++ (W k ++ after p)) ++ l) (sym none)
+        ∙ more p d k nil (e .bytes)
 
   -- the order of a piece, from that of its children
   order-of : (b : Bool) {p : ℕ} {d : Datum} {k r : Tree} (n : ℕ) → Piece limit t p d k r → Shown limit t k → count k < n
@@ -164,10 +216,17 @@ module _ (limit : ℕ) (t : List Node) where
       (usage-of n (e .0) (e .1) (omega arith) (usage-row k (n - 1) (e .1) (omega arith) nought)))
       ∙ usage-row r n (e .2) (omega arith) _
 
-  -- the two walks at a piece
+  -- the walks at a piece
   order-at : (b : Bool) {p : ℕ} {d : Datum} {k r : Tree} (n : ℕ) → Piece limit t p d k r → Shown limit t k → count k < n
       → orderIn limit b t n p ≡ inOrder b (grow p d k nil)
   order-at b {k = k} n e f h = order-of b n e f h (order-row b k (n - 1) f (omega arith))
+
+  snapshot-at : {p : ℕ} {d : Datum} {k r : Tree} (n : ℕ) → Piece limit t p d k r → Shown limit t k → count k < n
+      → snapshotIn limit (columnsOf t) n p ≡ snapshot (grow p d k nil)
+  unfolding snapshot
+  snapshot-at n e f h =
+      walk-at (bytesIn (columnsOf t)) nothing snapshot refl
+      (λ p d k r b. ap (λ (l : List ℕ). (l ++ (snapshot k ++ [])) ++ snapshot r) b ∙ node-before d (snapshot k) (snapshot r)) n e f h
 
   usage-at : {p : ℕ} {d : Datum} {k r : Tree} (n : ℕ) → Piece limit t p d k r → Shown limit t k → count k < n
       → usageIn limit t n p ≡ treeUsage (grow p d k nil)
@@ -232,6 +291,12 @@ module _ (limit : ℕ) (t : List Node) where
     order-subtree b =
         at-place limit t x left (λ (u : Tree). orderIn limit b t left x ≡ inOrder b u)
         (λ d k r e f h. order-at limit t b left e f h)
+        w (holds .distinct) is (shown limit t limit limit w (holds .rep)) fuel
+
+    pub snapshot-subtree : snapshotIn limit (columnsOf t) left x ≡ snapshot (subtree x w)
+    snapshot-subtree =
+        at-place limit t x left (λ (u : Tree). snapshotIn limit (columnsOf t) left x ≡ snapshot u)
+        (λ d k r e f h. snapshot-at limit t left e f h)
         w (holds .distinct) is (shown limit t limit limit w (holds .rep)) fuel
 
     pub usage-subtree : usageIn limit t left x ≡ treeUsage (subtree x w)

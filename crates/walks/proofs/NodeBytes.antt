@@ -1,7 +1,7 @@
 -- The bytes of a node, as they are written one after the other, and how many they are; how many numbers a piece has. Assumes nothing.
 use mathlib.Core.Path.{_≡_, refl}
 use mathlib.Core.Bool.{Bool, true, false, cond}
-use mathlib.Core.List.{List, [], _∷_}
+use mathlib.Core.List.{List, [], _∷_, _++_, append-nil}
 use Prim.Native.Nat.{ℕ, suc, _+_, _≤_}
 use native.Mathlib.Numerals.{add-one}
 use native.Mathlib.Omega.{arith}
@@ -9,7 +9,8 @@ use lib.ListN.{length, set}
 use lib.Seq.{sets}
 use Rattle.piece.specs.declared.node.Datum.{Datum}
 use Rattle.tree.specs.Tree.{isPart}
-use Rattle.tree.specs.Snapshot.{kindNo, cutNo, two, four, nodeBytes}
+use Rattle.tree.specs.Snapshot.{two, four, nodeBytes}
+use Rattle.walks.specs.Snapshot.{bytesOf}
 use Rattle.walks.specs.Along.{partNumber}
 
 -- ---- bytes written one by one
@@ -25,24 +26,28 @@ module _ (l : List ℕ) (x : ℕ) where
       rw (add-one x, e₂, e₃) refl
 
   -- a node's: level, kind and cut, and then its three numbers
-  pub node-stored : (d : Datum) (k c : ℕ) (l₁ l₂ l₃ : List ℕ) → k ≡ kindNo (d .kind) → c ≡ cutNo (d .cut)
-      → l₁ ≡ sets (set (set (set l x (d .level)) (x + 1) k) (x + 2) c) (x + 3) (two (d .number) [])
-      → l₂ ≡ sets l₁ (x + 5) (four (d .size .width) [])
-      → l₃ ≡ sets l₂ (x + 9) (four (d .size .height) [])
-      → l₃ ≡ sets l x (nodeBytes d [])
-  unfolding nodeBytes
-  node-stored d k c l₁ l₂ l₃ is-kind is-cut number width height =
+  pub node-stored : (level kind cut number width height : ℕ) (l₁ l₂ l₃ : List ℕ)
+      → l₁ ≡ sets (set (set (set l x level) (x + 1) kind) (x + 2) cut) (x + 3) (two number [])
+      → l₂ ≡ sets l₁ (x + 5) (four width [])
+      → l₃ ≡ sets l₂ (x + 9) (four height [])
+      → l₃ ≡ sets l x (bytesOf level kind cut number width height)
+  node-stored level kind cut number width height l₁ l₂ l₃ e f g =
       let e₂ : x + 2 ≡ suc (suc x) = omega arith in
       let e₃ : x + 3 ≡ suc (suc (suc x)) = omega arith in
       let e₅ : x + 5 ≡ suc (suc (suc (suc (suc x)))) = omega arith in
       let e₉ : x + 9 ≡ suc (suc (suc (suc (suc (suc (suc (suc (suc x)))))))) = omega arith in
-      rw (height, width, number, is-kind, is-cut, add-one x, e₂, e₃, e₅, e₉) refl
+      rw (g, f, e, add-one x, e₂, e₃, e₅, e₉) refl
 
 -- ---- how many there are
 
 pub length-node : (d : Datum) (r : List ℕ) → length (nodeBytes d r) ≡ 13 + length r
 unfolding nodeBytes
 length-node d r = omega arith
+
+-- the bytes of a node before what a walk writes of its children, with nothing after them, and before those of its later siblings
+pub node-before : (d : Datum) (k r : List ℕ) → (nodeBytes d [] ++ (k ++ [])) ++ r ≡ nodeBytes d (k ++ r)
+unfolding nodeBytes
+node-before d k r = rw (append-nil k) refl
 
 number-one : (b : Bool) (v : ℕ) → length (cond b (v ∷ []) []) ≤ 1
 number-one true v = omega arith

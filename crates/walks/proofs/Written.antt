@@ -1,6 +1,6 @@
 -- Writing a list piece by piece into a lent slice, over `sets` of lib.Seq: "written here, the rest unchanged". Assumes nothing.
 use mathlib.Core.Path.{_≡_, refl, sym, ap, _∙_}
-use mathlib.Core.List.{List, _++_}
+use mathlib.Core.List.{List, [], _++_}
 use Prim.Native.Nat.{ℕ, _+_, _≤_}
 use native.Mathlib.Omega.{arith}
 use lib.ListN.{length, length-append}
@@ -37,3 +37,7 @@ module _ {all l₀ l : List ℕ} {k₀ k : ℕ} where
   pub end : (a : List ℕ) {l′ : List ℕ} {k′ : ℕ} → Left all l₀ k₀ a l k → l′ ≡ sets l k a → k′ ≡ k + length a
       → (l′ ≡ sets l₀ k₀ all) × (k′ ≡ k₀ + length all)
   end a e w i = (w ∙ e .writes, i ∙ e .counts)
+
+  -- nothing is left
+  pub done : Left all l₀ k₀ [] l k → (l ≡ sets l₀ k₀ all) × (k ≡ k₀ + length all)
+  done e = (e .writes, omega (arith, e .counts))

@@ -1,5 +1,5 @@
--- What is written of the nodes along an order of places: a snapshot's bytes, and the numbers of parts. Document 01, "Tree snapshot": "13 bytes
--- each"; "Removal": "Part numbers of the subtree come out in tree order"; "What the counter gets": "part numbers held".
+-- What is written of the nodes along an order of places: the numbers of parts. Document 01, "Removal": "Part numbers of the subtree come out in
+-- tree order"; "What the counter gets": "part numbers held".
 -- An order is lent as an array, of which the first entries count. A check does not know how long the list of a lent array is, so `entries`
 -- says something of lists of every length; on a list that is long enough it is `take` (proofs/Entries.antt).
 use mathlib.Core.Path.{_≡_}
@@ -12,7 +12,6 @@ use Rattle.piece.specs.declared.node.Datum.{Datum}
 use Rattle.piece.specs.declared.node.Kind.the-variants.{Part}
 use Rattle.piece.specs.Row.{nil, grow}
 use Rattle.tree.specs.Tree.{Tree, isPart}
-use Rattle.tree.specs.Snapshot.{nodeBytes}
 use Rattle.table.specs.declared.Node.{Node}
 use Rattle.table.specs.Table.{at}
 use Rattle.walks.specs.Order.{gathered}
@@ -30,13 +29,6 @@ below (suc n) = below n ++ (n ∷ [])
 -- the first n entries are places
 abbrev pub Placed : ℕ → ℕ → List ℕ → Type 0
 Placed limit n l = (i : ℕ) → i < n → getD l i 0 < limit
-
--- the bytes of the node at a place, and of those at the places of an order, one after the other
-abbrev pub bytesAt : List Node → ℕ → List ℕ
-bytesAt t p = nodeBytes (at t p .datum) []
-
-abbrev pub bytesAlong : List Node → List ℕ → List ℕ
-bytesAlong t order = gathered (bytesAt t) order
 
 -- the number of a part; another piece has none
 abbrev pub partNumber : Datum → List ℕ

@@ -1,12 +1,52 @@
--- The walks on the columns of a table.
-use mathlib.Core.List.{List}
+-- The columns of a table, and the walks on them.
+use mathlib.Core.List.{List, map}
 use mathlib.Core.Bool.{Bool}
 use Prim.Native.Nat.{ℕ}
 use lib.Ieee.{Float}
+use Rattle.tree.specs.Snapshot.{cutNo}
 use Rattle.table.specs.declared.Node.{Node}
 pub use Rattle.table.specs.Columns.{firstsOf, nextsOf, kindsOf, areasOf}
 use Rattle.walks.specs.Order.{orderOf}
 use Rattle.walks.specs.Usage.{usageOf}
+use Rattle.walks.specs.Snapshot.{bytesAt, snapshotOf}
+use Rattle.walks.specs.declared.columns.Columns.{Columns}
+
+-- what a snapshot writes of a node, beside its kind
+abbrev pub levelOf : Node → ℕ
+levelOf n = n .datum .level
+
+abbrev pub cutOf : Node → ℕ
+cutOf n = cutNo (n .datum .cut)
+
+abbrev pub numberOf : Node → ℕ
+numberOf n = n .datum .number
+
+abbrev pub widthOf : Node → ℕ
+widthOf n = n .datum .size .width
+
+abbrev pub heightOf : Node → ℕ
+heightOf n = n .datum .size .height
+
+-- the columns that it is lent
+abbrev pub columnsOf : List Node → Columns
+columnsOf t =
+    record {
+      first = firstsOf t;
+      next = nextsOf t;
+      level = map levelOf t;
+      kind = kindsOf t;
+      cut = map cutOf t;
+      number = map numberOf t;
+      width = map widthOf t;
+      height = map heightOf t;
+    }
+
+-- the bytes of the node at a place, and of the subtree of x, down to so many nodes
+abbrev pub bytesIn : Columns → ℕ → List ℕ
+bytesIn c = bytesAt (c .level) (c .kind) (c .cut) (c .number) (c .width) (c .height)
+
+abbrev pub snapshotIn : ℕ → Columns → ℕ → ℕ → List ℕ
+snapshotIn limit c left x = snapshotOf limit (c .first) (c .next) (bytesIn c) left x
 
 abbrev pub orderIn : ℕ → Bool → List Node → ℕ → ℕ → List ℕ
 orderIn limit ownFirst t left x = orderOf limit ownFirst (firstsOf t) (nextsOf t) left x

@@ -1,5 +1,7 @@
 pub mod Chain
+pub mod Walk
 pub mod Order
 pub mod Usage
+pub mod Snapshot
 pub mod Columns
 pub mod Along

@@ -6,16 +6,12 @@ use Prim.Native.Nat.{ℕ, zero, suc}
 use lib.ListN.{getD}
 use Rattle.piece.specs.Row.{Row, nil, grow}
 use Rattle.walks.specs.Chain.{siblings}
+pub use Rattle.walks.specs.Walk.{gathered}
 
 -- the own place, if it is the moment for it
 abbrev pub own : Bool → ℕ → List ℕ
 own true x = x ∷ []
 own false x = []
-
--- what g gives of each place, one after the other
-abbrev pub gathered : (ℕ → List ℕ) → List ℕ → List ℕ
-gathered g [] = []
-gathered g (c ∷ l) = g c ++ gathered g l
 
 -- the subtree of x, its own place first or last, down to so many nodes
 unfoldable pub orderOf : ℕ → Bool → (first next : List ℕ) → ℕ → ℕ → List ℕ

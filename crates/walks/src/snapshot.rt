@@ -1,21 +1,20 @@
-// The bytes of the tree snapshot, node by node along an order of places. Rust: `NodeBlueprint` of core/insertion/node_blueprint.rs, which holds
-// a node's values with those of its children; document 01, "Tree snapshot", says the bytes.
-use piece::node::Datum;
+// The bytes of the tree snapshot, down the tree child by child. Rust: `NodeBlueprint` of core/insertion/node_blueprint.rs, which holds a node's
+// values with those of its children, and its `from_node`; document 01, "Tree snapshot", says the bytes.
 use piece::node::Kind;
 use piece::orientation::Orientation;
 use table::LIMIT;
-use table::Node;
+use table::NONE;
 ghost use mathlib.Core.Path.{_≡_};
 ghost use mathlib.Core.List.{[]};
-ghost use Prim.Native.Nat.{_+_, _*_, _≤_};
+ghost use Prim.Native.Nat.{_+_, _≤_, _<_};
 ghost use lib.ListN.{length};
 ghost use lib.Seq.{sets};
-ghost use Rattle.tree.specs.Snapshot.{kindNo, cutNo, two, four, nodeBytes};
+ghost use Rattle.tree.specs.Snapshot.{kindNo, cutNo, two, four};
 ghost use Rattle.lists.specs.Lists.{limit};
-ghost use Rattle.walks.specs.Along.{entries, Placed, bytesAlong};
+ghost use Rattle.walks.specs.Snapshot.{bytesOf, bytesAt, snapshotOf};
 
 // "kind (0 free, 1 part, 2 structure)"
-fn kind_no(kind: Kind) -> u8
+pub fn kind_no(kind: Kind) -> u8
     ensures { λ r. ⌜ r ≡ kindNo kind ⌝ }
 {
     match kind {
@@ -57,34 +56,94 @@ pub fn put_four(v: u32, out: &mut [u8], at: usize)
     out[at + 3] = (v % 256) as u8;
 }
 
-// The 13 bytes of a node.
-pub fn put_node(d: Datum, out: &mut [u8], at: usize)
+// The 13 bytes of a node: "level, kind .., cut .., part number 2, width 4, height 4, highest byte first".
+fn put_node(
+    level: u8,
+    kind: u8,
+    cut: u8,
+    number: u16,
+    width: u32,
+    height: u32,
+    out: &mut [u8],
+    at: usize,
+)
     requires { ⌜ at + 13 ≤ length (now out) ⌝ }
-    ensures { λ _. ⌜ now (out .exit) ≡ sets (now (out .entry)) at (nodeBytes d []) ⌝ }
+    ensures { λ _. ⌜ now (out .exit) ≡ sets (now (out .entry)) at (bytesOf level kind cut number width height) ⌝ }
 {
-    let kind = d.kind;
-    let cut = d.cut;
-    let width = d.size.width;
-    let height = d.size.height;
-    out[at] = d.level;
-    out[at + 1] = kind_no(kind);
-    out[at + 2] = cut_no(cut);
-    put_two(d.number, out, at + 3);
+    out[at] = level;
+    out[at + 1] = kind;
+    out[at + 2] = cut;
+    put_two(number, out, at + 3);
     put_four(width, out, at + 5);
     put_four(height, out, at + 9);
 }
 
-// The nodes at the first `count` places of the order, one after the other from the start of `out`. What is behind them stays.
-pub fn put_nodes(nodes: [Node; LIMIT], order: &[u16; LIMIT], count: usize, out: &mut [u8])
-    requires { ⌜ (count ≤ limit) × (13 * count ≤ length (now out)) × Placed limit count (now order) ⌝ }
-    ensures { λ _. ⌜ now (out .exit) ≡ sets (now (out .entry)) 0 (bytesAlong nodes (entries count (now (order .entry)))) ⌝ }
+// Writes the nodes of the subtree of x into `out`, from `at` on, and gives the index past the last byte: the node's own bytes, and then those of
+// each child's subtree, by calling itself ("each node before its children's subtrees, these in order"). What is behind them stays. `left`, the
+// most nodes that there can be in the subtree, falls from each call to the next, so that the walk ends whatever the links are.
+pub fn put_subtree<'a>(
+    first: &'a [u16; LIMIT],
+    next: &'a [u16; LIMIT],
+    level: &'a [u8; LIMIT],
+    kind: &'a [u8; LIMIT],
+    cut: &'a [u8; LIMIT],
+    number: &'a [u16; LIMIT],
+    width: &'a [u32; LIMIT],
+    height: &'a [u32; LIMIT],
+    x: u16,
+    left: usize,
+    out: &mut [u8],
+    at: usize,
+) -> usize
+    requires { ⌜ (x < limit)
+        × (at + length (snapshotOf limit (now first) (now next)
+        (bytesAt (now level) (now kind) (now cut) (now number) (now width) (now height)) left x) ≤ length (now out)) ⌝ }
+    ensures written { λ r. ⌜ now (out .exit)
+        ≡ sets (now (out .entry)) at (snapshotOf limit (now (first .entry)) (now (next .entry))
+        (bytesAt (now (level .entry)) (now (kind .entry)) (now (cut .entry)) (now (number .entry)) (now (width .entry))
+        (now (height .entry))) left x) ⌝ }
+    ensures counted { λ r. ⌜ r ≡ at + length (snapshotOf limit (now (first .entry)) (now (next .entry))
+        (bytesAt (now (level .entry)) (now (kind .entry)) (now (cut .entry)) (now (number .entry)) (now (width .entry))
+        (now (height .entry))) left x) ⌝ }
 {
-    let mut i: usize = 0;
-    while i < count {
-        let c = order[i];
-        let p = c as usize;
-        let node = nodes[p];
-        put_node(node.datum, out, 13 * i);
-        i += 1;
+    if left == 0 {
+        return at;
     }
+    let i = x as usize;
+    put_node(
+        level[i],
+        kind[i],
+        cut[i],
+        number[i],
+        width[i],
+        height[i],
+        out,
+        at,
+    );
+    let mut k = at + 13;
+    let mut c = first[i];
+    let mut turns = left - 1;
+    while 0 < turns {
+        if NONE <= c {
+            break;
+        }
+        k = put_subtree(
+            first,
+            next,
+            level,
+            kind,
+            cut,
+            number,
+            width,
+            height,
+            c,
+            left - 1,
+            out,
+            k,
+        );
+        let here = c as usize;
+        c = next[here];
+        turns -= 1;
+    }
+    k
 }

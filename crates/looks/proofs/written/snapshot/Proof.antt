@@ -1,15 +1,16 @@
--- `snapshot` meets its contract: refused, too short, or written along the walk from the top, each node before its children's subtrees.
+-- `snapshot` meets its contract: refused, too short, or written down the tree from the top, each node before its children's subtrees.
 use mathlib.Core.Path.{_≡_, sym, ap, _∙_}
 use mathlib.Core.Bool.{true}
 use native.Mathlib.Omega.{arith}
 use borrow.Author.Needs.{needs}
+use lib.ListN.{length}
 use lib.Seq.{sets}
 use Rattle.layout.specs.Check.{soundB}
 use Rattle.layout.specs.SoundLayout.{SoundLayout}
 use Rattle.layout.proofs.Exactly.{sound-says}
 use Rattle.layout.proofs.Typed.{typed-sized}
 use Rattle.looks.specs.Written.{snapshotBytes}
-use Rattle.looks.proofs.Lent.{not-sound, too-short, done, held-room, bytes-length, walk-room, walk-placed, walk-bytes}
+use Rattle.looks.proofs.Lent.{not-sound, too-short, done, held-room, bytes-length, written-is}
 use Rattle.looks.proofs.written.snapshot.Statement.{statement}
 use Rattle.looks.proofs.written.snapshot.Tie as tie
 
@@ -44,31 +45,24 @@ returns-2 c =
 columns-of-requires : tie.Need-columns-of-requires
 columns-of-requires c κs = search needs
 
-slice-aggregate-order-out : tie.Need-slice-aggregate-order-out
-slice-aggregate-order-out c = search needs
+-- the columns are taken, and the lent buffer is long enough
+abbrev columned : tie.After-put-subtree-arg9 → tie.After-columns-of
+columned c = c .before .before .before .before .before .before .before .before .before .before
 
-order-out-requires : tie.Need-order-out-requires
-order-out-requires c κs =
-    let c3 = c .before .before .before .before .before in
-    let c1 = c3 .before .before .before .before in
-    let l = c1 .before .before .before .args .layout in
-    (omega arith, walk-room l (stands c1) (c3 .columns-of .ensures) _)
+abbrev long-enough : tie.After-columns-of → tie.Else2
+long-enough c = c .before .before
 
-put-nodes-requires : tie.Need-put-nodes-requires
-put-nodes-requires c κs =
-    let c4 = c .before .before .before in
-    let c3 = c4 .before .before .before .before .before .before in
-    let c2 = c3 .before .before in
+put-subtree-requires : tie.Need-put-subtree-requires
+put-subtree-requires c κs =
+    let c3 = columned c in
+    let c2 = long-enough c3 in
     let c1 = c2 .before .before in
-    let l = c1 .before .before .before .args .layout in (
-      held-room l (stands c1),
-      omega (arith, c2 .if2 .left),
-      walk-placed l (stands c1) (c3 .columns-of .ensures) _ (c4 .order-out .ensures .0),
-    )
+    let l = c1 .before .before .before .args .layout in
+    (omega arith, omega (arith, ap length (written-is l (stands c1) (c3 .columns-of .ensures)), bytes-length l (stands c1), c2 .if2 .left))
 
 cast-t23 : tie.Need-cast-t23
 cast-t23 c =
-    let c1 = c .before .before .before .before .before .before .before .before .before .before .before .before .before .before .before .before in
+    let c1 = long-enough (columned (c .before .before .before)) .before .before in
     omega (arith, held-room (c1 .before .before .before .args .layout) (stands c1))
 
 same-length : tie.Need-same-length
@@ -76,18 +70,15 @@ same-length c = search needs
 
 returns-3 : tie.Need-returns-3
 returns-3 c =
-    let c5 = c .before .before in
-    let c4 = c5 .before .before .before .before in
-    let c3 = c4 .before .before .before .before .before .before in
-    let c2 = c3 .before .before in
+    let c4 = c .before .before in
+    let c3 = columned (c4 .before) in
+    let c2 = long-enough c3 in
     let c1 = c2 .before .before in
     let a = c1 .before .before .before .args in
     let l = a .layout in
     let n = bytes-length l (stands c1) in
     done l (snapshotBytes l) (a .out .now) (checked c1) (omega (arith, n, c2 .if2 .left)) (omega (arith, n))
-    (c5 .put-nodes .ensures
-    ∙ ap (sets (a .out .now) 0)
-    (walk-bytes l (stands c1) (c3 .columns-of .ensures) (c4 .order-out .ensures .0)))
+    (c4 .put-subtree .ensures .0 ∙ ap (sets (a .out .now) 0) (written-is l (stands c1) (c3 .columns-of .ensures)))
 
 pub snapshot-spec : {M : Type 1} → statement M
 snapshot-spec =
@@ -99,9 +90,7 @@ snapshot-spec =
     mul-bytes
     returns-2
     columns-of-requires
-    slice-aggregate-order-out
-    order-out-requires
-    put-nodes-requires
+    put-subtree-requires
     cast-t23
     same-length
     returns-3)

@@ -11,17 +11,11 @@ use Rattle.walks.proofs.snapshot.put_node.Tie as tie
 slice-write-out : tie.Need-slice-write-out
 slice-write-out c = search needs
 
-kind-no-requires : tie.Need-kind-no-requires
-kind-no-requires c κs = search needs
-
 add-out : tie.Need-add-out
 add-out c = search needs
 
 slice-write-out-2 : tie.Need-slice-write-out-2
 slice-write-out-2 c = simp length-set (omega arith)
-
-cut-no-requires : tie.Need-cut-no-requires
-cut-no-requires c κs = search needs
 
 add-out-2 : tie.Need-add-out-2
 add-out-2 c = search needs
@@ -54,10 +48,8 @@ put-four-requires-2 c κs =
 
 returns : tie.Need-returns
 returns c =
-    let a = c .before .before .before .before .before .before .before .before .before .before .before .before .before .before .before .args in
-    node-stored (a .out .now) (a .at) (a .d) _ _ _ _ _
-    (c .before .before .before .before .before .before .before .before .before .before .before .before .before .kind-no .ensures)
-    (c .before .before .before .before .before .before .before .before .before .before .before .before .cut-no .ensures)
+    let a = c .before .before .before .before .before .before .before .before .before .before .before .before .before .args in
+    node-stored (a .out .now) (a .at) (a .level) (a .kind) (a .cut) (a .number) (a .width) (a .height) _ _ _
     (c .before .before .before .before .before .before .before .before .before .before .put-two .ensures)
     (c .before .before .before .before .before .before .put-four .ensures)
     (c .before .before .put-four2 .ensures)
@@ -70,10 +62,8 @@ put-node-spec =
     tie.close
     (tie.spec
     slice-write-out
-    kind-no-requires
     add-out
     slice-write-out-2
-    cut-no-requires
     add-out-2
     slice-write-out-3
     add-put-two

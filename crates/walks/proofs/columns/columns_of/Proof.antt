@@ -1,0 +1,154 @@
+-- `walks::columns::columns_of` meets its contract: each column is filled as far as the loop has come. Assumes nothing.
+use mathlib.Core.Path.{_≡_, refl}
+use mathlib.Core.List.{List, map}
+use Prim.Native.Nat.{_-_, _≤_, _<_}
+use native.Mathlib.Omega.{arith}
+use lib.ListN.{length}
+use borrow.Author.Needs.{needs}
+use Rattle.lists.specs.Lists.{limit, zeros}
+use Rattle.lists.proofs.Fill.{filled, fill-more, fill-column}
+use Rattle.table.specs.declared.Node.{Node}
+use Rattle.table.specs.Table.{zeroNode}
+use Rattle.table.specs.Columns.{firstOf, nextOf, kindOf}
+use Rattle.walks.specs.Columns.{levelOf, cutOf, numberOf, widthOf, heightOf}
+use Rattle.walks.proofs.columns.columns_of.Statement.{statement}
+use Rattle.walks.proofs.columns.columns_of.Tie as tie
+
+abbrev Inv-loop : tie.InvT-loop
+Inv-loop nodes first₀ next₀ level₀ kind₀ cut₀ number₀ width₀ height₀ i₀ first next level kind cut number width height i =
+    (i ≤ limit)
+    × (first ≡ filled (zeros limit) (map firstOf nodes) i)
+    × (next ≡ filled (zeros limit) (map nextOf nodes) i)
+    × (level ≡ filled (zeros limit) (map levelOf nodes) i)
+    × (kind ≡ filled (zeros limit) (map kindOf nodes) i)
+    × (cut ≡ filled (zeros limit) (map cutOf nodes) i)
+    × (number ≡ filled (zeros limit) (map numberOf nodes) i)
+    × (width ≡ filled (zeros limit) (map widthOf nodes) i)
+    × (height ≡ filled (zeros limit) (map heightOf nodes) i)
+
+abbrev μ-loop : tie.MeasureT-loop
+μ-loop nodes first₀ next₀ level₀ kind₀ cut₀ number₀ width₀ height₀ i₀ first next level kind cut number width height i = limit - i
+
+loop-holds : tie.Need-loop-holds Inv-loop μ-loop
+loop-holds c = (omega arith, refl, refl, refl, refl, refl, refl, refl, refl)
+
+mul-n : tie.Need-mul-n Inv-loop μ-loop
+mul-n c = search needs
+
+array-copy-out-n : tie.Need-array-copy-out-n Inv-loop μ-loop
+array-copy-out-n c = search needs
+
+mul-first : tie.Need-mul-first Inv-loop μ-loop
+mul-first c = search needs
+
+array-write-first : tie.Need-array-write-first Inv-loop μ-loop
+array-write-first c = search needs
+
+mul-next : tie.Need-mul-next Inv-loop μ-loop
+mul-next c = search needs
+
+array-write-next : tie.Need-array-write-next Inv-loop μ-loop
+array-write-next c = search needs
+
+array-write-level : tie.Need-array-write-level Inv-loop μ-loop
+array-write-level c = search needs
+
+kind-no-requires : tie.Need-kind-no-requires Inv-loop μ-loop
+kind-no-requires c κs = search needs
+
+array-write-kind : tie.Need-array-write-kind Inv-loop μ-loop
+array-write-kind c = search needs
+
+cut-no-requires : tie.Need-cut-no-requires Inv-loop μ-loop
+cut-no-requires c κs = search needs
+
+array-write-cut : tie.Need-array-write-cut Inv-loop μ-loop
+array-write-cut c = search needs
+
+mul-number : tie.Need-mul-number Inv-loop μ-loop
+mul-number c = search needs
+
+array-write-number : tie.Need-array-write-number Inv-loop μ-loop
+array-write-number c = search needs
+
+mul-width : tie.Need-mul-width Inv-loop μ-loop
+mul-width c = search needs
+
+array-write-width : tie.Need-array-write-width Inv-loop μ-loop
+array-write-width c = search needs
+
+mul-height : tie.Need-mul-height Inv-loop μ-loop
+mul-height c = search needs
+
+array-write-height : tie.Need-array-write-height Inv-loop μ-loop
+array-write-height c = search needs
+
+add-i : tie.Need-add-i Inv-loop μ-loop
+add-i c = search needs
+
+loop-less : tie.Need-loop-less Inv-loop μ-loop
+loop-less c = search needs
+
+loop-again : tie.Need-loop-again Inv-loop μ-loop
+loop-again c =
+    let l = c .before .before .before .before .before .before .loop in
+    let s = c .before .before .before .before .before .before .before in
+    let t = s .args .t1 in
+    let len : length t ≡ limit = s .good .0 .1 .0 .1 in
+    let h : l .i < limit = omega arith in (
+      omega arith,
+      fill-more firstOf t len zeroNode (zeros limit) (l .first) (l .i) _ (l .inv .1) h refl,
+      fill-more nextOf t len zeroNode (zeros limit) (l .next) (l .i) _ (l .inv .2) h refl,
+      fill-more levelOf t len zeroNode (zeros limit) (l .level) (l .i) _ (l .inv .3) h refl,
+      fill-more kindOf t len zeroNode (zeros limit) (l .kind) (l .i) _ (l .inv .4) h (c .before .kind-no .ensures),
+      fill-more cutOf t len zeroNode (zeros limit) (l .cut) (l .i) _ (l .inv .5) h (c .cut-no .ensures),
+      fill-more numberOf t len zeroNode (zeros limit) (l .number) (l .i) _ (l .inv .6) h refl,
+      fill-more widthOf t len zeroNode (zeros limit) (l .width) (l .i) _ (l .inv .7) h refl,
+      fill-more heightOf t len zeroNode (zeros limit) (l .height) (l .i) _ (l .inv .8) h refl,
+    )
+
+returns : tie.Need-returns Inv-loop μ-loop
+returns c =
+    let l = c .before .loop in
+    let t = c .before .before .args .t1 in
+    let len : length t ≡ limit = c .before .before .good .0 .1 .0 .1 in
+    let h : limit ≤ l .i = omega arith in
+    rw (
+      fill-column firstOf t len (zeros limit) refl (l .first) (l .i) (l .inv .1) h,
+      fill-column nextOf t len (zeros limit) refl (l .next) (l .i) (l .inv .2) h,
+      fill-column levelOf t len (zeros limit) refl (l .level) (l .i) (l .inv .3) h,
+      fill-column kindOf t len (zeros limit) refl (l .kind) (l .i) (l .inv .4) h,
+      fill-column cutOf t len (zeros limit) refl (l .cut) (l .i) (l .inv .5) h,
+      fill-column numberOf t len (zeros limit) refl (l .number) (l .i) (l .inv .6) h,
+      fill-column widthOf t len (zeros limit) refl (l .width) (l .i) (l .inv .7) h,
+      fill-column heightOf t len (zeros limit) refl (l .height) (l .i) (l .inv .8) h,
+    ) refl
+
+pub columns-of-spec : {M : Type 1} → statement M
+columns-of-spec =
+    tie.close
+    (tie.spec
+    Inv-loop
+    μ-loop
+    loop-holds
+    mul-n
+    array-copy-out-n
+    mul-first
+    array-write-first
+    mul-next
+    array-write-next
+    array-write-level
+    kind-no-requires
+    array-write-kind
+    cut-no-requires
+    array-write-cut
+    mul-number
+    array-write-number
+    mul-width
+    array-write-width
+    mul-height
+    array-write-height
+    add-i
+    loop-less
+    loop-again
+    returns)

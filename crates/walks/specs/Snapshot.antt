@@ -1,0 +1,20 @@
+-- The tree snapshot over the columns. Document 01, "Tree snapshot": "each node before its children's subtrees, these in order, 13 bytes each: level,
+-- kind (0 free, 1 part, 2 structure), cut (0 Horizontal, 1 Vertical), part number 2, width 4, height 4, highest byte first".
+use mathlib.Core.List.{List, [], _∷_}
+use Prim.Native.Nat.{ℕ}
+use lib.ListN.{getD}
+use Rattle.tree.specs.Snapshot.{two, four}
+use Rattle.walks.specs.Walk.{nothing, walkOf}
+
+-- the bytes of a node
+abbrev pub bytesOf : (level kind cut number width height : ℕ) → List ℕ
+bytesOf level kind cut number width height = level ∷ kind ∷ cut ∷ two number (four width (four height []))
+
+-- of the node at a place
+abbrev pub bytesAt : (level kind cut number width height : List ℕ) → ℕ → List ℕ
+bytesAt level kind cut number width height x =
+    bytesOf (getD level x 0) (getD kind x 0) (getD cut x 0) (getD number x 0) (getD width x 0) (getD height x 0)
+
+-- of the subtree of x, down to so many nodes, where g gives each node's
+abbrev pub snapshotOf : ℕ → (first next : List ℕ) → (ℕ → List ℕ) → ℕ → ℕ → List ℕ
+snapshotOf limit first next g left x = walkOf limit first next g nothing left x

@@ -1,0 +1,58 @@
+// The columns of a table that the snapshot is lent: a node's two links that it follows, and what it writes of the node.
+ghost use mathlib.Core.Path.{_≡_};
+ghost use Rattle.walks.specs.Columns.{columnsOf};
+use crate::snapshot::cut_no;
+use crate::snapshot::kind_no;
+use table::LIMIT;
+use table::Node;
+
+pub struct Columns {
+    pub first: [u16; LIMIT],
+    pub next: [u16; LIMIT],
+    pub level: [u8; LIMIT],
+    pub kind: [u8; LIMIT],
+    pub cut: [u8; LIMIT],
+    pub number: [u16; LIMIT],
+    pub width: [u32; LIMIT],
+    pub height: [u32; LIMIT],
+}
+
+pub fn columns_of(nodes: [Node; LIMIT]) -> Columns
+    ensures { λ r. ⌜ r ≡ columnsOf nodes ⌝ }
+{
+    let mut first = [0u16; LIMIT];
+    let mut next = [0u16; LIMIT];
+    let mut level = [0u8; LIMIT];
+    let mut kind = [0u8; LIMIT];
+    let mut cut = [0u8; LIMIT];
+    let mut number = [0u16; LIMIT];
+    let mut width = [0u32; LIMIT];
+    let mut height = [0u32; LIMIT];
+    let mut i: usize = 0;
+    while i < LIMIT {
+        let n = nodes[i];
+        let d = n.datum;
+        let size = d.size;
+        let own_kind = d.kind;
+        let own_cut = d.cut;
+        first[i] = n.first;
+        next[i] = n.next;
+        level[i] = d.level;
+        kind[i] = kind_no(own_kind);
+        cut[i] = cut_no(own_cut);
+        number[i] = d.number;
+        width[i] = size.width;
+        height[i] = size.height;
+        i += 1;
+    }
+    Columns {
+        first,
+        next,
+        level,
+        kind,
+        cut,
+        number,
+        width,
+        height,
+    }
+}
