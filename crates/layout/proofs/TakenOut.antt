@@ -108,7 +108,7 @@ module _ (l : Layout) (x : ℕ) (t : Takeable l x) where
         left-count limit (l .stages) (l .sheet) (l .nodes) w (s .sound) (s .holds) x z,
         length-append (leaving (subtree x w)) (freeLastPlace (l .nodes) (at (l .nodes) x .parent)),
         ap length (leaving-is (subtree x w)),
-        length-order false (subtree x w),
+        length-order (subtree x w),
         ap count is,
       )
       in

@@ -11,7 +11,7 @@ use lib.Seq.{sets}
 use borrow.Author.Tests.{eq-eqb, le-leb, lt-leb}
 use Rattle.piece.specs.declared.size.Size.{Size}
 use Rattle.piece.specs.Row.{nil, grow}
-use Rattle.tree.specs.Tree.{Tree, In, count}
+use Rattle.tree.specs.Tree.{Tree, In}
 use Rattle.tree.specs.Sound.{Sound}
 use Rattle.tree.specs.Removal.{subtree}
 use Rattle.tree.specs.Snapshot.{snapshot}

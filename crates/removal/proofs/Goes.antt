@@ -35,7 +35,7 @@ leaving-is (grow p d k r) =
 pub going-is : (t : List Node) (w : Tree) (x : ℕ) → Holds lists.limit t w → In x w → goingOf t x (count w) ≡ going t x w
 unfolding goingOf
 going-is t w x h i =
-    rw (order-subtree lists.limit t w x (count w) h i (le-refl (count w)) false, leaving-is (subtree x w)) refl
+    rw (order-subtree lists.limit t w x (count w) h i (le-refl (count w)), leaving-is (subtree x w)) refl
 
 -- ---- the turns
 

@@ -2,7 +2,7 @@
 -- what `walks` says of what is written from the start of an array on. Assumes nothing.
 use mathlib.Core.Path.{_≡_, refl, sym, ap, _∙_}
 use mathlib.Core.List.{List, [], _∷_, _++_}
-use mathlib.Core.Bool.{Bool, true, false, cond, not}
+use mathlib.Core.Bool.{Bool, true, false, cond}
 use Prim.Native.Nat.{ℕ, zero, suc, _+_, _<_, _≤_}
 use native.Mathlib.Omega.{arith}
 use borrow.Author.Tests.{leb-false}
@@ -17,7 +17,8 @@ use Rattle.lists.proofs.Fill.{sets-append}
 use Rattle.walks.specs.Along.{Placed, entries}
 use Rattle.walks.specs.Chain.{siblings}
 use Rattle.walks.specs.Columns.{orderIn}
-use Rattle.walks.specs.Order.{gathered, orderOf, own}
+use Rattle.walks.specs.Walk.{gathered, walkOf}
+use Rattle.walks.specs.Order.{itself, orderOf}
 use Rattle.walks.proofs.Entries.{written-entries, written-placed}
 use Rattle.sound.specs.declared.columns.Columns.{Columns}
 use Rattle.sound.specs.Columns.{columnsOf}
@@ -53,20 +54,14 @@ module _ (limit : ℕ) where
       go true f u = tt
       go false f u = (f refl, u)
 
-  low-own : (b : Bool) (x : ℕ) → x < limit → Low (own b x)
-  low-own true x h = (h, tt)
-  low-own false x h = tt
-
   -- the walk meets places only
-  low-order : (b : Bool) (first next : List ℕ) (n x : ℕ) → x < limit → Low (orderOf limit b first next n x)
-  unfolding orderOf
-  low-order b first next zero x h = tt
-  low-order b first next (suc n) x h =
-      let g = orderOf limit b first next n in
+  low-order : (first next : List ℕ) (n x : ℕ) → x < limit → Low (orderOf limit first next n x)
+  unfolding walkOf
+  low-order first next zero x h = tt
+  low-order first next (suc n) x h =
+      let g = orderOf limit first next n in
       let l = siblings limit next n (getD first x 0) in
-      low-append (own b x) (gathered g l ++ own (not b) x) (low-own b x h)
-      (low-append (gathered g l) (own (not b) x) (low-gathered g (low-order b first next n) l (low-siblings next n (getD first x 0)))
-      (low-own (not b) x h))
+      low-append (gathered g l) (itself x) (low-gathered g (low-order first next n) l (low-siblings next n (getD first x 0))) (h, tt)
 
   low-free-last : (t : List Node) (q : ℕ) → at t q .last < limit → Low (freeLastPlace t q)
   unfolding freeLastPlace
@@ -80,7 +75,7 @@ module _ (limit : ℕ) where
 
 module _ (t : List Node) (x held : ℕ) where
   abbrev below : List ℕ
-  below = orderIn limit false t held x
+  below = orderIn limit t held x
 
   abbrev end : List ℕ
   end = freeLastPlace t (at t x .parent)
@@ -93,26 +88,26 @@ module _ (t : List Node) (x held : ℕ) where
   unfolding goingOf
   going-placed h l =
       low-placed limit (below ++ end)
-      (low-append limit below end (low-order limit false _ _ held x h) (low-free-last limit t (at t x .parent) l))
+      (low-append limit below end (low-order limit _ _ held x h) (low-free-last limit t (at t x .parent) l))
 
   -- the walk over the columns
-  walk : {c : Columns} → c ≡ columnsOf t → orderOf limit false (c .first) (c .next) held x ≡ below
-  walk columns = ap (λ (c : Columns). orderOf limit false (c .first) (c .next) held x) columns
+  walk : {c : Columns} → c ≡ columnsOf t → orderOf limit (c .first) (c .next) held x ≡ below
+  walk columns = ap (λ (c : Columns). orderOf limit (c .first) (c .next) held x) columns
 
   pub walk-fits : {c : Columns} → c ≡ columnsOf t
-      → length (orderOf limit false (c .first) (c .next) held x) + length end ≡ length (goingOf t x held)
+      → length (orderOf limit (c .first) (c .next) held x) + length end ≡ length (goingOf t x held)
   walk-fits columns = omega (arith, going-length, ap length (walk columns))
 
   -- what the walk writes, and how much that is, where there is room for all that goes
   module _ {c : Columns} (columns : c ≡ columnsOf t) {o : List ℕ} {k : ℕ}
-      (first : o ≡ sets (zeros limit) 0 (orderOf limit false (c .first) (c .next) held x))
-      (k-is : k ≡ 0 + length (orderOf limit false (c .first) (c .next) held x)) (room : length (goingOf t x held) ≤ limit) where
+      (first : o ≡ sets (zeros limit) 0 (orderOf limit (c .first) (c .next) held x))
+      (k-is : k ≡ 0 + length (orderOf limit (c .first) (c .next) held x)) (room : length (goingOf t x held) ≤ limit) where
     fits : length (goingOf t x held) ≤ length (zeros limit)
     fits = omega (arith, length-replicate {A = ℕ} limit 0)
 
     pub end-fits : k + length end ≤ length o
     end-fits =
-        let n = length-sets (zeros limit) 0 (orderOf limit false (c .first) (c .next) held x) in
+        let n = length-sets (zeros limit) 0 (orderOf limit (c .first) (c .next) held x) in
         omega (arith, fits, walk-fits columns, ap length first)
 
     -- and with what comes behind it

@@ -176,7 +176,7 @@ module _ (limit stages : ℕ) (sheet : Size) (t : List Node) (w : Tree) (sound :
         arith,
         length-numbers u,
         parts-most u,
-        length-order false u,
+        length-order u,
         ap length (leaving-is u),
         length-append (leaving u) (freeLastPlace t (at t x .parent)),
         going-most,

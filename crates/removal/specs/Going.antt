@@ -1,6 +1,5 @@
 -- What a removal takes out: "taking a subtree out goes down child by child and ends with its own node"; then the free piece at the end of the row.
 use mathlib.Core.Path.{_≡_}
-use mathlib.Core.Bool.{false}
 use mathlib.Core.List.{List, [], _∷_, _++_}
 use Prim.Native.Nat.{ℕ, _+_, _≤_, _<_}
 use Rattle.piece.specs.Sides.{area}
@@ -17,7 +16,7 @@ use Rattle.removal.specs.declared.going.Going.{Going}
 
 -- the places that go with x, where the layout holds so many nodes
 unfoldable pub goingOf : List Node → ℕ → ℕ → List ℕ
-goingOf t x held = orderIn limit false t held x ++ freeLastPlace t (at t x .parent)
+goingOf t x held = orderIn limit t held x ++ freeLastPlace t (at t x .parent)
 
 -- the places as the code has them
 abbrev pub places : Going → List ℕ

@@ -57,7 +57,7 @@ pub fn going_with(nodes: [Node; LIMIT], x: u16, held: usize) -> Going
     let n = nodes[xi];
     let q = n.parent;
     let mut order = [0u16; LIMIT];
-    let k = order_out(&first, &next, x, held, false, &mut order, 0);
+    let k = order_out(&first, &next, x, held, &mut order, 0);
     let count = put_free_last(nodes, q, &mut order, k);
     Going { order, count }
 }

@@ -10,10 +10,11 @@ use Rattle.table.specs.Table.{at}
 use Rattle.layout.specs.declared.layout.Layout.{Layout}
 use Rattle.layout.specs.Check.{limit, tree}
 use Rattle.layout.specs.SoundLayout.{SoundLayout}
-use Rattle.saw.specs.declared.columns.Columns.{Columns}
+use Rattle.walks.specs.declared.columns.Columns.{Columns}
+use Rattle.walks.specs.Columns.{columnsOf}
 use Rattle.saw.specs.declared.cut.Cut.{Cut}
 use Rattle.saw.specs.Cuts.{cuts, bytesOf}
-use Rattle.saw.specs.Listed.{columnsOf, listedIn}
+use Rattle.saw.specs.Listed.{listedIn}
 use Rattle.saw.specs.Written.{sawBytes}
 use Rattle.saw.proofs.Meaning.{listed-tree}
 use Rattle.saw.proofs.Sawn.{cuts-most}

@@ -28,10 +28,10 @@ use Rattle.tree.proofs.Laying.{laid-sided}
 use Rattle.table.specs.declared.Node.{Node}
 use Rattle.table.specs.Table.{zeroNode, at, head, Rep, Holds}
 use Rattle.lists.proofs.Scan.{clash}
-use Rattle.walks.specs.Columns.{firstsOf, nextsOf, kindsOf}
+use Rattle.walks.specs.Columns.{firstsOf, nextsOf, kindsOf, widthsOf, heightsOf, columnsOf}
 use Rattle.saw.specs.Saw.{side}
 use Rattle.saw.specs.Cuts.{isEmpty, withoutEmpty, leftNo, cutOff, rowCuts, cuts}
-use Rattle.saw.specs.Listed.{widthsOf, heightsOf, columnsOf, sidesIn, restOf, leftIn, cutBefore, listed, listedIn}
+use Rattle.saw.specs.Listed.{sidesIn, restOf, leftIn, cutBefore, listed, listedIn}
 use Rattle.saw.proofs.Fills.{count-kept}
 
 -- the column of the sides that a cut of this way divides

@@ -1,6 +1,6 @@
 -- What the two routines list over the columns of a table, once over the way. `limit`, the number of places, is also the number that says that there
 -- is no such place, as in the table; it is `LIMIT` in the code and a parameter here.
-use mathlib.Core.List.{List, [], _∷_, _++_, map}
+use mathlib.Core.List.{List, [], _∷_, _++_}
 use mathlib.Core.Bool.{cond}
 use Prim.Native.Nat.{ℕ, zero, suc, _+_}
 use lib.Dec.{eqb, leb}
@@ -8,20 +8,8 @@ use lib.ListN.{getD, length}
 use Rattle.piece.specs.declared.orientation.Orientation.{Orientation}
 use Rattle.piece.specs.declared.orientation.Orientation.the-variants.{Horizontal, Vertical}
 use Rattle.piece.specs.Sides.{other}
-use Rattle.table.specs.declared.Node.{Node}
-use Rattle.walks.specs.Columns.{firstsOf, nextsOf, kindsOf}
+use Rattle.walks.specs.declared.columns.Columns.{Columns}
 use Rattle.saw.specs.declared.cut.Cut.{Cut}
-use Rattle.saw.specs.declared.columns.Columns.{Columns}
-
-abbrev pub widthsOf : List Node → List ℕ
-widthsOf t = map (λ (n : Node). n .datum .size .width) t
-
-abbrev pub heightsOf : List Node → List ℕ
-heightsOf t = map (λ (n : Node). n .datum .size .height) t
-
-abbrev pub columnsOf : List Node → Columns
-columnsOf t =
-    record { first = firstsOf t; next = nextsOf t; kind = kindsOf t; width = widthsOf t; height = heightsOf t }
 
 -- the sides that a cut of this way divides
 abbrev pub sidesIn : Orientation → (width height : List ℕ) → List ℕ

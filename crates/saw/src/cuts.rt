@@ -8,7 +8,6 @@ ghost use Rattle.looks.specs.Written.{answerTo, leftIn};
 ghost use Rattle.saw.specs.Cuts.{bytesOf};
 ghost use Rattle.saw.specs.Listed.{listed};
 ghost use Rattle.saw.specs.Written.{sawBytes};
-use crate::columns::columns_of;
 use crate::cut::BYTES;
 use crate::routines::list_horizontal;
 use crate::routines::list_vertical;
@@ -17,6 +16,7 @@ use layout::layout::Layout;
 use looks::replies::CountAnswer;
 use piece::orientation::Orientation;
 use table::LIMIT;
+use walks::columns::columns_of;
 
 // More than the bytes of the longest list: each cut has made one more piece of the sheet.
 pub const ROOM: usize = 9 * LIMIT;

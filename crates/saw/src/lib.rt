@@ -2,7 +2,6 @@
 // `layout` for the record and the check, and on `walks` for how bytes are written. The two routines go down the tree over lent columns, as the
 // other walks do. proofs/Layouts.antt has the law: a simple saw that runs the list on the full sheet ends with exactly these pieces. It rests on
 // proofs/Sawn.antt and Truly.antt, which say it of trees, and that what the list says of kinds is true.
-pub mod columns;
 pub mod cut;
 pub mod cuts;
 pub mod routines;

@@ -5,12 +5,10 @@ use mathlib.Core.Path.{_≡_, refl, sym, ap, _∙_}
 use mathlib.Core.List.{List, [], _∷_, _++_, append-nil}
 use mathlib.Core.Bool.{Bool, true, false, cond}
 use mathlib.Core.Logic.{inl, inr}
-use Prim.Native.Nat.{ℕ, _+_, _*_, _-_, _<_, _≤_}
+use Prim.Native.Nat.{ℕ, _+_, _*_, _<_, _≤_}
 use native.Mathlib.Omega.{arith}
-use native.Mathlib.Decide.{decLt}
 use lib.Dec.{eqb}
-use lib.ListN.{length, getD, length-append, List·getD-append}
-use lib.Seq.{sets, getD-append-add}
+use lib.ListN.{length, length-append}
 use Rattle.piece.specs.declared.size.Size.{Size}
 use Rattle.piece.specs.declared.node.Datum.{Datum}
 use Rattle.piece.specs.declared.node.Kind.{Kind}
@@ -22,12 +20,10 @@ use Rattle.tree.specs.Removal.{numbers, subtree, removed}
 use Rattle.tree.specs.Snapshot.{snapshot}
 use Rattle.table.specs.declared.Node.{Node}
 use Rattle.table.specs.Table.{at, Rep, Holds}
-use Rattle.walks.specs.Order.{preorder, childrenFirst, inOrder}
-use Rattle.walks.specs.Columns.{orderIn}
-use Rattle.walks.specs.Along.{below, entries, Placed, partNumber, numberAt, numbersAlong}
+use Rattle.walks.specs.Order.{preorder, childrenFirst}
+use Rattle.walks.specs.Along.{below, partNumber, numberAt, numbersAlong}
 use Rattle.walks.specs.Along.{occurrences, parts, Each, PartsEnd}
-use Rattle.walks.proofs.Meaning.{length-order, order-subtree, order-room}
-use Rattle.walks.proofs.Entries.{written-entries, written-placed, gathered-append, gathered-last}
+use Rattle.walks.proofs.Entries.{gathered-append, gathered-last}
 use Rattle.walks.proofs.NodeBytes.{length-node}
 use Rattle.walks.proofs.Everywhere.{every-place}
 
@@ -141,37 +137,6 @@ module _ (limit : ℕ) (t : List Node) where
       ∙ rw (gathered-last (numberAt t) (childrenFirst k) p, numbers-last k (e .1) (f .1), numbers-last r (e .2) (f .2), e .0 .1)
       (number-last (d .kind) (d .number) k (numbers r) (f .0))
 
--- ---- the places of the orders
-
--- a list of places: below the limit at each index
-placed-append : (limit : ℕ) (a b : List ℕ) → Placed limit (length a) a → Placed limit (length b) b → Placed limit (length (a ++ b)) (a ++ b)
-placed-append limit a b f g i h = go (decLt i (length a))
-  where
-    go : Dec (i < length a) → getD (a ++ b) i 0 < limit
-    go (yes l) = rw (List·getD-append a b 0 i l) (f i l)
-    go (no l) =
-        let e : length a + (i - length a) ≡ i = omega arith in
-        let past : getD (a ++ b) i 0 ≡ getD b (i - length a) 0 = rw e at (getD-append-add a b (i - length a) 0) in
-        rw past (g (i - length a) (omega (arith, length-append a b)))
-
-placed-none : (limit : ℕ) → Placed limit 0 []
-placed-none limit i h = let none : ⊥ = omega arith in absurd none
-
-placed-one : (limit p : ℕ) → p < limit → Placed limit 1 (p ∷ [])
-placed-one limit p l i h = let e : i ≡ 0 = omega arith in rw e l
-
-module _ (limit : ℕ) (t : List Node) where
-  placed-order : (b : Bool) (r : Tree) → Shown limit t r → Placed limit (length (inOrder b r)) (inOrder b r)
-  placed-order true nil e = placed-none limit
-  placed-order false nil e = placed-none limit
-  placed-order true (grow p d k r) e =
-      placed-append limit (p ∷ []) (preorder k ++ preorder r) (placed-one limit p (e .0 .0))
-      (placed-append limit (preorder k) (preorder r) (placed-order true k (e .1)) (placed-order true r (e .2)))
-  placed-order false (grow p d k r) e =
-      placed-append limit (childrenFirst k ++ (p ∷ [])) (childrenFirst r)
-      (placed-append limit (childrenFirst k) (p ∷ []) (placed-order false k (e .1)) (placed-one limit p (e .0 .0)))
-      (placed-order false r (e .2))
-
 -- ---- how often a number stands in a list
 
 occurrences-append : (v : ℕ) (a b : List ℕ) → occurrences v (a ++ b) ≡ occurrences v a + occurrences v b
@@ -195,42 +160,6 @@ module _ (limit : ℕ) (t : List Node) (w : Tree) (holds : Holds limit t w) wher
   -- of the subtree at any place: what a removal hands out
   pub numbers-removed : (x : ℕ) → PartsEnd w → numbersAlong t (childrenFirst (subtree x w)) ≡ removed x w
   numbers-removed x ends = numbers-last limit t (subtree x w) (each-subtree _ x w tree-shown) (each-subtree _ x w ends)
-
-  -- an order of a subtree, written into an array with room for it: what the functions ask of it, and what they go along
-  module _ (b : Bool) (x : ℕ) (l : List ℕ) (room : count (subtree x w) ≤ length l) where
-    pub order-placed : Placed limit (count (subtree x w)) (sets l 0 (inOrder b (subtree x w)))
-    order-placed =
-        let u = subtree x w in
-        let n = length-order b u in
-        rw (← n)
-        (written-placed l (inOrder b u) {order = sets l 0 (inOrder b u)} {n = length (inOrder b u)} refl (omega arith) (omega arith) limit
-        (placed-order limit t b u (each-subtree _ x w tree-shown)))
-
-    pub order-entries : entries (count (subtree x w)) (sets l 0 (inOrder b (subtree x w))) ≡ inOrder b (subtree x w)
-    order-entries =
-        let u = subtree x w in
-        let n = length-order b u in
-        rw (← n) (written-entries l (inOrder b u) {order = sets l 0 (inOrder b u)} {n = length (inOrder b u)} refl (omega arith) (omega arith))
-
-  -- of what `order_out` leaves in an array with room for it, and of how many places it says that there are: what `put_numbers`
-  -- asks of both, and the places that it goes along
-  module _ (b : Bool) (x left : ℕ) (is : In x w) (fuel : count w ≤ left) (l order : List ℕ) (n : ℕ) (room : count w ≤ length l)
-      (written : order ≡ sets l 0 (orderIn limit b t left x)) (counted : n ≡ 0 + length (orderIn limit b t left x)) where
-    taken : orderIn limit b t left x ≡ inOrder b (subtree x w)
-    taken = order-subtree limit t w x left holds is fuel b
-
-    fits : length (orderIn limit b t left x) ≤ length l
-    fits = omega (arith, order-room limit t w x left holds is fuel b)
-
-    pub out-count : n ≡ count (subtree x w)
-    out-count = omega (arith, ap length taken, length-order b (subtree x w))
-
-    pub out-placed : Placed limit n order
-    out-placed = written-placed l (orderIn limit b t left x) written counted fits limit
-        (rw taken (placed-order limit t b (subtree x w) (each-subtree _ x w tree-shown)))
-
-    pub out-entries : entries n order ≡ inOrder b (subtree x w)
-    out-entries = written-entries l (orderIn limit b t left x) written counted fits ∙ taken
 
   -- along every place: as many numbers as there are parts, and each as often as in the tree
   everywhere-same : (m : List ℕ → ℕ) → m [] ≡ 0 → ((a b : List ℕ) → m (a ++ b) ≡ m a + m b)

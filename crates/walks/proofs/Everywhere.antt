@@ -6,7 +6,8 @@ use Prim.Native.Nat.{ℕ, zero, suc, _+_, _<_}
 use Rattle.piece.specs.Row.{nil, grow}
 use Rattle.tree.specs.Tree.{Tree, In, Distinct}
 use Rattle.table.proofs.Everywhere.{sum, rowSum, everywhere}
-use Rattle.walks.specs.Order.{gathered, preorder}
+use Rattle.walks.specs.Walk.{gathered}
+use Rattle.walks.specs.Order.{preorder}
 use Rattle.walks.specs.Along.{below}
 use Rattle.walks.proofs.Entries.{gathered-append, gathered-last}
 

@@ -1,6 +1,5 @@
 mod Chain
 mod Written
-mod OrderSteps
 mod WalkSteps
 mod UsageSteps
 pub mod Meaning

@@ -1,9 +1,8 @@
--- What the walks give on the columns of a table that holds a tree: document 01's orders, its snapshot and its tree usage. The laws stand at the
--- end. They rest on the steps of the walks (Chain, OrderSteps, WalkSteps, UsageSteps), on what `table` says of a table that holds a row (Rep,
+-- What the walks give on the columns of a table that holds a tree: document 01's order of a removal, its snapshot and its tree usage. The laws
+-- stand at the end. They rest on the steps of the walks (Chain, WalkSteps, UsageSteps), on what `table` says of a table that holds a row (Rep,
 -- Holds), and on what `tree` says of rows. Assumes nothing.
 use mathlib.Core.Path.{_≡_, refl, sym, ap, _∙_, subst}
 use mathlib.Core.List.{List, [], _∷_, _++_, map, append-nil}
-use mathlib.Core.Bool.{Bool, true, false, not}
 use mathlib.Core.Logic.{_⊎_, inl, inr}
 use Prim.Native.Nat.{ℕ, _-_, _^_, _<_, _≤_}
 use native.Mathlib.Nat.{le-refl}
@@ -26,13 +25,12 @@ use Rattle.table.specs.declared.Node.{Node}
 use Rattle.table.specs.Table.{zeroNode, at, head, Rep, Holds}
 use Rattle.walks.specs.Chain.{siblings}
 use Rattle.walks.specs.Walk.{gathered, nothing, walkOf}
-use Rattle.walks.specs.Order.{own, preorder, childrenFirst, inOrder}
+use Rattle.walks.specs.Order.{itself, childrenFirst}
 use Rattle.walks.specs.Usage.{Small, weight, summed, usageOf}
 use Rattle.table.specs.Columns.{kindOf}
 use Rattle.walks.specs.Columns.{firstsOf, nextsOf, kindsOf, areasOf, levelOf, cutOf, numberOf, widthOf, heightOf, columnsOf}
 use Rattle.walks.specs.Columns.{bytesIn, orderIn, snapshotIn, usageIn}
 use Rattle.walks.proofs.Chain.{siblings-over, siblings-more}
-use Rattle.walks.proofs.OrderSteps.{order-more}
 use Rattle.walks.proofs.WalkSteps.{walk-more}
 use Rattle.walks.proofs.NodeBytes.{node-before}
 use Rattle.walks.proofs.UsageSteps.{sum, usage-free, usage-part, usage-more}
@@ -42,29 +40,13 @@ abbrev tops : {A : Type 0} → Row A → List ℕ
 tops nil = []
 tops (grow p d k r) = p ∷ tops r
 
--- either order has each node once
-pub length-order : {A : Type 0} (b : Bool) (r : Row A) → length (inOrder b r) ≡ count r
-length-order true nil = refl
-length-order false nil = refl
-length-order true (grow p d k r) =
-    let hk = length-order true k in
-    let hr = length-order true r in
-    omega (arith, length-append (preorder k) (preorder r))
-length-order false (grow p d k r) =
-    let hk = length-order false k in
-    let hr = length-order false r in
+-- the order has each node once
+pub length-order : {A : Type 0} (r : Row A) → length (childrenFirst r) ≡ count r
+length-order nil = refl
+length-order (grow p d k r) =
+    let hk = length-order k in
+    let hr = length-order r in
     omega (arith, length-append (childrenFirst k ++ (p ∷ [])) (childrenFirst r), length-append (childrenFirst k) (p ∷ []))
-
--- a piece by itself: its place around those of its children
-alone : {A : Type 0} (b : Bool) (p : ℕ) (d : A) (k : Row A)
-    → own b p ++ (inOrder b k ++ own (not b) p) ≡ inOrder b (grow p d k nil)
-alone true p d k = refl
-alone false p d k = sym (append-nil (childrenFirst k ++ (p ∷ [])))
-
--- and before its later siblings
-joined : {A : Type 0} (b : Bool) (p : ℕ) (d : A) (k r : Row A) → inOrder b (grow p d k nil) ++ inOrder b r ≡ inOrder b (grow p d k r)
-joined true p d k r = ap (λ (z : List ℕ). p ∷ (z ++ preorder r)) (append-nil (preorder k))
-joined false p d k r = ap (λ (z : List ℕ). z ++ childrenFirst r) (append-nil (childrenFirst k ++ (p ∷ [])))
 
 -- what the walks read of a piece in the columns of the table
 record Piece (limit : ℕ) (t : List Node) (p : ℕ) (d : Datum) (k r : Tree) : Type 0 where
@@ -159,26 +141,6 @@ module _ (limit : ℕ) (t : List Node) where
         ∙ ap (λ (l : List ℕ). (before p ++ (W k ++ after p)) ++ l) (sym none)
         ∙ more p d k nil (e .bytes)
 
-  -- the order of a piece, from that of its children
-  order-of : (b : Bool) {p : ℕ} {d : Datum} {k r : Tree} (n : ℕ) → Piece limit t p d k r → Shown limit t k → count k < n
-      → gathered (orderIn limit b t (n - 1)) (tops k) ≡ inOrder b k
-      → orderIn limit b t n p ≡ inOrder b (grow p d k nil)
-  order-of b {p = p} {d = d} {k = k} n e f h g =
-      order-more limit b (firstsOf t) (nextsOf t) n p (λ z. omega arith)
-      ∙ ap (λ (l : List ℕ). own b p ++ (gathered (orderIn limit b t (n - 1)) l ++ own (not b) p)) (children (n - 1) e f (omega arith))
-      ∙ ap (λ (l : List ℕ). own b p ++ (l ++ own (not b) p)) g
-      ∙ alone b p d k
-
-  -- the orders of the pieces of a row
-  order-row : (b : Bool) (r : Tree) (n : ℕ) → Shown limit t r → count r ≤ n → gathered (orderIn limit b t n) (tops r) ≡ inOrder b r
-  order-row true nil n e h = refl
-  order-row false nil n e h = refl
-  order-row b (grow p d k r) n e h =
-      ap (λ (l : List ℕ). l ++ gathered (orderIn limit b t n) (tops r))
-      (order-of b n (e .0) (e .1) (omega arith) (order-row b k (n - 1) (e .1) (omega arith)))
-      ∙ ap (λ (l : List ℕ). inOrder b (grow p d k nil) ++ l) (order-row b r n (e .2) (omega arith))
-      ∙ joined b p d k r
-
   -- the usage of a place by its kind, from its area and its children's sum
   by-kind : (n p : ℕ) (c : Kind) (a : ℕ) (s : Float) → (n ≡ 0 → ⊥) → getD (kindsOf t) p 0 ≡ kindNo c → getD (areasOf t) p 0 ≡ a
       → sum limit (firstsOf t) (nextsOf t) (kindsOf t) (areasOf t) n (n - 1) (getD (firstsOf t) p 0) nought ≡ s
@@ -217,9 +179,9 @@ module _ (limit : ℕ) (t : List Node) where
       ∙ usage-row r n (e .2) (omega arith) _
 
   -- the walks at a piece
-  order-at : (b : Bool) {p : ℕ} {d : Datum} {k r : Tree} (n : ℕ) → Piece limit t p d k r → Shown limit t k → count k < n
-      → orderIn limit b t n p ≡ inOrder b (grow p d k nil)
-  order-at b {k = k} n e f h = order-of b n e f h (order-row b k (n - 1) f (omega arith))
+  order-at : {p : ℕ} {d : Datum} {k r : Tree} (n : ℕ) → Piece limit t p d k r → Shown limit t k → count k < n
+      → orderIn limit t n p ≡ childrenFirst (grow p d k nil)
+  order-at n e f h = walk-at nothing itself childrenFirst refl (λ p d k r b. refl) n e f h
 
   snapshot-at : {p : ℕ} {d : Datum} {k r : Tree} (n : ℕ) → Piece limit t p d k r → Shown limit t k → count k < n
       → snapshotIn limit (columnsOf t) n p ≡ snapshot (grow p d k nil)
@@ -260,58 +222,32 @@ module _ (limit : ℕ) (t : List Node) (x n : ℕ) (P : Tree → Type 0)
       (λ y. at-place k (ds .3) y (e .1) (omega arith))
       (λ y. at-place r (ds .4) y (e .2) (omega arith))
 
--- The laws. `left` is the fuel: the count of nodes held is enough. `b` says whether the own place comes first (`preorder`, for a snapshot) or
--- last (`childrenFirst`, for a removal).
+-- The laws. `left` is the fuel: the count of nodes held is enough.
 module _ (limit : ℕ) (t : List Node) where
-  -- of a piece in any row that the table holds
-  pub order-piece : (b : Bool) (q pv x : ℕ) (d : Datum) (k r : Tree) (left : ℕ) → Rep limit t q pv (grow x d k r) → count k < left
-      → orderIn limit b t left x ≡ inOrder b (grow x d k nil)
-  order-piece b q pv x d k r left e h =
-      let s = shown limit t q pv (grow x d k r) e in
-      order-at limit t b left (s .0) (s .1) h
-
-  pub usage-piece : (q pv x : ℕ) (d : Datum) (k r : Tree) (left : ℕ) → Rep limit t q pv (grow x d k r) → count k < left
-      → usageIn limit t left x ≡ treeUsage (grow x d k nil)
-  usage-piece q pv x d k r left e h =
-      let s = shown limit t q pv (grow x d k r) e in
-      usage-at limit t left (s .0) (s .1) h
-
   -- of the top of the tree that the table holds
-  pub order-top : (b : Bool) (p : ℕ) (d : Datum) (k : Tree) (left : ℕ) → Holds limit t (grow p d k nil) → count (grow p d k nil) ≤ left
-      → orderIn limit b t left p ≡ inOrder b (grow p d k nil)
-  order-top b p d k left w h = order-piece b limit limit p d k nil left (w .rep) (omega arith)
-
   pub usage-top : (p : ℕ) (d : Datum) (k : Tree) (left : ℕ) → Holds limit t (grow p d k nil) → count (grow p d k nil) ≤ left
       → usageIn limit t left p ≡ treeUsage (grow p d k nil)
-  usage-top p d k left w h = usage-piece limit limit p d k nil left (w .rep) (omega arith)
+  usage-top p d k left w h =
+      let s = shown limit t limit limit (grow p d k nil) (w .rep) in
+      usage-at limit t left (s .0) (s .1) (omega arith)
 
   -- of any place of the tree that the table holds
   module _ (w : Tree) (x left : ℕ) (holds : Holds limit t w) (is : In x w) (fuel : count w ≤ left) where
-    pub order-subtree : (b : Bool) → orderIn limit b t left x ≡ inOrder b (subtree x w)
-    order-subtree b =
-        at-place limit t x left (λ (u : Tree). orderIn limit b t left x ≡ inOrder b u)
-        (λ d k r e f h. order-at limit t b left e f h)
-        w (holds .distinct) is (shown limit t limit limit w (holds .rep)) fuel
+    subtree-by : (P : Tree → Type 0)
+        → ((d : Datum) (k r : Tree) → Piece limit t x d k r → Shown limit t k → count k < left → P (grow x d k nil)) → P (subtree x w)
+    subtree-by P each = at-place limit t x left P each w (holds .distinct) is (shown limit t limit limit w (holds .rep)) fuel
+
+    pub order-subtree : orderIn limit t left x ≡ childrenFirst (subtree x w)
+    order-subtree =
+        subtree-by (λ (u : Tree). orderIn limit t left x ≡ childrenFirst u) (λ d k r e f h. order-at limit t left e f h)
 
     pub snapshot-subtree : snapshotIn limit (columnsOf t) left x ≡ snapshot (subtree x w)
     snapshot-subtree =
-        at-place limit t x left (λ (u : Tree). snapshotIn limit (columnsOf t) left x ≡ snapshot u)
-        (λ d k r e f h. snapshot-at limit t left e f h)
-        w (holds .distinct) is (shown limit t limit limit w (holds .rep)) fuel
+        subtree-by (λ (u : Tree). snapshotIn limit (columnsOf t) left x ≡ snapshot u) (λ d k r e f h. snapshot-at limit t left e f h)
 
     pub usage-subtree : usageIn limit t left x ≡ treeUsage (subtree x w)
     usage-subtree =
-        at-place limit t x left (λ (u : Tree). usageIn limit t left x ≡ treeUsage u)
-        (λ d k r e f h. usage-at limit t left e f h)
-        w (holds .distinct) is (shown limit t limit limit w (holds .rep)) fuel
-
-    -- the room that an order takes
-    pub order-room : (b : Bool) → length (orderIn limit b t left x) ≤ count w
-    order-room b =
-        rw (order-subtree b, length-order b)
-        (at-place limit t x (count w) (λ (u : Tree). count u ≤ count w)
-        (λ d k r e f h. omega arith)
-        w (holds .distinct) is (shown limit t limit limit w (holds .rep)) (le-refl (count w)))
+        subtree-by (λ (u : Tree). usageIn limit t left x ≡ treeUsage u) (λ d k r e f h. usage-at limit t left e f h)
 
   -- what `usage_of` asks of the areas
   pub small : ((i : ℕ) → area (at t i .datum .size) < 2 ^ 52) → Small (areasOf t)

@@ -14,7 +14,7 @@ use Rattle.piece.specs.Row.{nil, grow}
 use Rattle.tree.specs.Tree.{Tree, isPart}
 use Rattle.table.specs.declared.Node.{Node}
 use Rattle.table.specs.Table.{at}
-use Rattle.walks.specs.Order.{gathered}
+use Rattle.walks.specs.Walk.{gathered}
 
 -- the first n entries of a list, where 0 stands for what is not there
 unfoldable pub entries : ℕ → List ℕ → List ℕ

@@ -1,6 +1,5 @@
 -- The columns of a table, and the walks on them.
 use mathlib.Core.List.{List, map}
-use mathlib.Core.Bool.{Bool}
 use Prim.Native.Nat.{ℕ}
 use lib.Ieee.{Float}
 use Rattle.tree.specs.Snapshot.{cutNo}
@@ -27,7 +26,13 @@ widthOf n = n .datum .size .width
 abbrev pub heightOf : Node → ℕ
 heightOf n = n .datum .size .height
 
--- the columns that it is lent
+abbrev pub widthsOf : List Node → List ℕ
+widthsOf t = map widthOf t
+
+abbrev pub heightsOf : List Node → List ℕ
+heightsOf t = map heightOf t
+
+-- the columns, together
 abbrev pub columnsOf : List Node → Columns
 columnsOf t =
     record {
@@ -37,8 +42,8 @@ columnsOf t =
       kind = kindsOf t;
       cut = map cutOf t;
       number = map numberOf t;
-      width = map widthOf t;
-      height = map heightOf t;
+      width = widthsOf t;
+      height = heightsOf t;
     }
 
 -- the bytes of the node at a place, and of the subtree of x, down to so many nodes
@@ -48,8 +53,8 @@ bytesIn c = bytesAt (c .level) (c .kind) (c .cut) (c .number) (c .width) (c .hei
 abbrev pub snapshotIn : ℕ → Columns → ℕ → ℕ → List ℕ
 snapshotIn limit c left x = snapshotOf limit (c .first) (c .next) (bytesIn c) left x
 
-abbrev pub orderIn : ℕ → Bool → List Node → ℕ → ℕ → List ℕ
-orderIn limit ownFirst t left x = orderOf limit ownFirst (firstsOf t) (nextsOf t) left x
+abbrev pub orderIn : ℕ → List Node → ℕ → ℕ → List ℕ
+orderIn limit t left x = orderOf limit (firstsOf t) (nextsOf t) left x
 
 abbrev pub usageIn : ℕ → List Node → ℕ → ℕ → Float
 usageIn limit t left x = usageOf limit (firstsOf t) (nextsOf t) (kindsOf t) (areasOf t) left x

@@ -1,4 +1,5 @@
-// The columns of a table that the snapshot is lent: a node's two links that it follows, and what it writes of the node.
+// The columns of a table that a walk down the tree is lent: the two links that it follows, and what a snapshot says of a node. They are taken out of the
+// nodes once.
 ghost use mathlib.Core.Path.{_≡_};
 ghost use Rattle.walks.specs.Columns.{columnsOf};
 use crate::snapshot::cut_no;

@@ -13,7 +13,7 @@ use Rattle.layout.specs.SoundLayout.{SoundLayout}
 use Rattle.layout.proofs.Exactly.{sound-says}
 use Rattle.layout.proofs.Typed.{typed-sized}
 use Rattle.looks.proofs.Lent.{not-sound, too-short, done}
-use Rattle.saw.specs.declared.columns.Columns.{Columns}
+use Rattle.walks.specs.declared.columns.Columns.{Columns}
 use Rattle.saw.specs.Cuts.{bytesOf}
 use Rattle.saw.specs.Written.{sawBytes}
 use Rattle.saw.proofs.Call.{cutsIn, saw-room, saw-length, saw-stored}

@@ -1,13 +1,12 @@
 -- `walks::columns::columns_of` meets its contract: each column is filled as far as the loop has come. Assumes nothing.
 use mathlib.Core.Path.{_≡_, refl}
-use mathlib.Core.List.{List, map}
+use mathlib.Core.List.{map}
 use Prim.Native.Nat.{_-_, _≤_, _<_}
 use native.Mathlib.Omega.{arith}
 use lib.ListN.{length}
 use borrow.Author.Needs.{needs}
 use Rattle.lists.specs.Lists.{limit, zeros}
 use Rattle.lists.proofs.Fill.{filled, fill-more, fill-column}
-use Rattle.table.specs.declared.Node.{Node}
 use Rattle.table.specs.Table.{zeroNode}
 use Rattle.table.specs.Columns.{firstOf, nextOf, kindOf}
 use Rattle.walks.specs.Columns.{levelOf, cutOf, numberOf, widthOf, heightOf}

@@ -1,24 +1,24 @@
 -- `walks::order::order_out` meets its contract. The loop's invariant: what is still to be written (`Left`). Its measure is the turns that are
 -- left; the recursion's is `left`. Assumes nothing.
-use mathlib.Core.Path.{sym, ap, _∙_}
+use mathlib.Core.Path.{refl, sym, ap, _∙_}
 use mathlib.Core.Logic.{⊎-elim}
-use mathlib.Core.Bool.{not}
-use native.Mathlib.Omega.{arith}
-use borrow.Author.Needs.{needs}
+use mathlib.Core.List.{List, _++_}
 use Prim.Native.Nat.{ℕ, _-_, _<_}
+use native.Mathlib.Omega.{arith}
 use lib.ListN.{length, getD}
 use lib.Seq.{sets, length-sets}
-use Rattle.lists.specs.Lists.{limit}
-use Rattle.walks.specs.Order.{own, orderOf}
-use Rattle.walks.proofs.Chain.{siblings-over, siblings-zero}
-use Rattle.walks.proofs.Written.{Left, begin, piece, piece-room, end}
-use Rattle.walks.proofs.OrderSteps.{yet, below, order-none, start, turn, over}
+use borrow.Author.Needs.{needs}
 use borrow.Fn.Kinds.{In}
 use borrow.Fn.PlainCycle.{Measures, is, falls, and}
+use Rattle.lists.specs.Lists.{limit}
+use Rattle.walks.specs.Walk.{nothing}
+use Rattle.walks.specs.Order.{itself, orderOf}
+use Rattle.walks.proofs.Chain.{siblings-over, siblings-zero}
+use Rattle.walks.proofs.Written.{Left, piece, piece-room, end}
+use Rattle.walks.proofs.WalkSteps.{yet, walk-none, start, turn, over}
 use Rattle.walks.proofs.order.order_out.Reads as order-out
 use Rattle.walks.proofs.order.order_out.Kinds as order-out-kinds
-use Rattle.walks.proofs.order.+order_out.Lts-order_out as order-out-lts
-use Rattle.walks.proofs.order.put_own.Reads as put-own-reads
+use Rattle.walks.proofs.order.+order_out.Lts-order_out as lts
 use Rattle.walks.proofs.order.+order_out.{statement}
 use Rattle.walks.proofs.order.+order_out.Tie.{close}
 
@@ -32,253 +32,160 @@ abbrev order-out-below : ℕ → In 2 order-out-kinds.ps
 order-out-below t =
     and 2 order-out-kinds.ps (falls 2 order-out-kinds.ps _<_ μ-order-out t) order-out.Pre
 
-abbrev order-out-Inv-loop : order-out-lts.InvT-loop
-order-out-Inv-loop first next x left own-first order₀ n k₀ at c₀ turns₀ order k c turns =
-    Left (below limit own-first first next left x) order₀ k₀ (yet limit own-first first next left x turns c) order k
+abbrev Inv-loop : lts.InvT-loop
+Inv-loop first next x left order₀ n at k₀ c₀ turns₀ order k c turns =
+    Left (orderOf limit first next left x) order₀ n (yet limit first next nothing itself left x turns c) order k
 
-abbrev order-out-μ-loop : order-out-lts.MeasureT-loop
-order-out-μ-loop first next x left own-first order₀ n k₀ at c₀ turns₀ order k c turns = turns
+abbrev μ-loop : lts.MeasureT-loop
+μ-loop first next x left order₀ n at k₀ c₀ turns₀ order k c turns = turns
 
-order-out-returns : (t : ℕ) → order-out-lts.Need-returns (
-  put-own-reads.Asked,
-  put-own-reads.Learnt,
-  order-out-below t,
-  order-out.Post,
-) (order-out-at t) order-out.Post order-out-Inv-loop order-out-μ-loop
-order-out-returns t c =
-    let a = c .before .before .args in
-    let e = order-none limit (a .own-first) (a .first .now) (a .next .now) (a .left) (a .x) (c .if1 .taken) in
-    (ap (sets (a .order .now) (a .n)) (sym e), omega (arith, ap length e))
+-- what a call of itself asks and gives
+abbrev calls : ℕ → lts.Claims
+calls t = (order-out-below t, order-out.Post)
 
-order-out-put-own-requires : (t : ℕ) → order-out-lts.Need-put-own-requires (
-  put-own-reads.Asked,
-  put-own-reads.Learnt,
-  order-out-below t,
-  order-out.Post,
-) (order-out-at t) order-out.Post order-out-Inv-loop order-out-μ-loop
-order-out-put-own-requires t c κs =
-    let s = c .before .before .before in
-    let a = s .args in
-    let f = a .first .now in
-    let g = a .next .now in
-    piece-room (own (a .own-first) (a .x)) (below limit (a .own-first) f g (a .left) (a .x))
-    (start limit (a .own-first) f g (a .left) (a .x) (a .n) (a .order .now) (c .before .if1 .left) (s .pre .1 .1))
+module _ (t : ℕ) where
+  -- the places of the proof: the start and the loop
+  abbrev Start : Type 0
+  Start = lts.Start (calls t) (order-out-at t) order-out.Post Inv-loop μ-loop
 
-order-out-mul-c : (t : ℕ) → order-out-lts.Need-mul-c (
-  put-own-reads.Asked,
-  put-own-reads.Learnt,
-  order-out-below t,
-  order-out.Post,
-) (order-out-at t) order-out.Post order-out-Inv-loop order-out-μ-loop
-order-out-mul-c t c = search needs
+  abbrev Loop : Type 0
+  Loop = lts.At-loop (calls t) (order-out-at t) order-out.Post Inv-loop μ-loop
 
-order-out-element-copy-out-c : (t : ℕ) → order-out-lts.Need-element-copy-out-c (
-  put-own-reads.Asked,
-  put-own-reads.Learnt,
-  order-out-below t,
-  order-out.Post,
-) (order-out-at t) order-out.Post order-out-Inv-loop order-out-μ-loop
-order-out-element-copy-out-c t c = search needs
+  abbrev entry : Loop → Start
+  entry l = l .before .before .before .before
 
-order-out-sub-turns : (t : ℕ) → order-out-lts.Need-sub-turns (
-  put-own-reads.Asked,
-  put-own-reads.Learnt,
-  order-out-below t,
-  order-out.Post,
-) (order-out-at t) order-out.Post order-out-Inv-loop order-out-μ-loop
-order-out-sub-turns t c = search needs
+  -- all that is to be written
+  abbrev all : Start → List ℕ
+  all s = orderOf limit (s .args .first .now) (s .args .next .now) (s .args .left) (s .args .x)
 
--- the own place is written, if it comes first
-entered :
-    (t : ℕ)
-    (c : order-out-lts.After-put-own (put-own-reads.Asked, put-own-reads.Learnt, order-out-below t, order-out.Post)
-    (order-out-at t) order-out.Post order-out-Inv-loop order-out-μ-loop)
-    → let a = c .before .before .before .before .args in
-    Left (orderOf limit (a .own-first) (a .first .now) (a .next .now) (a .left) (a .x)) (a .order .now) (a .n)
-    (below limit (a .own-first) (a .first .now) (a .next .now) (a .left) (a .x))
-    (c .put-own .last .1 .1 .0)
-    (c .put-own .result)
-entered t c =
-    let s = c .before .before .before .before in
-    let a = s .args in
-    let f = a .first .now in
-    let g = a .next .now in
-    piece (own (a .own-first) (a .x)) (below limit (a .own-first) f g (a .left) (a .x))
-    (start limit (a .own-first) f g (a .left) (a .x) (a .n) (a .order .now) (c .before .before .if1 .left) (s .pre .1 .1))
-    (c .put-own .ensures .0) (c .put-own .ensures .1)
+  -- a turn writes the subtree of the child c
+  turned :
+      (c : lts.Else2 (calls t) (order-out-at t) order-out.Post Inv-loop μ-loop)
+      → let l = c .before .before in
+      let a = entry l .args in
+      Left (all (entry l)) (a .order .now) (a .n)
+      (orderOf limit (a .first .now) (a .next .now) (a .left - 1) (l .loop .c)
+      ++ yet limit (a .first .now) (a .next .now) nothing itself (a .left) (a .x) (l .loop .turns - 1) (getD (a .next .now) (l .loop .c) 0))
+      (l .loop .order) (l .loop .k)
+  turned c =
+      let l = c .before .before in
+      let a = entry l .args in
+      turn limit (a .first .now) (a .next .now) nothing itself (a .left) (a .x) (l .loop .turns) (l .loop .c)
+      (c .before .loop-test .taken) (c .if2 .left) (l .loop .inv)
 
-order-out-loop-holds : (t : ℕ) → order-out-lts.Need-loop-holds (
-  put-own-reads.Asked,
-  put-own-reads.Learnt,
-  order-out-below t,
-  order-out.Post,
-) (order-out-at t) order-out.Post order-out-Inv-loop order-out-μ-loop
-order-out-loop-holds t c = begin (entered t (c .before .before .before) .room)
+  -- after the last child the own place is left
+  last-own :
+      (c : lts.Left-loop (calls t) (order-out-at t) order-out.Post Inv-loop μ-loop)
+      → let l = c .before in
+      let a = entry l .args in
+      Left (all (entry l)) (a .order .now) (a .n) (itself (a .x)) (l .loop .order) (l .loop .k)
+  last-own c =
+      let l = c .before in
+      let a = entry l .args in
+      let g = a .next .now in
+      over limit (a .first .now) g nothing itself (a .left) (a .x) (l .loop .turns) (l .loop .c)
+      (⊎-elim (λ w. siblings-zero limit g (l .loop .c) (l .loop .turns) (w .left))
+      (λ w. siblings-over limit g (l .loop .c) (l .loop .turns) (w .1 .taken)) (c .loop-test .came))
+      (l .loop .inv)
 
-order-out-sub-order-out : (t : ℕ) → order-out-lts.Need-sub-order-out (
-  put-own-reads.Asked,
-  put-own-reads.Learnt,
-  order-out-below t,
-  order-out.Post,
-) (order-out-at t) order-out.Post order-out-Inv-loop order-out-μ-loop
-order-out-sub-order-out t c = search needs
+  returns : lts.Need-returns (calls t) (order-out-at t) order-out.Post Inv-loop μ-loop
+  returns c =
+      let s = c .before .before in
+      let a = s .args in
+      let e = walk-none limit (a .first .now) (a .next .now) nothing itself (a .left) (a .x) (c .if1 .taken) in
+      (ap (sets (a .order .now) (a .n)) (sym e), omega (arith, ap length e))
 
-order-out-order-out-requires : (t : ℕ) → order-out-lts.Need-order-out-requires (
-  put-own-reads.Asked,
-  put-own-reads.Learnt,
-  order-out-below t,
-  order-out.Post,
-) (order-out-at t) order-out.Post order-out-Inv-loop order-out-μ-loop
-order-out-order-out-requires t c κs =
-    let s = c .before .before .before .before .before .before .before .before .before .before .before in
-    let a = s .args in
-    let f = a .first .now in
-    let g = a .next .now in
-    let l = c .before .before .before .loop in (
-      omega (arith, s .pre .0, c .before .before .before .before .before .before .before .before .before .if1 .left),
-      (
-        c .before .if2 .left,
-        piece-room (orderOf limit (a .own-first) f g (a .left - 1) (l .c))
-            (yet limit (a .own-first) f g (a .left) (a .x) (l .turns - 1) (getD g (l .c) 0))
-            (turn limit (a .own-first) f g (a .left) (a .x) (l .turns) (l .c) (c .before .before .loop-test .taken) (c .before .if2 .left) (l .inv)),
-      ),
-    )
+  mul-c : lts.Need-mul-c (calls t) (order-out-at t) order-out.Post Inv-loop μ-loop
+  mul-c c = search needs
 
-order-out-cast-here : (t : ℕ) → order-out-lts.Need-cast-here (
-  put-own-reads.Asked,
-  put-own-reads.Learnt,
-  order-out-below t,
-  order-out.Post,
-) (order-out-at t) order-out.Post order-out-Inv-loop order-out-μ-loop
-order-out-cast-here t c = search needs
+  element-copy-out-c : lts.Need-element-copy-out-c (calls t) (order-out-at t) order-out.Post Inv-loop μ-loop
+  element-copy-out-c c = search needs
 
-order-out-mul-c-2 : (t : ℕ) → order-out-lts.Need-mul-c-2 (
-  put-own-reads.Asked,
-  put-own-reads.Learnt,
-  order-out-below t,
-  order-out.Post,
-) (order-out-at t) order-out.Post order-out-Inv-loop order-out-μ-loop
-order-out-mul-c-2 t c = search needs
+  sub-turns : lts.Need-sub-turns (calls t) (order-out-at t) order-out.Post Inv-loop μ-loop
+  sub-turns c = search needs
 
-order-out-element-copy-out-c-2 : (t : ℕ) → order-out-lts.Need-element-copy-out-c-2 (
-  put-own-reads.Asked,
-  put-own-reads.Learnt,
-  order-out-below t,
-  order-out.Post,
-) (order-out-at t) order-out.Post order-out-Inv-loop order-out-μ-loop
-order-out-element-copy-out-c-2 t c = search needs
+  loop-holds : lts.Need-loop-holds (calls t) (order-out-at t) order-out.Post Inv-loop μ-loop
+  loop-holds c =
+      let s = c .before .before .before in
+      let a = s .args in
+      start limit (a .first .now) (a .next .now) nothing itself (a .left) (a .x) (a .n) (a .order .now) (c .before .if1 .left) (s .pre .1 .1)
 
-order-out-sub-turns-2 : (t : ℕ) → order-out-lts.Need-sub-turns-2 (
-  put-own-reads.Asked,
-  put-own-reads.Learnt,
-  order-out-below t,
-  order-out.Post,
-) (order-out-at t) order-out.Post order-out-Inv-loop order-out-μ-loop
-order-out-sub-turns-2 t c = search needs
+  sub-order-out : lts.Need-sub-order-out (calls t) (order-out-at t) order-out.Post Inv-loop μ-loop
+  sub-order-out c = search needs
 
-order-out-loop-less : (t : ℕ) → order-out-lts.Need-loop-less (
-  put-own-reads.Asked,
-  put-own-reads.Learnt,
-  order-out-below t,
-  order-out.Post,
-) (order-out-at t) order-out.Post order-out-Inv-loop order-out-μ-loop
-order-out-loop-less t c = search needs
+  order-out-requires : lts.Need-order-out-requires (calls t) (order-out-at t) order-out.Post Inv-loop μ-loop
+  order-out-requires c κs =
+      let l = c .before .before .before in
+      let s = entry l in
+      let a = s .args in (
+        omega (arith, s .pre .0, l .before .before .if1 .left),
+        (
+          c .before .if2 .left,
+          piece-room (orderOf limit (a .first .now) (a .next .now) (a .left - 1) (l .loop .c))
+              (yet limit (a .first .now) (a .next .now) nothing itself (a .left) (a .x) (l .loop .turns - 1) (getD (a .next .now) (l .loop .c) 0))
+              (turned (c .before)),
+        ),
+      )
 
-order-out-loop-again : (t : ℕ) → order-out-lts.Need-loop-again (
-  put-own-reads.Asked,
-  put-own-reads.Learnt,
-  order-out-below t,
-  order-out.Post,
-) (order-out-at t) order-out.Post order-out-Inv-loop order-out-μ-loop
-order-out-loop-again t c =
-    let s = c .before .before .before .before .before .before .before .before .before .before .before .before .before .before .before in
-    let a = s .args in
-    let f = a .first .now in
-    let g = a .next .now in
-    let l = c .before .before .before .before .before .before .before .loop in
-    let e = c .before .before .before .order-out .ensures in
-    piece (orderOf limit (a .own-first) f g (a .left - 1) (l .c)) (yet limit (a .own-first) f g (a .left) (a .x) (l .turns - 1) (getD g (l .c) 0))
-    (turn limit (a .own-first) f g (a .left) (a .x) (l .turns) (l .c) (c .before .before .before .before .before .before .loop-test .taken)
-    (c .before .before .before .before .before .if2 .left) (l .inv))
-    (e .0) (e .1)
+  cast-here : lts.Need-cast-here (calls t) (order-out-at t) order-out.Post Inv-loop μ-loop
+  cast-here c = search needs
 
--- after the loop only the own place may be left to write
-last-own :
-    (t : ℕ)
-    (c : order-out-lts.Left-loop (put-own-reads.Asked, put-own-reads.Learnt, order-out-below t, order-out.Post)
-    (order-out-at t) order-out.Post order-out-Inv-loop order-out-μ-loop)
-    → let a = c .before .before .before .before .before .before .before .before .before .args in
-    let l = c .before .loop in
-    Left (below limit (a .own-first) (a .first .now) (a .next .now) (a .left) (a .x))
-    (c .before .before .before .before .before .put-own .last .1 .1 .0)
-    (c .before .before .before .before .before .put-own .result)
-    (own (not (a .own-first)) (a .x)) (l .order) (l .k)
-last-own t c =
-    let a = c .before .before .before .before .before .before .before .before .before .args in
-    let l = c .before .loop in
-    over limit (a .own-first) (a .first .now) (a .next .now) (a .left) (a .x) (l .turns) (l .c)
-    (⊎-elim (λ w. siblings-zero limit (a .next .now) (l .c) (l .turns) (w .left))
-    (λ w. siblings-over limit (a .next .now) (l .c) (l .turns) (w .1 .taken)) (c .loop-test .came))
-    (l .inv)
+  mul-c-2 : lts.Need-mul-c-2 (calls t) (order-out-at t) order-out.Post Inv-loop μ-loop
+  mul-c-2 c = search needs
 
-order-out-put-own-requires-2 : (t : ℕ) → order-out-lts.Need-put-own-requires-2 (
-  put-own-reads.Asked,
-  put-own-reads.Learnt,
-  order-out-below t,
-  order-out.Post,
-) (order-out-at t) order-out.Post order-out-Inv-loop order-out-μ-loop
-order-out-put-own-requires-2 t c κs =
-    last-own t (c .before) .room
+  element-copy-out-c-2 : lts.Need-element-copy-out-c-2 (calls t) (order-out-at t) order-out.Post Inv-loop μ-loop
+  element-copy-out-c-2 c = search needs
 
-order-out-returns-2 : (t : ℕ) → order-out-lts.Need-returns-2 (
-  put-own-reads.Asked,
-  put-own-reads.Learnt,
-  order-out-below t,
-  order-out.Post,
-) (order-out-at t) order-out.Post order-out-Inv-loop order-out-μ-loop
-order-out-returns-2 t c =
-    let a = c .before .before .before .before .before .before .before .before .before .before .before .before .before .args in
-    let e = c .before .before .put-own2 .ensures in
-    let h = end (own (not (a .own-first)) (a .x)) (last-own t (c .before .before .before .before)) (e .0) (e .1) in
-    end (below limit (a .own-first) (a .first .now) (a .next .now) (a .left) (a .x))
-    (entered t (c .before .before .before .before .before .before .before .before .before))
-    (h .0)
-    (h .1)
+  sub-turns-2 : lts.Need-sub-turns-2 (calls t) (order-out-at t) order-out.Post Inv-loop μ-loop
+  sub-turns-2 c = search needs
 
-order-out-same-length : (t : ℕ) → order-out-lts.Need-same-length (
-  put-own-reads.Asked,
-  put-own-reads.Learnt,
-  order-out-below t,
-  order-out.Post,
-) (order-out-at t) order-out.Post order-out-Inv-loop order-out-μ-loop
-order-out-same-length t c =
-    ap length (order-out-returns-2 t c .0) ∙ simp length-sets
+  loop-less : lts.Need-loop-less (calls t) (order-out-at t) order-out.Post Inv-loop μ-loop
+  loop-less c = search needs
+
+  loop-again : lts.Need-loop-again (calls t) (order-out-at t) order-out.Post Inv-loop μ-loop
+  loop-again c =
+      let d = c .before .before .before in
+      let l = d .before .before .before .before in
+      let a = entry l .args in
+      piece (orderOf limit (a .first .now) (a .next .now) (a .left - 1) (l .loop .c))
+      (yet limit (a .first .now) (a .next .now) nothing itself (a .left) (a .x) (l .loop .turns - 1) (getD (a .next .now) (l .loop .c) 0))
+      (turned (d .before .before)) (d .order-out .ensures .0) (d .order-out .ensures .1)
+
+  mul-order : lts.Need-mul-order (calls t) (order-out-at t) order-out.Post Inv-loop μ-loop
+  mul-order c = search needs
+
+  slice-write-order : lts.Need-slice-write-order (calls t) (order-out-at t) order-out.Post Inv-loop μ-loop
+  slice-write-order c = omega (arith, last-own c .room)
+
+  add-result : lts.Need-add-result (calls t) (order-out-at t) order-out.Post Inv-loop μ-loop
+  add-result c = omega (arith, last-own c .room)
+
+  returns-2 : lts.Need-returns-2 (calls t) (order-out-at t) order-out.Post Inv-loop μ-loop
+  returns-2 c = end (itself (entry (c .before) .args .x)) (last-own c) refl refl
+
+  same-length : lts.Need-same-length (calls t) (order-out-at t) order-out.Post Inv-loop μ-loop
+  same-length c = ap length (returns-2 c .0) ∙ simp length-sets
 
 pub +order-out-spec : {M : Type 1} → statement M
-+order-out-spec = close μ-order-out λ t. order-out-lts.spec (
-  put-own-reads.Asked,
-  put-own-reads.Learnt,
-  order-out-below t,
-  order-out.Post,
-)
-    (order-out-at t)
-    order-out.Post
-    order-out-Inv-loop
-    order-out-μ-loop
-    (order-out-returns t)
-    (order-out-put-own-requires t)
-    (order-out-mul-c t)
-    (order-out-element-copy-out-c t)
-    (order-out-sub-turns t)
-    (order-out-loop-holds t)
-    (order-out-sub-order-out t)
-    (order-out-order-out-requires t)
-    (order-out-cast-here t)
-    (order-out-mul-c-2 t)
-    (order-out-element-copy-out-c-2 t)
-    (order-out-sub-turns-2 t)
-    (order-out-loop-less t)
-    (order-out-loop-again t)
-    (order-out-put-own-requires-2 t)
-    (order-out-same-length t)
-    (order-out-returns-2 t)
++order-out-spec =
+    close
+    μ-order-out
+    λ t. lts.spec (calls t) (order-out-at t) order-out.Post Inv-loop μ-loop
+    (returns t)
+    (mul-c t)
+    (element-copy-out-c t)
+    (sub-turns t)
+    (loop-holds t)
+    (sub-order-out t)
+    (order-out-requires t)
+    (cast-here t)
+    (mul-c-2 t)
+    (element-copy-out-c-2 t)
+    (sub-turns-2 t)
+    (loop-less t)
+    (loop-again t)
+    (mul-order t)
+    (slice-write-order t)
+    (add-result t)
+    (same-length t)
+    (returns-2 t)

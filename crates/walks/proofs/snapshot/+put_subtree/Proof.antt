@@ -47,31 +47,43 @@ abbrev calls : ℕ → lts.Claims
 calls t = (put-node.Asked, put-node.Learnt, put-subtree-below t, put-subtree.Post)
 
 module _ (t : ℕ) where
-  -- the bytes of each node, and those below x
-  abbrev own : lts.Start (calls t) (put-subtree-at t) put-subtree.Post Inv-loop μ-loop → ℕ → List ℕ
+  -- the places of the proof: the start, before the own bytes, after them, the loop
+  abbrev Start : Type 0
+  Start = lts.Start (calls t) (put-subtree-at t) put-subtree.Post Inv-loop μ-loop
+
+  abbrev Before : Type 0
+  Before = lts.Else1 (calls t) (put-subtree-at t) put-subtree.Post Inv-loop μ-loop
+
+  abbrev After : Type 0
+  After = lts.After-put-node (calls t) (put-subtree-at t) put-subtree.Post Inv-loop μ-loop
+
+  abbrev Loop : Type 0
+  Loop = lts.At-loop (calls t) (put-subtree-at t) put-subtree.Post Inv-loop μ-loop
+
+  abbrev before-own : After → Before
+  before-own c = c .before .before .before .before .before .before .before .before
+
+  abbrev after-own : Loop → After
+  after-own l = l .before .before .before .before
+
+  abbrev entry : Loop → Start
+  entry l = before-own (after-own l) .before .before
+
+  -- the bytes of each node, all that is to be written, and what of it is below x
+  abbrev own : Start → ℕ → List ℕ
   own s =
       let a = s .args in
       bytesAt (a .level .now) (a .kind .now) (a .cut .now) (a .number .now) (a .width .now) (a .height .now)
 
-  abbrev all : lts.Start (calls t) (put-subtree-at t) put-subtree.Post Inv-loop μ-loop → List ℕ
+  abbrev all : Start → List ℕ
   all s = snapshotOf limit (s .args .first .now) (s .args .next .now) (own s) (s .args .left) (s .args .x)
 
-  abbrev under : lts.Start (calls t) (put-subtree-at t) put-subtree.Post Inv-loop μ-loop → List ℕ
+  abbrev under : Start → List ℕ
   under s = below limit (s .args .first .now) (s .args .next .now) (own s) nothing (s .args .left) (s .args .x)
-
-  -- what was known before the own bytes were written, and before the loop
-  abbrev past : lts.After-put-node (calls t) (put-subtree-at t) put-subtree.Post Inv-loop μ-loop → lts.Else1 (calls t) (put-subtree-at t) put-subtree.Post Inv-loop μ-loop
-  past c = c .before .before .before .before .before .before .before .before
-
-  abbrev wrote : lts.At-loop (calls t) (put-subtree-at t) put-subtree.Post Inv-loop μ-loop → lts.After-put-node (calls t) (put-subtree-at t) put-subtree.Post Inv-loop μ-loop
-  wrote l = l .before .before .before .before
-
-  abbrev entry : lts.At-loop (calls t) (put-subtree-at t) put-subtree.Post Inv-loop μ-loop → lts.Start (calls t) (put-subtree-at t) put-subtree.Post Inv-loop μ-loop
-  entry l = past (wrote l) .before .before
 
   -- all is to be written, the node's own bytes first
   begun :
-      (c : lts.Else1 (calls t) (put-subtree-at t) put-subtree.Post Inv-loop μ-loop)
+      (c : Before)
       → let s = c .before .before in
       Left (all s) (s .args .out .now) (s .args .at) (own s (s .args .x) ++ under s) (s .args .out .now) (s .args .at)
   begun c =
@@ -81,11 +93,11 @@ module _ (t : ℕ) where
 
   -- they are written
   entered :
-      (c : lts.After-put-node (calls t) (put-subtree-at t) put-subtree.Post Inv-loop μ-loop)
-      → let s = past c .before .before in
+      (c : After)
+      → let s = before-own c .before .before in
       Left (all s) (s .args .out .now) (s .args .at) (under s) (c .put-node .last .1 .1 .1 .1 .1 .1 .0) (s .args .at + 13)
   entered c =
-      let e = past c in
+      let e = before-own c in
       let s = e .before .before in
       piece (own s (s .args .x)) (under s) (begun e) (c .put-node .ensures) refl
 
@@ -96,7 +108,7 @@ module _ (t : ℕ) where
       let s = entry l in
       let f = s .args .first .now in
       let g = s .args .next .now in
-      Left (under s) (wrote l .put-node .last .1 .1 .1 .1 .1 .1 .0) (s .args .at + 13)
+      Left (under s) (after-own l .put-node .last .1 .1 .1 .1 .1 .1 .0) (s .args .at + 13)
       (snapshotOf limit f g (own s) (s .args .left - 1) (l .loop .c)
       ++ yet limit f g (own s) nothing (s .args .left) (s .args .x) (l .loop .turns - 1) (getD g (l .loop .c) 0))
       (l .loop .out) (l .loop .k)
@@ -109,7 +121,7 @@ module _ (t : ℕ) where
 
   -- after the last child all is written
   ended :
-      (l : lts.At-loop (calls t) (put-subtree-at t) put-subtree.Post Inv-loop μ-loop)
+      (l : Loop)
       → let s = entry l in
       siblings limit (s .args .next .now) (l .loop .turns) (l .loop .c) ≡ []
       → (l .loop .out ≡ sets (s .args .out .now) (s .args .at) (all s)) × (l .loop .k ≡ s .args .at + length (all s))
@@ -117,7 +129,7 @@ module _ (t : ℕ) where
       let s = entry l in
       let a = s .args in
       let e = done (over limit (a .first .now) (a .next .now) (own s) nothing (a .left) (a .x) (l .loop .turns) (l .loop .c) none (l .loop .inv)) in
-      end (under s) (entered (wrote l)) (e .0) (e .1)
+      end (under s) (entered (after-own l)) (e .0) (e .1)
 
   returns : lts.Need-returns (calls t) (put-subtree-at t) put-subtree.Post Inv-loop μ-loop
   returns c =
@@ -182,7 +194,7 @@ module _ (t : ℕ) where
   put-subtree-requires : lts.Need-put-subtree-requires (calls t) (put-subtree-at t) put-subtree.Post Inv-loop μ-loop
   put-subtree-requires c κs =
       let l = c .before .before .before in
-      let e = past (wrote l) in
+      let e = before-own (after-own l) in
       let s = e .before .before in
       let a = s .args in (
         omega (arith, s .pre .0, e .if1 .left),
