@@ -1,4 +1,4 @@
--- The turns of the loop over a row of siblings, which both walks have. Assumes nothing.
+-- The turns of the loop over a row of siblings, which the walks have. Assumes nothing.
 use mathlib.Core.Path.{_≡_, refl}
 use mathlib.Core.List.{List, [], _∷_}
 use Prim.Native.Nat.{ℕ, zero, suc, _-_, _<_, _≤_}

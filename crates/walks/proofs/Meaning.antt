@@ -23,11 +23,11 @@ use Rattle.tree.specs.Figures as figures
 use Rattle.tree.proofs.Rows.{same?, after-nil}
 use Rattle.table.specs.declared.Node.{Node}
 use Rattle.table.specs.Table.{zeroNode, at, head, Rep, Holds}
+use Rattle.table.specs.Columns.{kindOf}
 use Rattle.walks.specs.Chain.{siblings}
 use Rattle.walks.specs.Walk.{gathered, nothing, walkOf}
 use Rattle.walks.specs.Order.{itself, childrenFirst}
 use Rattle.walks.specs.Usage.{Small, weight, summed, usageOf}
-use Rattle.table.specs.Columns.{kindOf}
 use Rattle.walks.specs.Columns.{firstsOf, nextsOf, kindsOf, areasOf, levelOf, cutOf, numberOf, widthOf, heightOf, columnsOf}
 use Rattle.walks.specs.Columns.{bytesIn, orderIn, snapshotIn, usageIn}
 use Rattle.walks.proofs.Chain.{siblings-over, siblings-more}
@@ -95,7 +95,7 @@ shown limit t q pv (grow p d k r) e = (
 )
 
 module _ (limit : ℕ) (t : List Node) where
-  -- what both walks share: the chain of siblings is the row, if the fuel reaches
+  -- what the walks share: the chain of siblings is the row, if the fuel reaches
   chain : (r : Tree) (m : ℕ) → Shown limit t r → count r ≤ m → siblings limit (nextsOf t) m (head limit r) ≡ tops r
   chain nil m e h = siblings-over limit (nextsOf t) limit m (le-refl limit)
   chain (grow p d k r) m e h =
