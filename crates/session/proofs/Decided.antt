@@ -18,7 +18,7 @@ use Rattle.session.specs.declared.replies.Keeping.{Keeping}
 use Rattle.session.specs.declared.desk.Desk.{Desk}
 use Rattle.session.specs.declared.desk.Turn.{Turn}
 use Rattle.session.specs.Session.{Reply, reply, afterInsert, afterRemove, Answers, held, Says}
-use Rattle.session.specs.Replies.{both, Replies, Keeps, Restores}
+use Rattle.session.specs.Replies.{both, refusal, Replies, Keeps, Restores}
 use Rattle.session.specs.Desk.{askedIn, Runs, none, more, opening, textOf, Ends, Served}
 use Rattle.session.proofs.Laws.{input-run}
 
@@ -48,7 +48,8 @@ pub replies-once : (l : Layout) (q : Request) {r p : Response} → Replies l q r
 replies-once l q x y =
     let e = answers-once (both l l) q (x .answers l) (y .answers l) in
     let same = same-said (ap (λ (w : Reply). w .answer) e) (x .says) (y .says) in
-    λ i. record { layout = e i .session .layout; said = same i }
+    let no = x .refused ∙ ap (λ (w : Reply). refusal (w .answer)) e ∙ sym (y .refused) in
+    λ i. record { layout = e i .session .layout; refused = no i; said = same i }
 
 pub keeps-once : (l : Layout) {r p : Keeping} → Keeps l r → Keeps l p → r ≡ p
 keeps-once l x y =
@@ -60,7 +61,8 @@ pub restores-once : (l kept : Layout) {r p : Response} → Restores l kept r →
 restores-once l kept x y =
     let e = answers-once (both l kept) Restore (x .answers) (y .answers) in
     let same = same-said (ap (λ (w : Reply). w .answer) e) (x .says) (y .says) in
-    λ i. record { layout = e i .session .layout; said = same i }
+    let no = x .refused ∙ ap (λ (w : Reply). refusal (w .answer)) e ∙ sym (y .refused) in
+    λ i. record { layout = e i .session .layout; refused = no i; said = same i }
 
 -- a run of lines
 pub runs-once : {s u v : Session} {ls : List Line} {xs ys : List Answer} → Runs s ls xs u → Runs s ls ys v → (xs ≡ ys) × (u ≡ v)

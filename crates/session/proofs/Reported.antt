@@ -57,15 +57,16 @@ module _ (l : Layout) {u : UsageAnswer} (e : u ≡ sheetUsageOf l) where
       (usage-number (partArea (tree l)) (area (l .sheet)) (omega (arith, s .used)) (sheet-positive (s .sound .domain)) (omega arith))
 
   -- what the answer, or the refusal, asks for is said
-  pub reported-done : {x : Float} {r : Said} → Sized l → u ≡ Usage x → Says (reported (l .used) (l .held) (toBits binary64 x)) r
-      → Replies l Report (record { layout = l; said = r })
-  reported-done {x} sized h y =
+  pub reported-done : {x : Float} {r : Said} {b : Bool} → Sized l → u ≡ Usage x → b ≡ false
+      → Says (reported (l .used) (l .held) (toBits binary64 x)) r → Replies l Report (record { layout = l; refused = b; said = r })
+  reported-done {x} sized h is y =
       let a = answered h in
       let f = sound-says l sized (a .0) in
       let same : reported (l .used) (l .held) (toBits binary64 x) ≡ figures l = cc (f .used, f .held, a .1) in
-      report-gives l (a .0) (rw same at y)
+      report-gives l (a .0) is (rw same at y)
 
-  pub reported-refused : {x : Refusal} {r : Said} → u ≡ Refused x → Says (refused 7 x) r → Replies l Report (record { layout = l; said = r })
-  reported-refused h y =
+  pub reported-refused : {x : Refusal} {r : Said} {b : Bool} → u ≡ Refused x → b ≡ true → Says (refused 7 x) r
+      → Replies l Report (record { layout = l; refused = b; said = r })
+  reported-refused h is y =
       let a = unsound h in
-      report-gives l (a .0) (rw (a .1) at y)
+      report-gives l (a .0) is (rw (a .1) at y)

@@ -45,7 +45,7 @@ use Rattle.session.specs.declared.replies.Response.{Response}
 use Rattle.session.specs.declared.replies.Keeping.{Keeping}
 use Rattle.session.specs.Session.{withLayout, reply, answerBy, openedBy, afterOpen, offersSaid, afterOffers, marksSaid, afterInsert}
 use Rattle.session.specs.Session.{numbersSaid, afterRemove, keptBy, afterKeep, afterRestore, reportBy, afterReport, Answers, Says, Steps}
-use Rattle.session.specs.Replies.{scopeOf, heardIn, heard, both, stepTo, Replies, Keeps, Restores}
+use Rattle.session.specs.Replies.{scopeOf, heardIn, heard, both, stepTo, refusal, Replies, Keeps, Restores}
 use Rattle.session.proofs.Spoken.{take-sets}
 
 -- what is said is what the request gives
@@ -79,42 +79,57 @@ hears e h = rw e h
 by-outcome : (s : Session) (op : ℕ) (a : Answer) {u v : Outcome} → u ≡ v → reply s (answerBy op a v) ≡ reply s (answerBy op a u)
 by-outcome s op a h = ap (λ (x : Outcome). reply s (answerBy op a x)) (sym h)
 
--- ---- one lemma for each op: the call's outcome was v, and what v asks for is said
+-- ---- one lemma for each op: the call's outcome was v, what v asks for is said, and b says whether that is a refusal
 module _ (l : Layout) {r : Said} where
-  pub open-gives : (number : ℕ) (size : Size) (cut : Orientation) (stages : ℕ) {o : Opened} {v : Opening} {next : Layout} {a : Answer}
+  pub open-gives : (number : ℕ) (size : Size) (cut : Orientation) (stages : ℕ) {o : Opened} {v : Opening} {next : Layout} {a : Answer} {b : Bool}
       → o ≡ openOf number size cut stages → o .outcome ≡ v
-      → ((kept : Layout) → reply (both next kept) a ≡ openedBy (both l kept) (o .layout) v) → Says a r
-      → Replies l (Open number size cut stages) (record { layout = next; said = r })
+      → ((kept : Layout) → reply (both next kept) a ≡ openedBy (both l kept) (o .layout) v) → b ≡ refusal a → Says a r
+      → Replies l (Open number size cut stages) (record { layout = next; refused = b; said = r })
   unfolding Answers afterOpen
-  open-gives number size cut stages {o} e h f y =
+  open-gives number size cut stages {o} e h f is y =
       record {
         answer = _;
         answers = λ kept. f kept ∙ ap (openedBy (both l kept) (o .layout)) (sym h) ∙ ap (afterOpen (both l kept)) e;
+        refused = is;
         says = y;
       }
 
-  pub offers-gives : (m : Mark) (p : PartType) {o : OffersAnswer} {v : Outcome} → o ≡ offersCall l m p → o .outcome ≡ v
-      → Says (answerBy 2 (offersSaid (o .offers)) v) r → Replies l (Offers m p) (record { layout = l; said = r })
+  pub offers-gives : (m : Mark) (p : PartType) {o : OffersAnswer} {v : Outcome} {b : Bool} → o ≡ offersCall l m p → o .outcome ≡ v
+      → b ≡ refusal (answerBy 2 (offersSaid (o .offers)) v) → Says (answerBy 2 (offersSaid (o .offers)) v) r
+      → Replies l (Offers m p) (record { layout = l; refused = b; said = r })
   unfolding Answers afterOffers
-  offers-gives m p {o} e h y =
+  offers-gives m p {o} e h is y =
       record {
         answer = _;
         answers = λ kept. by-outcome (both l kept) 2 (offersSaid (o .offers)) h ∙ ap (afterOffers (both l kept)) e;
+        refused = is;
         says = y;
       }
 
-  pub insert-gives : (m : Mark) (p : PartType) (rotation : Rotation) (shape : InsertionShape) (i : Inserted) {v : Outcome}
-      → InsertSays l m p rotation shape i → i .outcome ≡ v → Says (answerBy 3 (marksSaid (i .marks)) v) r
-      → Replies l (Insert m p rotation shape) (record { layout = i .layout; said = r })
+  pub insert-gives : (m : Mark) (p : PartType) (rotation : Rotation) (shape : InsertionShape) (i : Inserted) {v : Outcome} {b : Bool}
+      → InsertSays l m p rotation shape i → i .outcome ≡ v → b ≡ refusal (answerBy 3 (marksSaid (i .marks)) v)
+      → Says (answerBy 3 (marksSaid (i .marks)) v) r → Replies l (Insert m p rotation shape) (record { layout = i .layout; refused = b; said = r })
   unfolding Answers afterInsert
-  insert-gives m p rotation shape i f h y =
-      record { answer = _; answers = λ kept. (i, f, by-outcome (both (i .layout) kept) 3 (marksSaid (i .marks)) h); says = y }
+  insert-gives m p rotation shape i f h is y =
+      record {
+        answer = _;
+        answers = λ kept. (i, f, by-outcome (both (i .layout) kept) 3 (marksSaid (i .marks)) h);
+        refused = is;
+        says = y;
+      }
 
-  pub remove-gives : (m : Mark) (d : Removed) {v : Outcome} → RemoveSays l m limit d → d .outcome ≡ v
-      → Says (answerBy 4 (removed (d .free) (numbersOut l (m .place))) v) r → Replies l (Remove m) (record { layout = d .layout; said = r })
+  pub remove-gives : (m : Mark) (d : Removed) {v : Outcome} {b : Bool} → RemoveSays l m limit d → d .outcome ≡ v
+      → b ≡ refusal (answerBy 4 (removed (d .free) (numbersOut l (m .place))) v)
+      → Says (answerBy 4 (removed (d .free) (numbersOut l (m .place))) v) r
+      → Replies l (Remove m) (record { layout = d .layout; refused = b; said = r })
   unfolding Answers afterRemove
-  remove-gives m d f h y =
-      record { answer = _; answers = λ kept. (d, f, by-outcome (both (d .layout) kept) 4 (numbersSaid (both l kept) m d) h); says = y }
+  remove-gives m d f h is y =
+      record {
+        answer = _;
+        answers = λ kept. (d, f, by-outcome (both (d .layout) kept) 4 (numbersSaid (both l kept) m d) h);
+        refused = is;
+        says = y;
+      }
 
   -- the check says b
   pub keep-gives : {b v : Bool} → b ≡ soundB l → b ≡ v → Says (cond v (done 5) (refused 5 NotSound)) r → Keeps l (record { sound = v; said = r })
@@ -127,20 +142,27 @@ module _ (l : Layout) {r : Said} where
       go true kept = refl
       go false kept = refl
 
-  pub restore-gives : (kept : Layout) {b : Restored} {v : Outcome} → b ≡ restoreOf l kept → b .outcome ≡ v → Says (answerBy 6 (done 6) v) r
-      → Restores l kept (record { layout = b .layout; said = r })
+  pub restore-gives : (kept : Layout) {d : Restored} {v : Outcome} {b : Bool} → d ≡ restoreOf l kept → d .outcome ≡ v
+      → b ≡ refusal (answerBy 6 (done 6) v) → Says (answerBy 6 (done 6) v) r
+      → Restores l kept (record { layout = d .layout; refused = b; said = r })
   unfolding Answers afterRestore
-  restore-gives kept {b} e h y =
-      record { answer = _; answers = by-outcome (both (b .layout) kept) 6 (done 6) h ∙ ap (afterRestore (both l kept)) e; says = y }
+  restore-gives kept {d} e h is y =
+      record {
+        answer = _;
+        answers = by-outcome (both (d .layout) kept) 6 (done 6) h ∙ ap (afterRestore (both l kept)) e;
+        refused = is;
+        says = y;
+      }
 
-  pub report-gives : {v : Bool} → soundB l ≡ v → Says (reportBy l v) r → Replies l Report (record { layout = l; said = r })
+  pub report-gives : {v b : Bool} → soundB l ≡ v → b ≡ refusal (reportBy l v) → Says (reportBy l v) r
+      → Replies l Report (record { layout = l; refused = b; said = r })
   unfolding Answers afterReport
-  report-gives h y =
-      record { answer = _; answers = λ kept. ap (λ (x : Bool). reply (both l kept) (reportBy l x)) (sym h); says = y }
+  report-gives h is y =
+      record { answer = _; answers = λ kept. ap (λ (x : Bool). reply (both l kept) (reportBy l x)) (sym h); refused = is; says = y }
 
-  pub malformed-gives : Says malformed r → Replies l Malformed (record { layout = l; said = r })
+  pub malformed-gives : {b : Bool} → b ≡ true → Says malformed r → Replies l Malformed (record { layout = l; refused = b; said = r })
   unfolding Answers
-  malformed-gives y = record { answer = malformed; answers = λ kept. refl; says = y }
+  malformed-gives is y = record { answer = malformed; answers = λ kept. refl; refused = is; says = y }
 
 -- ---- one lemma for each scope: from what is told of the layouts to what the request gives
 module _ (s : Session) (q : Request) {v : Scope} (e : v ≡ scopeOf q) where

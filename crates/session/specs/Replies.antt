@@ -1,12 +1,12 @@
 -- What a request gives where only the layouts that it has to do with are at hand: the kept one is asked for by restore alone, and keep says whether the
 -- layout takes its place. Rests on specs/Session.
 use mathlib.Core.Path.{_≡_}
-use mathlib.Core.Bool.{cond}
+use mathlib.Core.Bool.{Bool, true, false, cond}
 use Rattle.layout.specs.declared.layout.Layout.{Layout}
 use Rattle.layout.specs.Check.{soundB}
 use Rattle.frames.specs.declared.Request.{Request}
 use Rattle.frames.specs.declared.Request.the-variants.{Open, Offers, Insert, Remove, Keep, Restore, Report, Malformed}
-use Rattle.frames.specs.Answers.{Answer}
+use Rattle.frames.specs.Answers.{Answer, refused, opened, offered, inserted, removed, done, reported, malformed}
 use Rattle.session.specs.declared.Session.{Session}
 use Rattle.session.specs.declared.Stepped.{Stepped}
 use Rattle.session.specs.declared.replies.Scope.{Scope}
@@ -49,10 +49,22 @@ both l kept = record { layout = l; kept = kept }
 abbrev pub stepTo : Session → Said → Stepped
 stepTo s said = record { session = s; line = said .line; count = said .count }
 
+-- an answer that says no: a number, or malformed, which is 14
+abbrev pub refusal : Answer → Bool
+refusal (refused op e) = true
+refusal (opened m) = false
+refusal (offered os) = false
+refusal (inserted f p ms) = false
+refusal (removed m ns) = false
+refusal (done op) = false
+refusal (reported used nodes bits) = false
+refusal malformed = true
+
 -- the request q, at the layout l: whatever is kept, it stays, and the answer is the same
 pub record Replies (l : Layout) (q : Request) (r : Response) : Type 0 where
   pub answer : Answer
   pub answers : (kept : Layout) → Answers (both l kept) q (both (r .layout) kept) answer
+  pub refused : r .refused ≡ refusal answer
   pub says : Says answer (r .said)
 
 -- keep, at the layout l: where that is sound it takes the place of whatever is kept
@@ -66,4 +78,5 @@ pub record Keeps (l : Layout) (r : Keeping) : Type 0 where
 pub record Restores (l kept : Layout) (r : Response) : Type 0 where
   pub answer : Answer
   pub answers : Answers (both l kept) Restore (both (r .layout) kept) answer
+  pub refused : r .refused ≡ refusal answer
   pub says : Says answer (r .said)

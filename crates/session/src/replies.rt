@@ -32,9 +32,10 @@ pub struct Said {
     pub count: usize,
 }
 
-// The layout afterwards, and the answer.
+// The layout afterwards, whether the answer is a refusal (then that is the layout before), and the answer.
 pub struct Response {
     pub layout: Layout,
+    pub refused: bool,
     pub said: Said,
 }
 
@@ -56,11 +57,19 @@ fn open(layout: Layout, number: u16, size: Size, cut: Orientation, stages: u8) -
         Opening::Free(mark) => {
             let next = opened.layout;
             let said = say::opened(mark);
-            Response { layout: next, said }
+            Response {
+                layout: next,
+                refused: false,
+                said,
+            }
         }
         Opening::Refused(refusal) => {
             let said = say::refused(1, refusal);
-            Response { layout, said }
+            Response {
+                layout,
+                refused: true,
+                said,
+            }
         }
     }
 }
@@ -74,11 +83,19 @@ fn offers(layout: Layout, mark: Mark, part: PartType) -> Response
     match outcome {
         Outcome::Done => {
             let said = say::offered(offers);
-            Response { layout, said }
+            Response {
+                layout,
+                refused: false,
+                said,
+            }
         }
         Outcome::Refused(refusal) => {
             let said = say::refused(2, refusal);
-            Response { layout, said }
+            Response {
+                layout,
+                refused: true,
+                said,
+            }
         }
     }
 }
@@ -99,11 +116,19 @@ fn insert(
     match outcome {
         Outcome::Done => {
             let said = say::inserted(marks);
-            Response { layout: next, said }
+            Response {
+                layout: next,
+                refused: false,
+                said,
+            }
         }
         Outcome::Refused(refusal) => {
             let said = say::refused(3, refusal);
-            Response { layout: next, said }
+            Response {
+                layout: next,
+                refused: true,
+                said,
+            }
         }
     }
 }
@@ -121,11 +146,19 @@ fn remove(layout: Layout, mark: Mark) -> Response
     match outcome {
         Outcome::Done => {
             let said = say::removed(free, &numbers, many);
-            Response { layout: next, said }
+            Response {
+                layout: next,
+                refused: false,
+                said,
+            }
         }
         Outcome::Refused(refusal) => {
             let said = say::refused(4, refusal);
-            Response { layout: next, said }
+            Response {
+                layout: next,
+                refused: true,
+                said,
+            }
         }
     }
 }
@@ -151,11 +184,19 @@ pub fn restore(layout: Layout, kept: Layout) -> Response
     match outcome {
         Outcome::Done => {
             let said = say::done(6);
-            Response { layout: next, said }
+            Response {
+                layout: next,
+                refused: false,
+                said,
+            }
         }
         Outcome::Refused(refusal) => {
             let said = say::refused(6, refusal);
-            Response { layout: next, said }
+            Response {
+                layout: next,
+                refused: true,
+                said,
+            }
         }
     }
 }
@@ -167,11 +208,19 @@ fn report(layout: Layout) -> Response
     match looks::figures::sheet_usage(layout) {
         UsageAnswer::Usage(usage) => {
             let said = say::reported(layout.used, layout.held, f64::to_bits(usage));
-            Response { layout, said }
+            Response {
+                layout,
+                refused: false,
+                said,
+            }
         }
         UsageAnswer::Refused(refusal) => {
             let said = say::refused(7, refusal);
-            Response { layout, said }
+            Response {
+                layout,
+                refused: true,
+                said,
+            }
         }
     }
 }
@@ -180,7 +229,11 @@ fn malformed(layout: Layout) -> Response
     ensures { λ r. ⌜ Replies layout requests.Malformed r ⌝ }
 {
     let said = say::malformed();
-    Response { layout, said }
+    Response {
+        layout,
+        refused: true,
+        said,
+    }
 }
 
 // ---- The answer to a request.

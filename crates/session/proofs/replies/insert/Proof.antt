@@ -1,4 +1,5 @@
 -- `insert` meets its contract, accepted and refused. Assumes nothing.
+use mathlib.Core.Path.{refl}
 use Rattle.layout.proofs.Answered.{insert-says}
 use Rattle.session.proofs.Ways.{insert-gives}
 use borrow.Author.Needs.{needs}
@@ -28,14 +29,14 @@ returns c =
     let k = c .before in
     let i = k .before .before .before .before in
     let a = i .before .args in
-    insert-gives (a .layout) (a .mark) (a .part) (a .rotation) (a .shape) _ (i .insert .ensures) (k .enum-told .given .1) (c .inserted .ensures)
+    insert-gives (a .layout) (a .mark) (a .part) (a .rotation) (a .shape) _ (i .insert .ensures) (k .enum-told .given .1) refl (c .inserted .ensures)
 
 returns-2 : tie.Need-returns-2
 returns-2 c =
     let k = c .before .before in
     let i = k .before .before .before .before in
     let a = i .before .args in
-    insert-gives (a .layout) (a .mark) (a .part) (a .rotation) (a .shape) _ (i .insert .ensures) (k .outcome .given .1) (c .refused .ensures)
+    insert-gives (a .layout) (a .mark) (a .part) (a .rotation) (a .shape) _ (i .insert .ensures) (k .outcome .given .1) refl (c .refused .ensures)
 
 pub insert-spec : {M : Type 1} → statement M
 insert-spec =

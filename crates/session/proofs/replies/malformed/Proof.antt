@@ -1,4 +1,5 @@
 -- `malformed` meets its contract. Assumes nothing.
+use mathlib.Core.Path.{refl}
 use Rattle.session.proofs.Ways.{malformed-gives}
 use borrow.Author.Needs.{needs}
 use Rattle.session.proofs.replies.malformed.Statement.{statement}
@@ -8,7 +9,7 @@ malformed-requires : tie.Need-malformed-requires
 malformed-requires c κs = search needs
 
 returns : tie.Need-returns
-returns c = malformed-gives _ (c .malformed .ensures)
+returns c = malformed-gives _ refl (c .malformed .ensures)
 
 pub malformed-spec : {M : Type 1} → statement M
 malformed-spec = tie.close (tie.spec malformed-requires returns)

@@ -1,4 +1,5 @@
 -- `offers` meets its contract, accepted and refused. Assumes nothing.
+use mathlib.Core.Path.{refl}
 use Rattle.session.proofs.Ways.{offers-gives, offers-four}
 use borrow.Author.Needs.{needs}
 use Rattle.session.proofs.replies.offers.Statement.{statement}
@@ -27,14 +28,14 @@ returns c =
     let k = c .before in
     let o = k .before .before .before in
     let a = o .before .args in
-    offers-gives (a .layout) (a .mark) (a .part) (o .offers .ensures) (k .enum-told .given .1) (c .offered .ensures)
+    offers-gives (a .layout) (a .mark) (a .part) (o .offers .ensures) (k .enum-told .given .1) refl (c .offered .ensures)
 
 returns-2 : tie.Need-returns-2
 returns-2 c =
     let k = c .before .before in
     let o = k .before .before .before in
     let a = o .before .args in
-    offers-gives (a .layout) (a .mark) (a .part) (o .offers .ensures) (k .outcome .given .1) (c .refused .ensures)
+    offers-gives (a .layout) (a .mark) (a .part) (o .offers .ensures) (k .outcome .given .1) refl (c .refused .ensures)
 
 pub offers-spec : {M : Type 1} → statement M
 offers-spec =

@@ -1,4 +1,5 @@
 -- `remove` meets its contract, accepted and refused. Assumes nothing.
+use mathlib.Core.Path.{refl}
 use Rattle.layout.specs.Check.{limit}
 use Rattle.layout.proofs.Answered.{TakenOut, remove-says}
 use Rattle.layout.proofs.Typed.{typed-sized}
@@ -56,14 +57,14 @@ returns c =
     let d = removal k in
     let a = begun d .args in
     let out = numbers-out (a .layout) (a .mark) _ (taken-out k) (d .remove .ensures .1) in
-    remove-gives (a .layout) (a .mark) _ (d .remove .ensures .0) (k .before .enum-told .given .1) (rw out at (c .removed .ensures))
+    remove-gives (a .layout) (a .mark) _ (d .remove .ensures .0) (k .before .enum-told .given .1) refl (rw out at (c .removed .ensures))
 
 returns-2 : tie.Need-returns-2
 returns-2 c =
     let k = c .before .before in
     let d = k .before .before .before .before .before .before in
     let a = begun d .args in
-    remove-gives (a .layout) (a .mark) _ (d .remove .ensures .0) (k .outcome .given .1) (c .refused .ensures)
+    remove-gives (a .layout) (a .mark) _ (d .remove .ensures .0) (k .outcome .given .1) refl (c .refused .ensures)
 
 pub remove-spec : {M : Type 1} → statement M
 remove-spec =

@@ -1,4 +1,5 @@
 -- `report` meets its contract, answered and refused. Assumes nothing.
+use mathlib.Core.Path.{refl}
 use Rattle.layout.proofs.Typed.{typed-sized}
 use Rattle.session.proofs.Reported.{usage-bits, reported-done, reported-refused}
 use borrow.Author.Needs.{needs}
@@ -32,13 +33,13 @@ returns c =
     let k = c .before .before in
     let u = k .before .before in
     let s = u .before in
-    reported-done (s .args .layout) (u .sheet-usage .ensures) (typed-sized (s .args .layout) _ (s .good .0)) (k .usage .given .1) (c .reported .ensures)
+    reported-done (s .args .layout) (u .sheet-usage .ensures) (typed-sized (s .args .layout) _ (s .good .0)) (k .usage .given .1) refl (c .reported .ensures)
 
 returns-2 : tie.Need-returns-2
 returns-2 c =
     let k = c .before .before in
     let u = k .before .before in
-    reported-refused (u .before .args .layout) (u .sheet-usage .ensures) (k .refusal .given .1) (c .refused .ensures)
+    reported-refused (u .before .args .layout) (u .sheet-usage .ensures) (k .refusal .given .1) refl (c .refused .ensures)
 
 pub report-spec : {M : Type 1} → statement M
 report-spec =
