@@ -17,7 +17,8 @@ use Rattle.answers.specs.declared.Refusal.the-variants.{NotSound, BufferTooShor
 use Rattle.layout.specs.declared.layout.Layout.{Layout}
 use Rattle.layout.specs.Check.{limit, tree, soundB}
 use Rattle.layout.specs.SoundLayout.{SoundLayout, Sized}
-use Rattle.layout.proofs.Exactly.{sound-says}
+use Rattle.layout.specs.Zero.{zeroLayout}
+use Rattle.layout.proofs.Exactly.{sound-says, zero-sized}
 use Rattle.looks.specs.declared.replies.CountAnswer.{CountAnswer}
 use Rattle.looks.specs.declared.replies.CountAnswer.the-variants.{Count, Refused}
 use Rattle.looks.specs.Written.{answerTo, leftIn}
@@ -30,7 +31,7 @@ use Rattle.saw.proofs.CutBytes.{length-bytes}
 use Rattle.saw.proofs.Copied.{take-stored}
 use Rattle.saw.proofs.Layouts.{sawn-bytes}
 use Rattle.kiosk.specs.declared.records.LayoutRecord.{LayoutRecord}
-use Rattle.kiosk.specs.Records.{nodeOf, layoutOf}
+use Rattle.kiosk.specs.Records.{allListedB, nodeOf, fieldsOf, layoutOf}
 use Rattle.kiosk.specs.Cuts.{Handed, listCount, listLeft}
 use Rattle.kiosk.proofs.records.LayoutRecord.{the-type}
 
@@ -39,15 +40,19 @@ list-room : (l : Layout) → SoundLayout l → length (sawBytes l) ≤ 9 * limit
 unfolding sawBytes
 list-room l s = omega (arith, length-bytes (cuts (tree l)), cuts-most (tree l) (s .sound), s .sound .room)
 
--- what the type itself says of a record: its layout's arrays have as many entries as there are places
+-- what the type itself says of a record: its layout's arrays have as many entries as there are places, and those of zeros have too
 record-sized : (r : LayoutRecord) (vs : List Val) → Is (row the-type) r vs → Sized (layoutOf r)
-unfolding layoutOf
-record-sized r vs g =
-    record {
-      nodes = length-map (r .nodes) nodeOf ∙ sym (length-map (r .nodes) _) ∙ g .1 .1 .0 .1 .0 .1;
-      free = sym (length-map (r .free) _) ∙ g .1 .1 .1 .0 .1 .0 .1;
-      removable = sym (length-map (r .removable) _) ∙ g .1 .1 .1 .1 .0 .1 .0 .1;
-    }
+unfolding layoutOf fieldsOf
+record-sized r vs g = go (allListedB (r .nodes))
+  where
+    go : (b : Bool) → Sized (cond b (fieldsOf r) zeroLayout)
+    go true =
+        record {
+          nodes = length-map (r .nodes) nodeOf ∙ sym (length-map (r .nodes) _) ∙ g .1 .1 .0 .1 .0 .1;
+          free = sym (length-map (r .free) _) ∙ g .1 .1 .1 .0 .1 .0 .1;
+          removable = sym (length-map (r .removable) _) ∙ g .1 .1 .1 .1 .0 .1 .0 .1;
+        }
+    go false = zero-sized
 
 -- what is said of an answer
 abbrev pub said : CountAnswer → ℕ

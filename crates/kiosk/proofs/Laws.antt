@@ -1,174 +1,143 @@
--- The laws of the records: a session goes into a record and back, a record whose kinds and cuts are listed goes into a session and back, every record
--- that is written is listed, and the session at the start is the record of zeros. And of the step: the next record stands for the next session, a
--- session that stays leaves its record as it was, and the record and the line decide what comes of them. Rests on `session`'s proofs/Decided and
--- proofs/Kept.
+-- The laws of the step: the record and the line decide what comes of them; a refusal leaves the record as it was, whatever it holds; a record with an
+-- unlisted kind or cut is refused with 1; the next record stands for the next session. And of the list of saw cuts: the record and the bytes decide it,
+-- and there is none of an unlisted record. Rests on `session`'s proofs/Decided and proofs/Kept, and on Listed and Refused.
 use mathlib.Core.Path.{_≡_, refl, sym, ap, _∙_}
 use mathlib.Core.Bool.{Bool, true, false, cond}
-use mathlib.Core.List.{List, [], _∷_, map}
-use Prim.Native.Nat.{ℕ, zero, suc, _≤_}
-use native.Mathlib.Omega.{arith}
-use lib.ListN.{length, getD, replicate, List·getD-map}
-use Rattle.piece.specs.declared.node.Kind.{Kind}
-use Rattle.piece.specs.declared.node.Kind.the-variants.{Free, Part, Structure}
-use Rattle.piece.specs.declared.orientation.Orientation.{Orientation}
-use Rattle.piece.specs.declared.orientation.Orientation.the-variants.{Horizontal, Vertical}
-use Rattle.tree.specs.Snapshot.{kindNo, cutNo}
-use Rattle.lists.specs.Lists.{limit}
-use Rattle.table.specs.declared.Node.{Node}
-use Rattle.table.specs.Table.{zeroNode}
-use Rattle.frames.specs.Fields.{cutOf}
+use mathlib.Core.List.{List}
+use mathlib.Core.Logic.{_⊎_, inl, inr}
+use Prim.Native.Nat.{ℕ}
+use lib.ListN.{length}
+use Rattle.lists.proofs.Scan.{test, clash}
+use Rattle.answers.specs.declared.Refusal.the-variants.{NotSound}
+use Rattle.frames.specs.declared.Request.{Request}
+use Rattle.frames.specs.declared.Request.the-variants as requests
 use Rattle.frames.specs.Requests.{requestOf}
-use Rattle.frames.specs.Answers.{Answer, answerLine}
+use Rattle.frames.specs.Answers.{Answer, refused, answerLine}
 use Rattle.layout.specs.declared.layout.Layout.{Layout}
 use Rattle.layout.specs.Check.{soundB}
-use Rattle.layout.specs.Zero.{zeroLayout}
 use Rattle.session.specs.declared.Session.{Session}
 use Rattle.session.specs.declared.replies.Scope.{Scope}
 use Rattle.session.specs.declared.replies.Scope.the-variants.{Alone, Keep, Restore}
-use Rattle.session.specs.Session.{Reply, held, started}
-use Rattle.session.specs.Replies.{scopeOf, keptIn}
+use Rattle.session.specs.Session.{Reply, reply, held, keptBy, afterKeep, Answers}
+use Rattle.session.specs.Replies.{scopeOf, refusal}
 use Rattle.session.proofs.Decided.{answers-once}
 use Rattle.session.proofs.Kept.{kept-after}
-use Rattle.kiosk.specs.declared.records.NodeRecord.{NodeRecord}
 use Rattle.kiosk.specs.declared.records.LayoutRecord.{LayoutRecord}
 use Rattle.kiosk.specs.declared.records.SessionRecord.{SessionRecord}
-use Rattle.kiosk.specs.Records.{kindOf, nodeOf, layoutOf, sessionOf, nodeRecord, layoutRecord, recordOf, noRecord, noSession, Listed, AllListed}
-use Rattle.kiosk.specs.Step.{keptRecord, Answered}
+use Rattle.kiosk.specs.Records.{layoutOf, sessionOf, layoutRecord, AllListed, allListedB}
+use Rattle.kiosk.specs.Step.{keptRecord, recordAfter, Answered}
+use Rattle.kiosk.specs.Cuts.{Handed}
+use Rattle.kiosk.proofs.Listed.{unlisted-unsound, layout-listed, layout-back, sound-stays}
+use Rattle.kiosk.proofs.Refused.{opOf, looksB, refused-stays, unsound-refused, unsound-kept-refused}
 
--- ---- there and back, over a list
+-- ---- decided
 
--- where each entry comes back, the list does
-each-back : {A B : Type 0} (f : A → B) (g : B → A) (P : A → Type 0) → ((x : A) → P x → g (f x) ≡ x) → (z : A) (xs : List A)
-    → ((i : ℕ) → P (getD xs i z)) → map g (map f xs) ≡ xs
-each-back f g P back z [] h = refl
-each-back f g P back z (x ∷ xs) h = λ i. back x (h zero) i ∷ each-back f g P back z xs (λ k. h (suc k)) i
-
-each-same : {A B : Type 0} (f : A → B) (a : A) (n : ℕ) → map f (replicate n a) ≡ replicate n (f a)
-each-same f a zero = refl
-each-same f a (suc n) = ap (λ (r : List _). f a ∷ r) (each-same f a n)
-
--- ---- a session, into a record and back
-
-kind-back : (k : Kind) → kindOf (kindNo k) ≡ k
-kind-back Free = refl
-kind-back Part = refl
-kind-back Structure = refl
-
-cut-back : (c : Orientation) → cutOf (cutNo c) ≡ c
-cut-back Horizontal = refl
-cut-back Vertical = refl
-
-node-back : (n : Node) → nodeOf (nodeRecord n) ≡ n
-unfolding nodeOf nodeRecord
-node-back n = rw (kind-back, cut-back) refl
-
-layout-back : (l : Layout) → layoutOf (layoutRecord l) ≡ l
-unfolding layoutOf layoutRecord
-layout-back l =
-    rw (each-back nodeRecord nodeOf (λ _. Unit {0}) (λ n _. node-back n) zeroNode (l .nodes) (λ _. tt)) refl
-
-pub session-back : (s : Session) → sessionOf (recordOf s) ≡ s
-session-back s = rw (layout-back (s .layout), layout-back (s .kept)) refl
-
--- ---- a record, into a session and back
-
-kind-stays : (n : ℕ) → n ≤ 2 → kindNo (kindOf n) ≡ n
-kind-stays zero h = refl
-kind-stays (suc zero) h = refl
-kind-stays (suc (suc zero)) h = refl
-kind-stays (suc (suc (suc n))) h = absurd (omega arith)
-
-cut-stays : (n : ℕ) → n ≤ 1 → cutNo (cutOf n) ≡ n
-cut-stays zero h = refl
-cut-stays (suc zero) h = refl
-cut-stays (suc (suc n)) h = absurd (omega arith)
-
-node-stays : (r : NodeRecord) → Listed r → nodeRecord (nodeOf r) ≡ r
-unfolding nodeOf nodeRecord Listed
-node-stays r h = rw (kind-stays (r .datum .kind) (h .0), cut-stays (r .datum .cut) (h .1)) refl
-
-pub layout-stays : (r : LayoutRecord) → AllListed r → layoutRecord (layoutOf r) ≡ r
-unfolding layoutOf layoutRecord
-layout-stays r h = rw (each-back nodeOf nodeRecord Listed node-stays noRecord (r .nodes) h) refl
-
-pub record-back : (r : SessionRecord) → AllListed (r .layout) → AllListed (r .kept) → recordOf (sessionOf r) ≡ r
-record-back r h k = rw (layout-stays (r .layout) h, layout-stays (r .kept) k) refl
-
--- ---- what is written is listed
-
-kind-listed : (k : Kind) → kindNo k ≤ 2
-kind-listed Free = omega arith
-kind-listed Part = omega arith
-kind-listed Structure = omega arith
-
-cut-listed : (c : Orientation) → cutNo c ≤ 1
-cut-listed Horizontal = omega arith
-cut-listed Vertical = omega arith
-
-node-listed : (n : Node) → Listed (nodeRecord n)
-unfolding nodeRecord Listed
-node-listed n = (kind-listed (n .datum .kind), cut-listed (n .datum .cut))
-
-layout-listed : (l : Layout) → AllListed (layoutRecord l)
-unfolding layoutRecord nodeRecord
-layout-listed l i = rw (List·getD-map nodeRecord (l .nodes) i zeroNode) (node-listed (getD (l .nodes) i zeroNode))
-
--- ---- the start
-
-pub starts-zero : recordOf started ≡ noSession
-unfolding layoutRecord zeroLayout nodeRecord
-starts-zero = rw (each-same nodeRecord zeroNode limit, each-same nodeRecord zeroNode limit) refl
-
--- ---- the step
-
--- what is kept afterwards, as a record and as a layout
-kept-stands : (r : SessionRecord) (v : Scope) → layoutOf (keptRecord r v) ≡ keptIn (sessionOf r) v
-kept-stands r Alone = refl
-kept-stands r Keep = go (soundB (layoutOf (r .layout)))
-  where
-    go : (b : Bool) → layoutOf (cond b (layoutRecord (layoutOf (r .layout))) (r .kept)) ≡ cond b (layoutOf (r .layout)) (layoutOf (r .kept))
-    go true = layout-back (layoutOf (r .layout))
-    go false = refl
-kept-stands r Restore = refl
-
-kept-listed : (r : SessionRecord) (v : Scope) → AllListed (r .kept) → AllListed (keptRecord r v)
-kept-listed r Alone h = h
-kept-listed r Keep h = go (soundB (layoutOf (r .layout)))
-  where
-    go : (b : Bool) → AllListed (cond b (layoutRecord (layoutOf (r .layout))) (r .kept))
-    go true = layout-listed (layoutOf (r .layout))
-    go false = h
-kept-listed r Restore h = h
-
-module _ {before next : SessionRecord} {line answer : List ℕ} {count : ℕ} (a : Answered before line next answer count) where
-  -- the next record stands for the next session
-  pub next-stands : sessionOf next ≡ a .stepped .session
-  next-stands =
-      let layout = ap layoutOf (a .layout) ∙ layout-back (a .stepped .session .layout) in
-      let after = kept-after (sessionOf before) (requestOf line) (a .stepped .session) (a .steps .answer) (a .steps .answers) in
-      let kept = ap layoutOf (a .kept) ∙ kept-stands before (scopeOf (requestOf line)) ∙ sym after in
-      λ i. record { layout = layout i; kept = kept i }
-
-  -- the layout's record is listed, and the kept one is where it was
-  pub next-listed : AllListed (before .kept) → AllListed (next .layout) × AllListed (next .kept)
-  next-listed k =
-      (rw (a .layout) (layout-listed (a .stepped .session .layout)), rw (a .kept) (kept-listed before (scopeOf (requestOf line)) k))
-
-  -- a session that stays, as by a refusal, leaves its record as it was
-  pub next-stays : AllListed (before .layout) → AllListed (before .kept) → a .stepped .session ≡ sessionOf before → next ≡ before
-  next-stays h k e =
-      let listed = next-listed k in
-      sym (record-back next (listed .0) (listed .1)) ∙ ap recordOf (next-stands ∙ e) ∙ record-back before h k
-
--- the record and the line decide the next record, the answer and its count
+-- THE STEP: the record and the line decide the next record, the answer and its count
 pub answered-once : {before n m : SessionRecord} {line xs ys : List ℕ} {j k : ℕ} → Answered before line n xs j → Answered before line m ys k
     → (n ≡ m) × (xs ≡ ys) × (j ≡ k)
 answered-once {before} {line = line} a b =
     let e = answers-once (sessionOf before) (requestOf line) (a .steps .answers) (b .steps .answers) in
     let said : a .steps .answer ≡ b .steps .answer = ap (λ (r : Reply). r .answer) e in
-    let layout = a .layout ∙ ap (λ (r : Reply). layoutRecord (r .session .layout)) e ∙ sym (b .layout) in
-    let kept = a .kept ∙ sym (b .kept) in (
-      λ i. record { layout = layout i; kept = kept i },
+    (
+      a .left ∙ ap (λ (r : Reply). recordAfter before (refusal (r .answer)) (scopeOf (requestOf line)) (r .session .layout)) e ∙ sym (b .left),
       a .written ∙ a .steps .padded ∙ ap held said ∙ sym (b .steps .padded) ∙ sym (b .written),
       a .counted ∙ a .steps .count ∙ ap (λ (x : Answer). length (answerLine x)) said ∙ sym (b .steps .count) ∙ sym (b .counted),
     )
+
+-- THE LIST: the record and the bytes before decide the bytes afterwards and the count
+pub handed-once : {given : LayoutRecord} {before xs ys : List ℕ} {j k : ℕ} → Handed given before xs j → Handed given before ys k
+    → (xs ≡ ys) × (j ≡ k)
+handed-once a b = (a .written ∙ sym (b .written), a .counted ∙ sym (b .counted))
+
+-- ---- refused
+
+-- A REFUSAL leaves the record as it was: no hypothesis on what it holds
+pub record-stays : {before next : SessionRecord} {line answer : List ℕ} {count : ℕ} (a : Answered before line next answer count)
+    → refusal (a .steps .answer) ≡ true → next ≡ before
+record-stays {before} {line = line} a refuses =
+    a .left ∙ ap (λ (b : Bool). recordAfter before b (scopeOf (requestOf line)) (a .stepped .session .layout)) refuses
+
+-- AN UNLISTED kind or cut in the layout's record: what looks at the layout refuses with 1, and the record is as it was
+pub unlisted-refused : {before next : SessionRecord} {line answer : List ℕ} {count : ℕ} (a : Answered before line next answer count)
+    → looksB (requestOf line) ≡ true → allListedB (before .layout .nodes) ≡ false
+    → (a .steps .answer ≡ refused (opOf (requestOf line)) NotSound) × (next ≡ before)
+unlisted-refused {before} {line = line} a looks unlisted =
+    let says = unsound-refused (sessionOf before) (requestOf line) (a .stepped .session) looks (unlisted-unsound (before .layout) unlisted) (a .steps .answers) in
+    (says, record-stays a (ap refusal says))
+
+-- or in the kept one: restore refuses with 1
+pub unlisted-kept-refused : {before next : SessionRecord} {line answer : List ℕ} {count : ℕ} (a : Answered before line next answer count)
+    → requestOf line ≡ requests.Restore → allListedB (before .kept .nodes) ≡ false
+    → (a .steps .answer ≡ refused 6 NotSound) × (next ≡ before)
+unlisted-kept-refused {before} a restores unlisted =
+    let says = unsound-kept-refused (sessionOf before) (a .stepped .session) (unlisted-unsound (before .kept) unlisted) (rw restores at (a .steps .answers)) in
+    (says, record-stays a (ap refusal says))
+
+-- and there is no list of saw cuts: nothing is written
+pub unlisted-no-list : {given : LayoutRecord} {before after : List ℕ} {count : ℕ} → Handed given before after count
+    → allListedB (given .nodes) ≡ false → (count ≡ 65535) × (after ≡ before)
+unlisted-no-list {given} h unlisted =
+    let unsound = unlisted-unsound given unlisted in
+    (h .counted ∙ rw unsound refl, h .written ∙ rw unsound refl)
+
+-- ---- what the next record stands for
+
+-- what is kept after an accepted call, as a record and as a layout
+kept-stands : (r : SessionRecord) (q : Request) (t : Session) (a : Answer) → Answers (sessionOf r) q t a → refusal a ≡ false
+    → layoutOf (keptRecord r (scopeOf q) (t .layout)) ≡ t .kept
+unfolding Answers afterKeep
+kept-stands r (requests.Open number size cut stages) t a h accepts = sym (kept-after (sessionOf r) (requests.Open number size cut stages) t a h)
+kept-stands r (requests.Offers mark part) t a h accepts = sym (kept-after (sessionOf r) (requests.Offers mark part) t a h)
+kept-stands r (requests.Insert m p f g) t a h accepts = sym (kept-after (sessionOf r) (requests.Insert m p f g) t a h)
+kept-stands r (requests.Remove m) t a h accepts = sym (kept-after (sessionOf r) (requests.Remove m) t a h)
+kept-stands r requests.Keep t a h accepts = layout-back (t .layout) ∙ go (soundB (layoutOf (r .layout))) h
+  where
+    go : (b : Bool) → reply t a ≡ keptBy (sessionOf r) b → t .layout ≡ t .kept
+    go true e = ap (λ (x : Reply). x .session .layout) e ∙ sym (ap (λ (x : Reply). x .session .kept) e)
+    go false e = absurd (clash (sym accepts ∙ ap (λ (x : Reply). refusal (x .answer)) e))
+kept-stands r requests.Restore t a h accepts = sym (kept-after (sessionOf r) requests.Restore t a h)
+kept-stands r requests.Report t a h accepts = sym (kept-after (sessionOf r) requests.Report t a h)
+kept-stands r requests.Malformed t a h accepts = sym (kept-after (sessionOf r) requests.Malformed t a h)
+
+kept-listed : (r : SessionRecord) (v : Scope) (l : Layout) → AllListed (r .kept .nodes) → AllListed (keptRecord r v l .nodes)
+kept-listed r Alone l h = h
+kept-listed r Keep l h = layout-listed l
+kept-listed r Restore l h = h
+
+module _ {before next : SessionRecord} {line answer : List ℕ} {count : ℕ} (a : Answered before line next answer count) where
+  abbrev q : Request
+  q = requestOf line
+
+  abbrev t : Session
+  t = a .stepped .session
+
+  -- the next record stands for the next session
+  pub next-stands : sessionOf next ≡ t
+  next-stands = go (refusal (a .steps .answer)) refl (a .left)
+    where
+      go : (b : Bool) → refusal (a .steps .answer) ≡ b → next ≡ recordAfter before b (scopeOf q) (t .layout) → sessionOf next ≡ t
+      go true e left = ap sessionOf left ∙ sym (refused-stays (sessionOf before) q (a .steps .answer) e (a .steps .answers))
+      go false e left =
+          let layout = layout-back (t .layout) in
+          let kept = kept-stands before q t (a .steps .answer) (a .steps .answers) e in
+          ap sessionOf left ∙ (λ i. record { layout = layout i; kept = kept i })
+
+  -- what is listed stays so
+  pub next-listed : AllListed (before .layout .nodes) → AllListed (before .kept .nodes) → AllListed (next .layout .nodes) × AllListed (next .kept .nodes)
+  next-listed h k = go (refusal (a .steps .answer)) (a .left)
+    where
+      go : (b : Bool) → next ≡ recordAfter before b (scopeOf q) (t .layout) → AllListed (next .layout .nodes) × AllListed (next .kept .nodes)
+      go true left = rw left (h, k)
+      go false left = rw left (layout-listed (t .layout), kept-listed before (scopeOf q) (t .layout) k)
+
+  -- what looks at the layout alone, and leaves the session as it was, leaves the record so: offers and report, accepted too
+  pub looked-stays : scopeOf q ≡ Alone → looksB q ≡ true → t ≡ sessionOf before → next ≡ before
+  looked-stays alone looks same = go (test (soundB (layoutOf (before .layout))))
+    where
+      go : (soundB (layoutOf (before .layout)) ≡ true) ⊎ (soundB (layoutOf (before .layout)) ≡ false) → next ≡ before
+      go (inl e) = a .left ∙ rw (alone, same, sound-stays (before .layout) e) (either (refusal (a .steps .answer)))
+        where
+          either : (b : Bool) → cond b before (record { layout = before .layout; kept = before .kept }) ≡ before
+          either true = refl
+          either false = refl
+      go (inr e) = record-stays a (ap refusal (unsound-refused (sessionOf before) q t looks e (a .steps .answers)))

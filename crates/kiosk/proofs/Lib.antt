@@ -1,4 +1,5 @@
 pub mod Stepping
-pub mod Laws
+pub mod Listed
 pub mod Refused
+pub mod Laws
 pub mod Handing

@@ -1,27 +1,73 @@
 -- A session as plain numbers, and back. Kinds and cuts are as in document 01, "Tree snapshot": "kind (0 free, 1 part, 2 structure), cut (0
--- Horizontal, 1 Vertical)". Every record is read as some session: a kind above 1 is a structure's, a cut above 0 is Vertical.
-use mathlib.Core.Bool.{cond}
+-- Horizontal, 1 Vertical)". A record with any other kind or cut, at any of its places, stands for no sound layout: it is read as zeros.
+use mathlib.Core.Bool.{Bool, cond, _&&_}
 use mathlib.Core.List.{List, map}
-use Prim.Native.Nat.{ℕ, _≤_}
-use lib.Dec.{eqb}
-use lib.ListN.{getD, replicate}
+use Prim.Native.Nat.{ℕ, _<_, _≤_}
+use lib.Dec.{eqb, leb}
+use lib.ListN.{length, getD, replicate}
 use Rattle.piece.specs.declared.node.Kind.{Kind}
 use Rattle.piece.specs.declared.node.Kind.the-variants.{Free, Part, Structure}
 use Rattle.piece.specs.declared.node.Datum.{Datum}
 use Rattle.piece.specs.Sides.{sized}
 use Rattle.tree.specs.Snapshot.{kindNo, cutNo}
 use Rattle.lists.specs.Lists.{limit, zeros}
+use Rattle.lists.specs.Search.{every}
 use Rattle.table.specs.declared.Node.{Node}
 use Rattle.frames.specs.Fields.{cutOf}
 use Rattle.layout.specs.declared.layout.Layout.{Layout}
+use Rattle.layout.specs.Zero.{zeroLayout}
 use Rattle.session.specs.declared.Session.{Session}
 use Rattle.kiosk.specs.declared.records.DatumRecord.{DatumRecord}
 use Rattle.kiosk.specs.declared.records.NodeRecord.{NodeRecord}
 use Rattle.kiosk.specs.declared.records.LayoutRecord.{LayoutRecord}
 use Rattle.kiosk.specs.declared.records.SessionRecord.{SessionRecord}
 
+-- ---- the record of zeros
+
+abbrev pub noDatum : DatumRecord
+noDatum = record { serial = 0; width = 0; height = 0; number = 0; level = 0; kind = 0; cut = 0 }
+
+abbrev pub noRecord : NodeRecord
+noRecord = record { datum = noDatum; parent = 0; first = 0; last = 0; prev = 0; next = 0 }
+
+abbrev pub noLayout : LayoutRecord
+noLayout =
+    record {
+      nodes = replicate limit noRecord;
+      free = zeros limit;
+      removable = zeros limit;
+      held = 0;
+      frees = 0;
+      removables = 0;
+      used = 0;
+      serial = 0;
+      number = 0;
+      stages = 0;
+      width = 0;
+      height = 0;
+    }
+
+abbrev pub noSession : SessionRecord
+noSession = record { layout = noLayout; kept = noLayout }
+
+-- ---- kinds and cuts that are listed, and the test of them
+
+unfoldable pub Listed : NodeRecord → Type 0
+Listed r = (r .datum .kind ≤ 2) × (r .datum .cut ≤ 1)
+
+unfoldable pub listedB : NodeRecord → Bool
+listedB r = leb (r .datum .kind) 2 && leb (r .datum .cut) 1
+
+-- at each place
+abbrev pub AllListed : List NodeRecord → Type 0
+AllListed rs = (i : ℕ) → i < length rs → Listed (getD rs i noRecord)
+
+unfoldable pub allListedB : List NodeRecord → Bool
+allListedB rs = every (λ i. listedB (getD rs i noRecord)) (length rs)
+
 -- ---- from a record
 
+-- of the kinds that are listed
 abbrev pub kindOf : ℕ → Kind
 kindOf n = cond (eqb n 0) Free (cond (eqb n 1) Part Structure)
 
@@ -50,8 +96,9 @@ nodeOf r =
 abbrev pub nodesOf : List NodeRecord → List Node
 nodesOf rs = map nodeOf rs
 
-unfoldable pub layoutOf : LayoutRecord → Layout
-layoutOf r =
+-- field by field
+unfoldable pub fieldsOf : LayoutRecord → Layout
+fieldsOf r =
     record {
       nodes = nodesOf (r .nodes);
       free = r .free;
@@ -65,6 +112,10 @@ layoutOf r =
       stages = r .stages;
       sheet = sized (r .width) (r .height);
     }
+
+-- the layout that a record stands for
+unfoldable pub layoutOf : LayoutRecord → Layout
+layoutOf r = cond (allListedB (r .nodes)) (fieldsOf r) zeroLayout
 
 abbrev pub sessionOf : SessionRecord → Session
 sessionOf r = record { layout = layoutOf (r .layout); kept = layoutOf (r .kept) }
@@ -116,39 +167,3 @@ layoutRecord l =
 
 abbrev pub recordOf : Session → SessionRecord
 recordOf s = record { layout = layoutRecord (s .layout); kept = layoutRecord (s .kept) }
-
--- ---- the record of zeros
-
-abbrev pub noDatum : DatumRecord
-noDatum = record { serial = 0; width = 0; height = 0; number = 0; level = 0; kind = 0; cut = 0 }
-
-abbrev pub noRecord : NodeRecord
-noRecord = record { datum = noDatum; parent = 0; first = 0; last = 0; prev = 0; next = 0 }
-
-abbrev pub noLayout : LayoutRecord
-noLayout =
-    record {
-      nodes = replicate limit noRecord;
-      free = zeros limit;
-      removable = zeros limit;
-      held = 0;
-      frees = 0;
-      removables = 0;
-      used = 0;
-      serial = 0;
-      number = 0;
-      stages = 0;
-      width = 0;
-      height = 0;
-    }
-
-abbrev pub noSession : SessionRecord
-noSession = record { layout = noLayout; kept = noLayout }
-
--- ---- a kind and a cut that are listed, as in every record that is written
-
-unfoldable pub Listed : NodeRecord → Type 0
-Listed r = (r .datum .kind ≤ 2) × (r .datum .cut ≤ 1)
-
-abbrev pub AllListed : LayoutRecord → Type 0
-AllListed r = (i : ℕ) → Listed (getD (r .nodes) i noRecord)

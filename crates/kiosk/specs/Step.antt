@@ -1,41 +1,40 @@
--- What the exported step does: the session that the record says takes the line, and the record, the answer and its count are what comes of it. The
--- kept layout's record stays as it is, whatever numbers it holds, except where a sound layout is kept.
+-- What the exported step does: the session that the record says takes the line, and the record, the answer and its count are what comes of it.
+-- Document 01: "Refused: number, layout as handed in". Where the answer is a refusal, the record is as it was, bit for bit, whatever numbers it holds.
 use mathlib.Core.Path.{_≡_}
-use mathlib.Core.Bool.{cond}
+use mathlib.Core.Bool.{Bool, cond}
 use mathlib.Core.List.{List}
 use Prim.Native.Nat.{ℕ}
 use Rattle.layout.specs.declared.layout.Layout.{Layout}
-use Rattle.layout.specs.Check.{soundB}
 use Rattle.frames.specs.Requests.{requestOf}
 use Rattle.session.specs.declared.Stepped.{Stepped}
 use Rattle.session.specs.declared.replies.Scope.{Scope}
 use Rattle.session.specs.declared.replies.Scope.the-variants.{Alone, Keep, Restore}
 use Rattle.session.specs.declared.replies.Said.{Said}
 use Rattle.session.specs.Session.{Steps}
-use Rattle.session.specs.Replies.{scopeOf}
+use Rattle.session.specs.Replies.{scopeOf, refusal}
 use Rattle.kiosk.specs.declared.SteppedRecord.{SteppedRecord}
 use Rattle.kiosk.specs.declared.records.LayoutRecord.{LayoutRecord}
 use Rattle.kiosk.specs.declared.records.SessionRecord.{SessionRecord}
-use Rattle.kiosk.specs.Records.{layoutOf, sessionOf, layoutRecord}
+use Rattle.kiosk.specs.Records.{sessionOf, layoutRecord}
 
--- the record of what is kept afterwards: keep alone writes it, where the layout is sound
-abbrev pub keptRecord : SessionRecord → Scope → LayoutRecord
-keptRecord r Alone = r .kept
-keptRecord r Keep = cond (soundB (layoutOf (r .layout))) (layoutRecord (layoutOf (r .layout))) (r .kept)
-keptRecord r Restore = r .kept
+-- the record of what is kept after an accepted call that leaves the layout l: keep alone writes it
+abbrev pub keptRecord : SessionRecord → Scope → Layout → LayoutRecord
+keptRecord r Alone l = r .kept
+keptRecord r Keep l = layoutRecord l
+keptRecord r Restore l = r .kept
+
+-- the record afterwards: where the answer says no, the record before; else that of the layout l, and of what is kept
+abbrev pub recordAfter : SessionRecord → Bool → Scope → Layout → SessionRecord
+recordAfter r refused v l = cond refused r (record { layout = layoutRecord l; kept = keptRecord r v l })
 
 -- from the record before, the line's characters give the record next and an answer whose first count characters are its line
 pub record Answered (before : SessionRecord) (line : List ℕ) (next : SessionRecord) (answer : List ℕ) (count : ℕ) : Type 0 where
   pub stepped : Stepped
   pub steps : Steps (sessionOf before) (requestOf line) stepped
-  pub layout : next .layout ≡ layoutRecord (stepped .session .layout)
-  pub kept : next .kept ≡ keptRecord before (scopeOf (requestOf line))
+  pub left : next ≡ recordAfter before (refusal (steps .answer)) (scopeOf (requestOf line)) (stepped .session .layout)
   pub written : answer ≡ stepped .line
   pub counted : count ≡ stepped .count
 
 -- the record s, and what is said
 abbrev pub stepTo : SessionRecord → Said → SteppedRecord
 stepTo s said = record { session = s; line = said .line; count = said .count }
-
-abbrev pub withLayout : SessionRecord → Layout → SessionRecord
-withLayout r l = record { layout = layoutRecord l; kept = r .kept }

@@ -1,7 +1,9 @@
 // The session step for programs in C and Rust: the session crosses as a record of plain numbers, in the session's own order. The kept layout is read
-// from its record by restore alone, and keep alone writes one. Rests on records.rt for the records and on `session` for the answers.
+// from its record by restore alone, and keep alone writes one; a refusal writes none. Rests on records.rt for the records and on `session` for the
+// answers.
 ghost use mathlib.Core.Path.{_≡_};
-ghost use Rattle.kiosk.specs.Step.{Answered, stepTo, withLayout};
+ghost use Rattle.session.specs.declared.replies.Scope.the-variants.{Alone};
+ghost use Rattle.kiosk.specs.Step.{Answered, stepTo, recordAfter};
 use frames::read::request;
 use records::SessionRecord;
 use records::layout_of;
@@ -38,12 +40,15 @@ fn says(session: SessionRecord, said: Said) -> SteppedRecord
     }
 }
 
-// The state with the layout of an answer, and what that says. The kept record stays.
+// The state with the layout of an answer, and what that says. The kept record stays, and where the answer is a refusal both do.
 fn told(mut given: SessionRecord, answer: Response) -> SteppedRecord
-    ensures { λ r. ⌜ r ≡ stepTo (withLayout given (answer .layout)) (answer .said) ⌝ }
+    ensures { λ r. ⌜ r ≡ stepTo (recordAfter given (answer .refused) Alone (answer .layout)) (answer .said) ⌝ }
 {
-    let layout = answer.layout;
     let said = answer.said;
+    if answer.refused {
+        return says(given, said);
+    }
+    let layout = answer.layout;
     given.layout = layout_record(layout);
     says(given, said)
 }
@@ -61,24 +66,23 @@ fn stepped(given: SessionRecord, line: &[u8]) -> SteppedRecord
         Scope::Keep => {
             let answer = keep(layout);
             let said = answer.said;
-            let next = layout_record(layout);
             if answer.sound {
                 says(
                     SessionRecord {
-                        layout: next,
-                        kept: next,
+                        layout: before,
+                        kept: before,
                     },
                     said,
                 )
             } else {
-                says(SessionRecord { layout: next, kept }, said)
+                says(given, said)
             }
         }
         Scope::Restore => told(given, restore(layout, layout_of(kept))),
     }
 }
 
-// The step on a lent session: the answer's characters are the first of `answer`, as many as the result says.
+// The step on a lent session: the answer's characters are the first of `answer`, as many as the result says. A refusal leaves the session as it was.
 #[no_mangle]
 pub extern "C" fn nickelgrove_step(
     session: &mut SessionRecord,

@@ -1,11 +1,11 @@
 // A session as plain numbers: records that a program in C or Rust can hold and lend. Each stands for the struct of its name (Datum, Node, Layout,
 // Session), field by field in its order, so that both have one layout in memory; a kind and a cut are their numbers in snapshots (document 01, "Tree
-// snapshot"). Rests on those structs.
+// snapshot"), and a record with another one is read as zeros, which aren't sound. Rests on those structs.
 ghost use mathlib.Core.Path.{_≡_};
 ghost use lib.ListN.{replicate};
 ghost use Rattle.lists.specs.Lists.{limit};
 ghost use Rattle.frames.specs.Fields.{cutOf};
-ghost use Rattle.kiosk.specs.Records.{kindOf, nodeOf, nodesOf, layoutOf, nodeRecord, nodeRecords, layoutRecord, noRecord};
+ghost use Rattle.kiosk.specs.Records.{listedB, allListedB, kindOf, nodeOf, nodesOf, fieldsOf, layoutOf, nodeRecord, nodeRecords, layoutRecord, noRecord};
 use layout::layout::Layout;
 use piece::node::Datum;
 use piece::node::Kind;
@@ -60,7 +60,30 @@ pub struct SessionRecord {
     pub kept: LayoutRecord,
 }
 
-// ---- Reading. Every record is read as some session: a kind above 1 is a structure, a cut above 0 is vertical.
+// ---- Reading.
+
+// A kind and a cut that document 01 lists.
+fn listed(given: NodeRecord) -> bool
+    ensures { λ r. ⌜ r ≡ listedB given ⌝ }
+{
+    let d = given.datum;
+    d.kind <= 2 && d.cut <= 1
+}
+
+// At each place.
+fn all_listed(records: [NodeRecord; LIMIT]) -> bool
+    ensures { λ r. ⌜ r ≡ allListedB records ⌝ }
+{
+    let mut i: usize = 0;
+    while i < LIMIT {
+        let given = records[i];
+        if !listed(given) {
+            return false;
+        }
+        i += 1;
+    }
+    true
+}
 
 fn kind_of(n: u8) -> Kind
     ensures { λ r. ⌜ r ≡ kindOf n ⌝ }
@@ -121,8 +144,9 @@ fn nodes_of(records: [NodeRecord; LIMIT]) -> [Node; LIMIT]
     nodes
 }
 
-pub fn layout_of(given: LayoutRecord) -> Layout
-    ensures { λ r. ⌜ r ≡ layoutOf given ⌝ }
+// Field by field.
+fn fields_of(given: LayoutRecord) -> Layout
+    ensures { λ r. ⌜ r ≡ fieldsOf given ⌝ }
 {
     let table = given.nodes;
     let nodes = nodes_of(table);
@@ -143,6 +167,18 @@ pub fn layout_of(given: LayoutRecord) -> Layout
             width: given.width,
             height: given.height,
         },
+    }
+}
+
+// The layout that a record stands for.
+pub fn layout_of(given: LayoutRecord) -> Layout
+    ensures { λ r. ⌜ r ≡ layoutOf given ⌝ }
+{
+    let table = given.nodes;
+    if all_listed(table) {
+        fields_of(given)
+    } else {
+        Layout::zero()
     }
 }
 

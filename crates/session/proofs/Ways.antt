@@ -169,15 +169,25 @@ module _ (s : Session) (q : Request) {v : Scope} (e : v ≡ scopeOf q) where
   scope-is : {w : Scope} → v ≡ w → q ≡ askedIn w q
   scope-is h = asked-in q ∙ ap (λ (x : Scope). askedIn x q) (sym e ∙ h)
 
+  pub replied-answers : {r : Response} → v ≡ Alone → (t : Replies (s .layout) (heard q) r) → Answers s q (withLayout s (r .layout)) (t .answer)
+  replied-answers h t = let same : heard q ≡ q = ap (λ (x : Scope). heardIn x q) (sym e ∙ h) in rw same at (t .answers (s .kept))
+
   pub replied-steps : {r : Response} → v ≡ Alone → Replies (s .layout) (heard q) r → Steps s q (stepTo (withLayout s (r .layout)) (r .said))
-  replied-steps h t = let same : heard q ≡ q = ap (λ (x : Scope). heardIn x q) (sym e ∙ h) in rw (← same) (steps (t .answers (s .kept)) (t .says))
+  replied-steps h t = steps (replied-answers h t) (t .says)
+
+  pub keep-answers : {r : Keeping} {b : Bool} → v ≡ scopes.Keep → (k : Keeps (s .layout) r) → r .sound ≡ b
+      → Answers s q (both (s .layout) (cond b (s .layout) (s .kept))) (k .answer)
+  keep-answers h k is = rw (scope-is h, sym is ∙ k .sound) (k .answers (s .kept))
 
   pub keep-steps : {r : Keeping} {b : Bool} → v ≡ scopes.Keep → Keeps (s .layout) r → r .sound ≡ b
       → Steps s q (stepTo (both (s .layout) (cond b (s .layout) (s .kept))) (r .said))
-  keep-steps h k is = rw (scope-is h, sym is ∙ k .sound) (steps (k .answers (s .kept)) (k .says))
+  keep-steps h k is = steps (keep-answers h k is) (k .says)
+
+  pub restore-answers : {r : Response} → v ≡ scopes.Restore → (t : Restores (s .layout) (s .kept) r) → Answers s q (withLayout s (r .layout)) (t .answer)
+  restore-answers h t = rw (scope-is h) (t .answers)
 
   pub restore-steps : {r : Response} → v ≡ scopes.Restore → Restores (s .layout) (s .kept) r → Steps s q (stepTo (withLayout s (r .layout)) (r .said))
-  restore-steps h t = rw (scope-is h) (steps (t .answers) (t .says))
+  restore-steps h t = steps (restore-answers h t) (t .says)
 
 pub malformed-steps : {s : Session} {r : Said} → Says malformed r → Steps s Malformed (stepTo s r)
 unfolding Answers

@@ -32,9 +32,6 @@ enum-told-2 c = search needs
 keep-requires : tie.Need-keep-requires
 keep-requires c κs = search needs
 
-layout-record-requires : tie.Need-layout-record-requires
-layout-record-requires c κs = search needs
-
 says-requires : tie.Need-says-requires
 says-requires c κs = search needs
 
@@ -64,22 +61,20 @@ returns c =
 returns-2 : tie.Need-returns-2
 returns-2 c =
     let t = c .before in
-    let n = t .before in
-    let k = n .before .before in
+    let k = t .before .before in
     let o = k .before .before .before in
     let s = begun o .args in
     rw (c .says .ensures)
-    (keep-answered (s .given) (s .line .now) (o .before .before .layout-of .ensures) (o .before .request .ensures) (o .scope-of .ensures) (n .layout-record .ensures) (k .before .enum-told2 .given .1) (k .keep .ensures) (t .if1 .taken))
+    (keep-answered (s .given) (s .line .now) (o .before .before .layout-of .ensures) (o .before .request .ensures) (o .scope-of .ensures) (k .before .enum-told2 .given .1) (k .keep .ensures) (t .if1 .taken))
 
 returns-3 : tie.Need-returns-3
 returns-3 c =
     let t = c .before in
-    let n = t .before in
-    let k = n .before .before in
+    let k = t .before .before in
     let o = k .before .before .before in
     let s = begun o .args in
     rw (c .says2 .ensures)
-    (keep-answered (s .given) (s .line .now) (o .before .before .layout-of .ensures) (o .before .request .ensures) (o .scope-of .ensures) (n .layout-record .ensures) (k .before .enum-told2 .given .1) (k .keep .ensures) (t .if1 .left))
+    (keep-answered (s .given) (s .line .now) (o .before .before .layout-of .ensures) (o .before .request .ensures) (o .scope-of .ensures) (k .before .enum-told2 .given .1) (k .keep .ensures) (t .if1 .left))
 
 returns-4 : tie.Need-returns-4
 returns-4 c =
@@ -102,7 +97,6 @@ stepped-spec =
     told-requires
     enum-told-2
     keep-requires
-    layout-record-requires
     says-requires
     says-requires-2
     enum-told-3

@@ -1,16 +1,33 @@
--- `layout_of` meets its contract. Assumes nothing.
-use mathlib.Core.Path.{refl}
+-- `layout_of` meets its contract, listed and not. Assumes nothing.
+use mathlib.Core.Path.{_≡_, sym, _∙_}
+use mathlib.Core.Bool.{true, false}
 use borrow.Author.Needs.{needs}
-use Rattle.kiosk.specs.Records.{layoutOf}
+use Rattle.kiosk.specs.Records.{allListedB, layoutOf}
 use Rattle.kiosk.proofs.records.layout_of.Statement.{statement}
 use Rattle.kiosk.proofs.records.layout_of.Tie as tie
 
-nodes-of-requires : tie.Need-nodes-of-requires
-nodes-of-requires c κs = search needs
+all-listed-requires : tie.Need-all-listed-requires
+all-listed-requires c κs = search needs
+
+fields-of-requires : tie.Need-fields-of-requires
+fields-of-requires c κs = search needs
+
+zero-requires : tie.Need-zero-requires
+zero-requires c κs = search needs
 
 returns : tie.Need-returns
 unfolding layoutOf
-returns c = rw (c .before .before .nodes-of .ensures) refl
+returns c =
+    let t = c .before in
+    let h : allListedB (t .before .before .before .args .given .nodes) ≡ true = sym (t .before .all-listed .ensures) ∙ t .if1 .taken in
+    rw h (c .fields-of .ensures)
+
+returns-2 : tie.Need-returns-2
+unfolding layoutOf
+returns-2 c =
+    let t = c .before in
+    let h : allListedB (t .before .before .before .args .given .nodes) ≡ false = sym (t .before .all-listed .ensures) ∙ t .if1 .left in
+    rw h (c .zero .ensures)
 
 pub layout-of-spec : {M : Type 1} → statement M
-layout-of-spec = tie.close (tie.spec nodes-of-requires returns)
+layout-of-spec = tie.close (tie.spec all-listed-requires fields-of-requires zero-requires returns returns-2)
