@@ -1,3 +1,4 @@
 pub mod Records
 pub mod Step
 pub mod Cuts
+pub mod Sizes

@@ -19,6 +19,7 @@ use session::replies::scope_of;
 
 pub mod cuts; // cuts.rt: the list of saw cuts
 pub mod records; // records.rt: the session as plain numbers, read and written
+pub mod sizes; // sizes.rt: the sizes of what is lent
 
 // The next state, and the answer: the first count characters of line, its newline among them; the rest is zero.
 #[repr(C)]
