@@ -1,9 +1,15 @@
 //! The calls into the archive: the only unsafe code of this crate.
 #![allow(unsafe_code)]
 
-use crate::records::{SessionRecord, LONGEST, ROOM};
+use crate::records::{SessionRecord, LONGEST, ROOM, SIZES};
 
 extern "C" {
+    /// The sizes of what is lent, as the archive has them: the most nodes of a layout, the bytes of an answer, of a list of saw cuts and of a session.
+    fn nickelgrove_limit() -> usize;
+    fn nickelgrove_longest() -> usize;
+    fn nickelgrove_room() -> usize;
+    fn nickelgrove_session_bytes() -> usize;
+
     /// `nickelgrove_step` of crates/kiosk. A lent slice crosses as its address and its length.
     fn nickelgrove_step(session: *mut SessionRecord, line: *const u8, length: usize, answer: *mut [u8; LONGEST]) -> usize;
 
@@ -11,12 +17,21 @@ extern "C" {
     fn nickelgrove_cuts(session: *const SessionRecord, list: *mut [u8; ROOM]) -> u16;
 }
 
+/// Compares the archive's sizes with this side's, and panics where one differs: an archive of another build is lent nothing.
+pub fn compare() {
+    // SAFETY: these four take nothing, return a number each and touch nothing else.
+    let theirs = unsafe { [nickelgrove_limit(), nickelgrove_longest(), nickelgrove_room(), nickelgrove_session_bytes()] };
+    for ((what, ours), theirs) in SIZES.into_iter().zip(theirs) {
+        assert!(ours == theirs, "libkiosk.a is of another build: {what} is {theirs} there, and {ours} here");
+    }
+}
+
 /// Answers a line, and gives how many characters of `answer` are the answer, its newline among them.
 pub fn step(session: &mut SessionRecord, line: &[u8], answer: &mut [u8; LONGEST]) -> usize {
     // SAFETY: the function is proved to meet its contract on every session, line and buffer, and asks nothing of them but what their types say: it
     // has no `requires`, and takes any numbers in a record. It reads and writes through these three references alone, which are valid for the call and
     // apart from each other, as Rust has it of two `&mut` and a `&`; it keeps none of them and has no state of its own. The records have the
-    // layout that it expects (records.rs).
+    // layout that it expects (records.rs), and the sizes were compared when the counter was made.
     unsafe { nickelgrove_step(session, line.as_ptr(), line.len(), answer) }
 }
 

@@ -9,6 +9,9 @@
 //! ```
 #![deny(unsafe_code)]
 
+#[cfg(test)]
+extern crate self as nickelgrove_kiosk;
+
 mod archive;
 mod cuts;
 mod records;
@@ -26,7 +29,11 @@ pub struct Counter {
 
 impl Counter {
     /// A counter with no sheet on it.
+    ///
+    /// # Panics
+    /// Where the archive is of another build, with other sizes than this crate has.
     pub fn new() -> Self {
+        archive::compare();
         Counter { session: Box::new(SessionRecord::ZERO), answer: [0; LONGEST] }
     }
 

@@ -11,10 +11,19 @@ pub const LONGEST: usize = 1035;
 /// The bytes lent for a list of saw cuts: more than any list has.
 pub const ROOM: usize = crate::cuts::BYTES * LIMIT;
 
+/// The sizes of what is lent, each by name: the archive must have the same.
+pub const SIZES: [(&str, usize); 4] = [
+    ("the most nodes of a layout", LIMIT),
+    ("the longest answer", LONGEST),
+    ("the room for a list of saw cuts", ROOM),
+    ("the size of a session", size_of::<SessionRecord>()),
+];
+
 /// Said in place of a list's bytes, where the session has no sound sheet.
 pub const NO_LIST: u16 = 65_535;
 
 #[derive(Clone, Copy)]
+#[cfg_attr(test, derive(PartialEq))]
 #[repr(C)]
 struct DatumRecord {
     serial: u32,
@@ -27,6 +36,7 @@ struct DatumRecord {
 }
 
 #[derive(Clone, Copy)]
+#[cfg_attr(test, derive(PartialEq))]
 #[repr(C)]
 struct NodeRecord {
     datum: DatumRecord,
@@ -38,6 +48,7 @@ struct NodeRecord {
 }
 
 #[derive(Clone, Copy)]
+#[cfg_attr(test, derive(PartialEq))]
 #[repr(C)]
 struct LayoutRecord {
     nodes: [NodeRecord; LIMIT],
@@ -55,6 +66,7 @@ struct LayoutRecord {
 }
 
 /// The sheet on the counter, and the kept one.
+#[cfg_attr(test, derive(Clone, PartialEq))]
 #[repr(C)]
 pub struct SessionRecord {
     layout: LayoutRecord,
@@ -110,52 +122,4 @@ laid_out!(
 laid_out!(SessionRecord, 18432, 8, layout 0, kept 9216);
 
 #[cfg(test)]
-mod tests {
-    use super::*;
-    use crate::archive;
-
-    /// The archive writes each number where this side reads it: document 01's sheet with a part on it, kept.
-    #[test]
-    fn the_archive_has_the_same_records() {
-        let (mut session, mut answer) = (SessionRecord::ZERO, [0; LONGEST]);
-        for line in ["010001000000640000003c01035a", "03000101000000020007000000280000003c0000018d", "05fb"] {
-            assert!(archive::step(&mut session, line.as_bytes(), &mut answer) > 0);
-        }
-        for layout in [&session.layout, &session.kept] {
-            let [top, part, free] = [0, 1, 2].map(|place| layout.nodes[place]);
-            let datum = |node: NodeRecord| {
-                let datum = node.datum;
-                (datum.serial, datum.width, datum.height, datum.number, datum.level, datum.kind, datum.cut)
-            };
-            let links = |node: NodeRecord| [node.parent, node.first, node.last, node.prev, node.next];
-            let none = LIMIT as u16;
-            assert_eq!((datum(top), links(top)), ((1, 100, 60, 0, 0, 2, 1), [none, 1, 2, none, none]));
-            assert_eq!((datum(part), links(part)), ((3, 40, 60, 7, 1, 1, 0), [0, none, none, none, 2]));
-            assert_eq!((datum(free), links(free)), ((4, 60, 60, 0, 1, 0, 0), [0, none, none, 1, none]));
-            assert_eq!((layout.free[0], layout.removable[0], layout.removable[1]), (2, 1, 0));
-            assert_eq!((layout.held, layout.frees, layout.removables), (3, 1, 2));
-            assert_eq!((layout.used, layout.serial, layout.number, layout.stages), (2400, 4, 1, 3));
-            assert_eq!((layout.width, layout.height), (100, 60));
-        }
-    }
-
-    /// The archive writes a list within the room of this side, and nothing behind the list; where there is none, nothing at all.
-    #[test]
-    fn the_archive_has_the_same_room() {
-        #[repr(C)]
-        struct Lent {
-            list: [u8; ROOM],
-            behind: [u8; ROOM],
-        }
-        let (mut session, mut answer) = (SessionRecord::ZERO, [0; LONGEST]);
-        let mut lent = Lent { list: [7; ROOM], behind: [7; ROOM] };
-        assert_eq!(archive::cuts(&session, &mut lent.list), NO_LIST);
-        assert_eq!((lent.list, lent.behind), ([7; ROOM], [7; ROOM]));
-        for line in ["010001000000640000003c01035a", "03000101000000020007000000280000003c0000018d"] {
-            assert!(archive::step(&mut session, line.as_bytes(), &mut answer) > 0);
-        }
-        assert_eq!(archive::cuts(&session, &mut lent.list), 9);
-        assert_eq!(lent.list[..9], [0, 0, 1, 0, 0, 0, 40, 1, 0]);
-        assert!(lent.list[9..].iter().chain(&lent.behind).all(|byte| *byte == 7));
-    }
-}
+mod tests;

@@ -37,8 +37,7 @@ pub answered-once : {before n m : SessionRecord} {line xs ys : List ℕ} {j k : 
     → (n ≡ m) × (xs ≡ ys) × (j ≡ k)
 answered-once {before} {line = line} a b =
     let e = answers-once (sessionOf before) (requestOf line) (a .steps .answers) (b .steps .answers) in
-    let said : a .steps .answer ≡ b .steps .answer = ap (λ (r : Reply). r .answer) e in
-    (
+    let said : a .steps .answer ≡ b .steps .answer = ap (λ (r : Reply). r .answer) e in (
       a .left ∙ ap (λ (r : Reply). recordAfter before (refusal (r .answer)) (scopeOf (requestOf line)) (r .session .layout)) e ∙ sym (b .left),
       a .written ∙ a .steps .padded ∙ ap held said ∙ sym (b .steps .padded) ∙ sym (b .written),
       a .counted ∙ a .steps .count ∙ ap (λ (x : Answer). length (answerLine x)) said ∙ sym (b .steps .count) ∙ sym (b .counted),

@@ -10,7 +10,9 @@ use table::LIMIT;
 
 // The bytes of the records of records.rt, as specs/Sizes.antt adds them up: a node's, a layout's up to its counts, and a layout's.
 const NODE: usize = 32;
+
 const COUNTS: usize = LIMIT * NODE + 2 * (LIMIT * 2) + 3 * 2;
+
 const LAYOUT: usize = COUNTS + (8 - COUNTS % 8) % 8 + 24;
 
 // The most nodes that a layout holds: the length of its three arrays.

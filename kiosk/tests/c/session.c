@@ -1,0 +1,124 @@
+/* The archive from a program in C, by nickelgrove.h: its sizes, document 01's session, the list of saw cuts, and refusals that leave the session as it was.
+ * kiosk/test compiles and runs it. The last line counts as cargo's does. */
+#include <stdio.h>
+#include <string.h>
+
+#include "nickelgrove.h"
+
+static const char OPEN[] = "010001000000640000003c01035a";
+static const char BOOKING[] = "03000101000000020007000000280000003c0000018d";
+static const char KEEP[] = "05fb";
+static const char RESTORE[] = "06fa";
+static const char REPORT[] = "07f9";
+
+/* What is lent, each with bytes behind it that nobody may write. */
+enum { BEHIND = 256 };
+
+static struct {
+  struct nickelgrove_session session;
+  uint8_t behind_session[BEHIND];
+  uint8_t answer[NICKELGROVE_LONGEST];
+  uint8_t behind_answer[BEHIND];
+  uint8_t list[NICKELGROVE_ROOM];
+  uint8_t behind_list[BEHIND];
+} lent;
+
+static int passed, failed;
+
+static void check(int right, const char *what) {
+  printf("test %s ... %s\n", what, right ? "ok" : "FAILED");
+  if (right) passed++;
+  else failed++;
+}
+
+static void start(void) {
+  memset(&lent, 7, sizeof lent);
+  memset(&lent.session, 0, sizeof lent.session);
+}
+
+static int all(const uint8_t *bytes, size_t count, int byte) {
+  for (size_t at = 0; at < count; at++)
+    if (bytes[at] != byte) return 0;
+  return 1;
+}
+
+static int guards_stand(void) {
+  return all(lent.behind_session, BEHIND, 7) && all(lent.behind_answer, BEHIND, 7) && all(lent.behind_list, BEHIND, 7);
+}
+
+/* Whether the line gets this answer, with its newline and then zeros. */
+static int says(const char *line, const char *answer) {
+  size_t length = strlen(answer);
+  size_t count = nickelgrove_step(&lent.session, (const uint8_t *)line, strlen(line), lent.answer);
+  return count == length + 1 && memcmp(lent.answer, answer, length) == 0 && lent.answer[length] == '\n' &&
+         all(lent.answer + count, NICKELGROVE_LONGEST - count, 0) && guards_stand();
+}
+
+/* Whether two layouts have the same numbers. */
+static int same_layout(const struct nickelgrove_layout *a, const struct nickelgrove_layout *b) {
+  for (int place = 0; place < NICKELGROVE_LIMIT; place++) {
+    const struct nickelgrove_node *n = &a->nodes[place], *m = &b->nodes[place];
+    if (n->datum.serial != m->datum.serial || n->datum.width != m->datum.width || n->datum.height != m->datum.height ||
+        n->datum.number != m->datum.number || n->datum.level != m->datum.level || n->datum.kind != m->datum.kind ||
+        n->datum.cut != m->datum.cut || n->parent != m->parent || n->first != m->first || n->last != m->last || n->prev != m->prev ||
+        n->next != m->next || a->free[place] != b->free[place] || a->removable[place] != b->removable[place])
+      return 0;
+  }
+  return a->held == b->held && a->frees == b->frees && a->removables == b->removables && a->used == b->used &&
+         a->serial == b->serial && a->number == b->number && a->stages == b->stages && a->width == b->width && a->height == b->height;
+}
+
+/* Whether the line gets this answer and the session stays as it was. */
+static int stays(const char *line, const char *answer) {
+  struct nickelgrove_session before = lent.session;
+  return says(line, answer) && same_layout(&lent.session.layout, &before.layout) && same_layout(&lent.session.kept, &before.kept);
+}
+
+static void sizes(void) {
+  check(nickelgrove_limit() == NICKELGROVE_LIMIT, "the limit");
+  check(nickelgrove_longest() == NICKELGROVE_LONGEST, "the longest answer");
+  check(nickelgrove_room() == NICKELGROVE_ROOM, "the room for a list");
+  check(nickelgrove_session_bytes() == sizeof(struct nickelgrove_session), "the size of a session");
+}
+
+static void document_01_session(void) {
+  start();
+  check(stays(REPORT, "0701f8"), "a report before an opening");
+  check(says(OPEN, "010000010100000002fb"), "the opening");
+  check(says(BOOKING, "030000010100000003000101000000030100010200000004eb"), "the booking");
+  check(stays(BOOKING, "0305f8"), "the booking again");
+  check(stays("no frame", "ff0ef3") && stays("", "ff0ef3"), "a malformed line");
+}
+
+static void list_of_cuts(void) {
+  static const uint8_t cut[] = {0, 0, 1, 0, 0, 0, 40, 1, 0};
+  start();
+  check(nickelgrove_cuts(&lent.session, lent.list) == NICKELGROVE_NO_LIST && all(lent.list, NICKELGROVE_ROOM, 7), "no list before an opening");
+  check(says(OPEN, "010000010100000002fb") && nickelgrove_cuts(&lent.session, lent.list) == 0, "an empty list");
+  check(says(BOOKING, "030000010100000003000101000000030100010200000004eb") && nickelgrove_cuts(&lent.session, lent.list) == sizeof cut &&
+            memcmp(lent.list, cut, sizeof cut) == 0 && all(lent.list + sizeof cut, NICKELGROVE_ROOM - sizeof cut, 7) && guards_stand(),
+        "a list of one cut");
+}
+
+static void unlisted(void) {
+  start();
+  says(OPEN, "010000010100000002fb");
+  check(says(KEEP, "0500fb"), "a keep");
+  lent.session.kept.nodes[1].datum.cut = 2;
+  check(stays(RESTORE, "0601f9"), "a kept layout with an unlisted cut");
+  lent.session.kept.nodes[1].datum.cut = 0;
+  lent.session.layout.nodes[1].datum.kind = 3;
+  check(stays(BOOKING, "0301fc") && stays(KEEP, "0501fa") && stays(RESTORE, "0601f9") && stays(REPORT, "0701f8"),
+        "a layout with an unlisted kind");
+  check(nickelgrove_cuts(&lent.session, lent.list) == NICKELGROVE_NO_LIST && all(lent.list, NICKELGROVE_ROOM, 7), "and its list");
+  check(says(OPEN, "010000010100000002fb") && says(RESTORE, "0600fa"), "an opening takes its place");
+}
+
+int main(void) {
+  sizes();
+  document_01_session();
+  list_of_cuts();
+  unlisted();
+  printf("test result: %s. %d passed; %d failed\n", failed ? "FAILED" : "ok", passed, failed);
+  return failed != 0;
+}
