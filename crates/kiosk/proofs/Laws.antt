@@ -61,7 +61,8 @@ pub unlisted-refused : {before next : SessionRecord} {line answer : List ℕ} {c
     → looksB (requestOf line) ≡ true → allListedB (before .layout .nodes) ≡ false
     → (a .steps .answer ≡ refused (opOf (requestOf line)) NotSound) × (next ≡ before)
 unlisted-refused {before} {line = line} a looks unlisted =
-    let says = unsound-refused (sessionOf before) (requestOf line) (a .stepped .session) looks (unlisted-unsound (before .layout) unlisted) (a .steps .answers) in
+    let unsound = unlisted-unsound (before .layout) unlisted in
+    let says = unsound-refused (sessionOf before) (requestOf line) (a .stepped .session) looks unsound (a .steps .answers) in
     (says, record-stays a (ap refusal says))
 
 -- or in the kept one: restore refuses with 1

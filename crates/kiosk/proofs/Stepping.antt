@@ -35,8 +35,9 @@ keep-refusal {l} k = ap (λ (x : Reply). refusal (x .answer)) (k .answers l) ∙
 module _ (given : SessionRecord) (line : List ℕ) {l : Layout} {q : Request} {v : Scope}
     (at : l ≡ layoutOf (given .layout)) (asks : q ≡ requestOf line) (of : v ≡ scopeOf q) where
   -- what comes of the session, what is said, and the record that is left
-  answered : (u : Session) {a : Answer} {b : Bool} {w : Scope} {r : Said} {next : SessionRecord} → Answers (sessionOf given) q u a → Says a r → b ≡ refusal a
-      → v ≡ w → next ≡ recordAfter given b w (u .layout) → Answered given line next (r .line) (r .count)
+  answered : (u : Session) {a : Answer} {b : Bool} {w : Scope} {r : Said} {next : SessionRecord}
+      → Answers (sessionOf given) q u a → Says a r → b ≡ refusal a → v ≡ w → next ≡ recordAfter given b w (u .layout)
+      → Answered given line next (r .line) (r .count)
   answered u {a} {b} {w} {r} h y is scope left =
       let same : w ≡ scopeOf (requestOf line) = sym scope ∙ of ∙ ap scopeOf asks in
       record {
@@ -49,11 +50,15 @@ module _ (given : SessionRecord) (line : List ℕ) {l : Layout} {q : Request} {v
 
   pub alone-answered : {r : Response} → v ≡ Alone → Replies l (heard q) r
       → Answered given line (recordAfter given (r .refused) Alone (r .layout)) (r .said .line) (r .said .count)
-  alone-answered {r} h t = let s = rw at at t in answered (both (r .layout) (layoutOf (given .kept))) (replied-answers (sessionOf given) q of h s) (s .says) (s .refused) h refl
+  alone-answered {r} h t =
+      let s = rw at at t in
+      answered (both (r .layout) (layoutOf (given .kept))) (replied-answers (sessionOf given) q of h s) (s .says) (s .refused) h refl
 
   pub restore-answered : {k : Layout} {r : Response} → k ≡ layoutOf (given .kept) → v ≡ Restore → Restores l k r
       → Answered given line (recordAfter given (r .refused) Alone (r .layout)) (r .said .line) (r .said .count)
-  restore-answered {k} {r} e h t = let s = rw (at, e) at t in answered (both (r .layout) (layoutOf (given .kept))) (restore-answers (sessionOf given) q of h s) (s .says) (s .refused) h refl
+  restore-answered {k} {r} e h t =
+      let s = rw (at, e) at t in
+      answered (both (r .layout) (layoutOf (given .kept))) (restore-answers (sessionOf given) q of h s) (s .says) (s .refused) h refl
 
   -- the layout is sound or not, as b says
   pub keep-answered : {r : Keeping} {b : Bool} → v ≡ Keep → Keeps l r → r .sound ≡ b

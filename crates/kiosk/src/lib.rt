@@ -67,7 +67,7 @@ fn stepped(given: SessionRecord, line: &[u8]) -> SteppedRecord
         Scope::Keep => {
             let answer = keep(layout);
             let said = answer.said;
-            if answer.sound {
+            if answer.sound { // a sound layout's record is the one that it was read from
                 says(
                     SessionRecord {
                         layout: before,
