@@ -17,10 +17,10 @@ use Rattle.piece.specs.Row.{nil, grow}
 use Rattle.piece.specs.Insertion.{blockOf, table, newNodes}
 use Rattle.tree.specs.Tree.{Tree, In, At, Distinct, count, isFree, isPart}
 use Rattle.tree.specs.Booking.{Booking, planted, block}
+use Rattle.tree.specs.ListSteps.{Names}
+use Rattle.tree.specs.Enrolment.{when, enrolled}
 use Rattle.tree.proofs.Rows.{in-eq, at-in}
 use Rattle.tree.proofs.Blocks.{block-count}
-use Rattle.register.specs.Listings.{Names}
-use Rattle.register.specs.Enrolment.{when, enrolled}
 use Rattle.register.proofs.Naming.{names-cases, names-first, names-second}
 
 -- ---- the places that a list names

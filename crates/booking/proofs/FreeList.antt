@@ -19,11 +19,11 @@ use Rattle.tree.specs.Tree.{Tree, At, count, isFree}
 use Rattle.tree.specs.Sound.{Sound}
 use Rattle.tree.specs.Booking.{Booking, planted, block, book}
 use Rattle.tree.specs.Accepted.{Fresh}
+use Rattle.tree.specs.Steps.{less}
+use Rattle.tree.specs.ListSteps.{cut, put, putAll}
+use Rattle.tree.specs.Pieces.{Pieces, piecesOf, FreeOf, FreeList, Serials}
 use Rattle.tree.proofs.Rows.{at-in}
 use Rattle.tree.proofs.Numbered.{Numbered}
-use Rattle.table.specs.Steps.{less}
-use Rattle.register.specs.Pieces.{Pieces, piecesOf, FreeOf, FreeList, Serials}
-use Rattle.register.specs.Listings.{cut, put, putAll}
 use Rattle.register.proofs.FreeSteps.{free-same, free-cut, free-put}
 use Rattle.booking.specs.declared.new_nodes.NewNode.{NewNode}
 use Rattle.booking.specs.NewNodes.{leaves, freesOf}

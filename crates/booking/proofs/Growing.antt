@@ -7,9 +7,10 @@ use native.Mathlib.Omega.{arith}
 use lib.ListN.{length, take}
 use Rattle.lists.specs.Lists.{limit}
 use Rattle.tree.specs.Tree.{isFree}
+use Rattle.tree.specs.ListSteps.{push, put, putAll}
+use Rattle.tree.specs.Enrolment.{when}
 use Rattle.register.specs.declared.listing.Listing.{Listing}
-use Rattle.register.specs.Listings.{Kept, entriesOf, listing, push, put, putAll}
-use Rattle.register.specs.Enrolment.{when}
+use Rattle.register.specs.Listings.{Kept, entriesOf, listing}
 use Rattle.register.proofs.Listed.{entries-are, kept-as, length-entries, push-length, put-length}
 use Rattle.booking.specs.declared.new_nodes.NewNode.{NewNode}
 use Rattle.booking.specs.NewNodes.{freesOf}

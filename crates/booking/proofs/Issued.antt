@@ -15,9 +15,9 @@ use Rattle.piece.specs.Insertion.{Made, blockOf, table, newNodes}
 use Rattle.tree.specs.Tree.{Tree, In, At, count}
 use Rattle.tree.specs.Sound.{Sound}
 use Rattle.tree.specs.Booking.{Booking, planted, block, book}
+use Rattle.tree.specs.Steps.{less}
+use Rattle.tree.specs.Pieces.{maxSerial, Serials}
 use Rattle.tree.proofs.Numbered.{Numbered, numbered-in}
-use Rattle.table.specs.Steps.{less}
-use Rattle.register.specs.Pieces.{maxSerial, Serials}
 use Rattle.booking.proofs.Pieces.{less-was, book-pieces}
 
 -- the nodes of a block are numbered in the order of creation

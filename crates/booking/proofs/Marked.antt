@@ -9,8 +9,8 @@ use native.Mathlib.Omega.{arith}
 use lib.ListN.{length, set, take, replicate}
 use lib.Seq.{sets}
 use Rattle.tree.specs.Tree.{isFree, isPart}
+use Rattle.tree.specs.Enrolment.{when}
 use Rattle.answers.specs.declared.Mark.{Mark}
-use Rattle.register.specs.Enrolment.{when}
 use Rattle.booking.specs.declared.new_nodes.NewNode.{NewNode}
 use Rattle.booking.specs.NewNodes.{freesOf}
 use Rattle.booking.specs.Marks.{firstMark, headMark, marksOf, newMark, newMarks, zeroMark}

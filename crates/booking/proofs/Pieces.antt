@@ -12,6 +12,7 @@ use Rattle.tree.specs.Tree.{Tree, In, At, rest}
 use Rattle.tree.specs.Sound.{Sound}
 use Rattle.tree.specs.Booking.{Booking, block, book}
 use Rattle.tree.specs.Accepted.{Fresh}
+use Rattle.tree.specs.Steps.{less}
 use Rattle.tree.proofs.Rows.{same?, in-eq, at-in, after-nil}
 use Rattle.tree.proofs.Kept.{Where, Alone, free-alone}
 use Rattle.tree.proofs.Places.{in-less, gone}
@@ -19,7 +20,6 @@ use Rattle.tree.proofs.Stays.{at-book}
 use Rattle.tree.proofs.Blocks.{block-in, block-distinct}
 use Rattle.tree.proofs.BookKept.{book-distinct}
 use Rattle.tree.proofs.Bookings.{at-unique}
-use Rattle.table.specs.Steps.{less}
 use Rattle.table.proofs.Unlink.{less-at}
 
 -- what is left of the tree is what a change to nothing leaves

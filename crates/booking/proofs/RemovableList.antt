@@ -12,15 +12,15 @@ use Rattle.tree.specs.Tree.{Tree, In, At, isFree}
 use Rattle.tree.specs.Sound.{Sound}
 use Rattle.tree.specs.Booking.{Booking, block, book}
 use Rattle.tree.specs.Accepted.{Fresh}
+use Rattle.tree.specs.Steps.{less}
+use Rattle.tree.specs.ListSteps.{Names, strike, push}
+use Rattle.tree.specs.Pieces.{Pieces, piecesOf, Holding, RemovableList}
+use Rattle.tree.specs.Family.{parentOf, childless}
+use Rattle.tree.specs.Enrolment.{enrolled, bookedList}
 use Rattle.tree.proofs.Rows.{same?, at-in}
 use Rattle.tree.proofs.Blocks.{block-distinct}
 use Rattle.tree.proofs.Bookings.{at-unique}
-use Rattle.table.specs.Steps.{less}
 use Rattle.table.proofs.Links.{in-at}
-use Rattle.register.specs.Pieces.{Pieces, piecesOf, Holding, RemovableList}
-use Rattle.register.specs.Listings.{Names, strike, push}
-use Rattle.register.specs.Family.{parentOf, childless}
-use Rattle.register.specs.Enrolment.{enrolled, bookedList}
 use Rattle.register.proofs.HoldingSteps.{holding-same, holding-push, holding-strike}
 use Rattle.booking.proofs.Pieces.{less-was, less-keeps, book-pieces, book-left, book-new, book-one, block-apart}
 use Rattle.booking.proofs.Enrolled.{Once, Solid, solid-in, enrolled-parent, enrolled-named, solid-named, enrolled-once, block-built, block-some}

@@ -13,11 +13,11 @@ use Rattle.tree.specs.Tree.{Tree, In, At, count, isFree}
 use Rattle.tree.specs.Sound.{Sound}
 use Rattle.tree.specs.Booking.{Booking, book}
 use Rattle.tree.specs.Accepted.{Fresh}
-use Rattle.table.specs.Steps.{less}
-use Rattle.register.specs.Pieces.{piecesOf, Holding, FreeList, RemovableList}
-use Rattle.register.specs.Listings.{cut}
-use Rattle.register.specs.Family.{parentOf}
-use Rattle.register.specs.Enrolment.{bookedList}
+use Rattle.tree.specs.Steps.{less}
+use Rattle.tree.specs.ListSteps.{cut}
+use Rattle.tree.specs.Pieces.{piecesOf, Holding, FreeList, RemovableList}
+use Rattle.tree.specs.Family.{parentOf}
+use Rattle.tree.specs.Enrolment.{bookedList}
 use Rattle.register.proofs.HoldingSteps.{holding-most}
 use Rattle.booking.proofs.Sums.{less-count, book-count}
 use Rattle.booking.proofs.FreeList.{cut-free}

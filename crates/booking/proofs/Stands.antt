@@ -20,20 +20,21 @@ use Rattle.piece.proofs.Blocks.{new-nodes-few}
 use Rattle.tree.specs.Tree.{Tree, In, At, count, isPart}
 use Rattle.tree.specs.Booking.{Booking, block, book}
 use Rattle.tree.specs.Accepted.{Fitting, Fresh}
+use Rattle.tree.specs.Steps.{less, Marked}
+use Rattle.tree.specs.ListSteps.{cut, putAll}
+use Rattle.tree.specs.Pieces.{piecesOf, Holding, FreeList, RemovableList, maxSerial}
+use Rattle.tree.specs.Family.{parentOf, childless, newPlace}
+use Rattle.tree.specs.Enrolment.{when, enrolled, bookedList}
 use Rattle.tree.proofs.Rows.{at-in}
 use Rattle.tree.proofs.Blocks.{block-in}
 use Rattle.tree.proofs.Laws.BookingSound.{booking-sound}
 use Rattle.table.specs.declared.Node.{Node}
 use Rattle.table.specs.Table.{at, Holds, unlink}
-use Rattle.table.specs.Steps.{less, Marked}
 use Rattle.table.proofs.Links.{datum-is}
 use Rattle.table.proofs.Steps.{free-gone}
 use Rattle.lists.specs.Lists.{limit}
 use Rattle.register.specs.declared.LayoutNodes.{LayoutNodes}
-use Rattle.register.specs.Pieces.{piecesOf, Holding, FreeList, RemovableList, maxSerial}
-use Rattle.register.specs.Listings.{areaIn, cut, entriesOf, putAll}
-use Rattle.register.specs.Family.{parentOf, childless, newPlace}
-use Rattle.register.specs.Enrolment.{when, enrolled, bookedList}
+use Rattle.register.specs.Listings.{areaIn, entriesOf}
 use Rattle.register.specs.Standing.{Stands}
 use Rattle.register.proofs.Listed.{entries-listing, kept-listing}
 use Rattle.register.proofs.Family.{parent-is, parent-low, parent-solid, parent-left, no-child, lowest-is, free-below, fresh-booking}

@@ -26,10 +26,10 @@ use Rattle.tree.specs.Sound.{Sound}
 use Rattle.tree.specs.Booking.{Booking, planted, block, book}
 use Rattle.tree.specs.Accepted.{Fitting}
 use Rattle.tree.specs.Figures.{areaOf, partArea, freeArea}
+use Rattle.tree.specs.Steps.{less}
 use Rattle.tree.proofs.Rows.{same?, at-in, after-nil}
 use Rattle.tree.proofs.Kept.{Where, Alone, free-alone}
 use Rattle.tree.proofs.Counts.{count-book}
-use Rattle.table.specs.Steps.{less}
 use Rattle.table.proofs.Kids.{pass-absent}
 
 -- ---- a sum over the pieces

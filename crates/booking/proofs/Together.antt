@@ -9,13 +9,14 @@ use Rattle.lists.specs.Lists.{limit}
 use Rattle.piece.specs.declared.size.Size.{Size}
 use Rattle.piece.specs.declared.insertion_blueprint.InsertionShape.{InsertionShape}
 use Rattle.piece.proofs.Blocks.{new-nodes-few}
+use Rattle.tree.specs.ListSteps.{cut, putAll}
 use Rattle.table.specs.declared.Node.{Node}
 use Rattle.table.specs.Table.{append, at, unlink}
 use Rattle.table.proofs.Touch.{append-length, unlink-length}
 use Rattle.walks.specs.Columns.{areasOf}
 use Rattle.register.specs.declared.listing.Listing.{Listing}
 use Rattle.register.specs.declared.LayoutNodes.{LayoutNodes}
-use Rattle.register.specs.Listings.{Kept, areaAt, areaIn, cut, entriesOf, listing, putAll}
+use Rattle.register.specs.Listings.{Kept, areaAt, areaIn, entriesOf, listing}
 use Rattle.register.proofs.Listed.{entries-are, kept-as}
 use Rattle.register.proofs.Areas.{areas-are}
 use Rattle.booking.specs.declared.new_nodes.NewNodes.{NewNodes}

@@ -8,12 +8,13 @@ use lib.ListN.{getD, length, replicate}
 use Rattle.piece.specs.declared.size.Size.{Size}
 use Rattle.piece.specs.declared.insertion_blueprint.InsertionShape.{InsertionShape}
 use Rattle.piece.specs.Insertion.{blockOf, listed, newNodes, outside}
+use Rattle.tree.specs.ListSteps.{cut, putAll, strike}
 use Rattle.table.specs.declared.Node.{Node}
 use Rattle.table.specs.Table.{at, unlink}
 use Rattle.table.specs.Unheld.{lowestFrom}
 use Rattle.lists.specs.Lists.{limit}
 use Rattle.register.specs.declared.LayoutNodes.{LayoutNodes}
-use Rattle.register.specs.Listings.{Kept, areaIn, cut, entriesOf, listing, putAll, strike}
+use Rattle.register.specs.Listings.{Kept, areaIn, entriesOf, listing}
 use Rattle.booking.specs.declared.new_nodes.NewNodes.{NewNodes}
 use Rattle.booking.specs.declared.new_nodes.Site.{Site}
 use Rattle.booking.specs.declared.book.Booked.{Booked}

@@ -13,10 +13,10 @@ use Rattle.piece.specs.declared.insertion_blueprint.InsertionNode.{InsertionNod
 use Rattle.piece.specs.Row.{nil, grow}
 use Rattle.tree.specs.Tree.{Tree, isFree, isPart}
 use Rattle.tree.specs.Booking.{Booking, plantedDatum}
+use Rattle.tree.specs.Enrolment.{when}
 use Rattle.table.specs.declared.Node.{Node}
 use Rattle.table.specs.Table.{append, zeroDatum}
 use Rattle.table.specs.Steps.{madeOf}
-use Rattle.register.specs.Enrolment.{when}
 use Rattle.booking.specs.declared.new_nodes.NewNode.{NewNode}
 use Rattle.booking.specs.declared.new_nodes.NewNodes.{NewNodes}
 use Rattle.booking.specs.declared.new_nodes.Site.{Site}

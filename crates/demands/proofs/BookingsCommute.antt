@@ -17,12 +17,12 @@ use Rattle.tree.specs.Sound.{Sound}
 use Rattle.tree.specs.Snapshot.{Same}
 use Rattle.tree.specs.Booking.{Booking, book}
 use Rattle.tree.specs.Apart.{Clear}
+use Rattle.tree.specs.Steps.{less}
+use Rattle.tree.specs.Family.{newPlace}
 use Rattle.tree.proofs.Rows.{at-in, in-eq}
 use Rattle.tree.proofs.Counts.{count-book}
 use Rattle.tree.proofs.Laws.BookingsCommute.{bookings-commute}
 use Rattle.tree.proofs.Laws.UntouchedByBooking.{untouched-by-booking}
-use Rattle.table.specs.Steps.{less}
-use Rattle.register.specs.Family.{newPlace}
 use Rattle.register.proofs.Family.{less-other, new-place-absent}
 use Rattle.booking.proofs.Pieces.{less-was, book-pieces}
 use Rattle.booking.proofs.Issued.{newer}

@@ -18,12 +18,12 @@ use Rattle.tree.specs.Tree.{Tree, In, At}
 use Rattle.tree.specs.Booking.{Booking}
 use Rattle.tree.specs.Removal.{cleared}
 use Rattle.tree.specs.Accepted.{Fresh}
+use Rattle.tree.specs.Steps.{less}
+use Rattle.tree.specs.Family.{parentOf}
 use Rattle.tree.proofs.Bookings.{at-unique}
 use Rattle.table.specs.declared.Node.{Node}
 use Rattle.table.specs.Table.{zeroDatum, zeroNode}
-use Rattle.table.specs.Steps.{less}
 use Rattle.table.proofs.Removal.{cleared-at}
-use Rattle.register.specs.Family.{parentOf}
 use Rattle.register.proofs.Family.{fresh-removal}
 use Rattle.booking.proofs.Pieces.{less-was, book-pieces}
 use Rattle.booking.proofs.Issued.{newer}

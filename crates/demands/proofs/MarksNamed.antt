@@ -26,9 +26,9 @@ use Rattle.piece.proofs.Padded.{padded-whole}
 use Rattle.tree.specs.Tree.{Tree, At, isFree, isPart}
 use Rattle.tree.specs.Open.{firstFree}
 use Rattle.tree.specs.Booking.{Booking, planted, block}
-use Rattle.table.specs.Steps.{less}
+use Rattle.tree.specs.Steps.{less}
+use Rattle.tree.specs.Family.{newPlace}
 use Rattle.lists.proofs.Scan.{clash}
-use Rattle.register.specs.Family.{newPlace}
 use Rattle.booking.specs.declared.marks.NewMarks.{NewMarks}
 use Rattle.booking.specs.Marks.{blockMarks, headMark, marksIn, zeroMark}
 use Rattle.booking.proofs.Pieces.{book-new}

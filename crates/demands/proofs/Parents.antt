@@ -15,16 +15,16 @@ use Rattle.tree.specs.Sound.{Sound}
 use Rattle.tree.specs.Booking.{Booking, block, booked, book}
 use Rattle.tree.specs.Removal.{withoutLast, settled, remove, left, cleared}
 use Rattle.tree.specs.Accepted.{Fresh}
+use Rattle.tree.specs.Steps.{less}
+use Rattle.tree.specs.Family.{holds, parentIn, parentOf}
 use Rattle.tree.proofs.Rows.{same?, in-eq, at-in, in-first, in-second}
 use Rattle.tree.proofs.Places.{in-less}
 use Rattle.tree.proofs.BookKept.{book-distinct}
 use Rattle.tree.proofs.RemoveKept.{in-left, remove-distinct}
 use Rattle.tree.proofs.Stays.{at-remove}
-use Rattle.table.specs.Steps.{less}
 use Rattle.table.proofs.Kids.{after-apart}
 use Rattle.table.proofs.Links.{in-at}
 use Rattle.table.proofs.Removal.{cleared-at}
-use Rattle.register.specs.Family.{holds, parentIn, parentOf}
 use Rattle.lists.proofs.Scan.{clash}
 use Rattle.register.proofs.Family.{holds-in, in-holds, absent-holds}
 use Rattle.booking.proofs.Pieces.{less-was, book-left}

@@ -24,15 +24,15 @@ use Rattle.tree.specs.Sound.{Sided, maxNumber, maxSide}
 use Rattle.tree.specs.Booking.{Booking, block, book}
 use Rattle.tree.specs.Accepted.{Fitting}
 use Rattle.tree.specs.Figures.{partArea}
+use Rattle.tree.specs.Steps.{less}
+use Rattle.tree.specs.Family.{parentOf, childless}
+use Rattle.tree.specs.Enrolment.{bookedList}
 use Rattle.tree.proofs.Blocks.{deep, offered-deep}
 use Rattle.tree.proofs.Levels.{level-low}
 use Rattle.tree.proofs.Usage.{sheet-small}
 use Rattle.tree.proofs.Laws.AreaConserved.{area-conserved}
-use Rattle.table.specs.Steps.{less}
 use Rattle.lists.proofs.Scan.{and-left, and-right}
 use Rattle.register.specs.declared.LayoutNodes.{LayoutNodes}
-use Rattle.register.specs.Family.{parentOf, childless}
-use Rattle.register.specs.Enrolment.{bookedList}
 use Rattle.register.specs.Standing.{Stands}
 use Rattle.booking.specs.declared.book.Booked.{Booked}
 use Rattle.booking.specs.declared.marks.NewMarks.{NewMarks}

@@ -9,8 +9,8 @@ use Rattle.piece.specs.declared.node.Datum.{Datum}
 use Rattle.piece.specs.declared.node.Kind.the-variants.{Free}
 use Rattle.tree.specs.Tree.{isFree}
 use Rattle.tree.specs.Sound.{Domain, Sound}
+use Rattle.tree.specs.Steps.{Marked}
 use Rattle.table.specs.Table.{zeroNode, Holds}
-use Rattle.table.specs.Steps.{Marked}
 use Rattle.sound.specs.Columns.{columnsOf, firstsOf, nextsOf, serialsOf}
 use Rattle.sound.specs.Hung.{hungB}
 use Rattle.sound.proofs.Says.{Says, clash, worded, and-says}

@@ -15,10 +15,10 @@ use Rattle.piece.specs.declared.node.Kind.the-variants.{Free, Part, Structure}
 use Rattle.piece.specs.Sides.{area}
 use Rattle.tree.specs.Tree.{Tree, At, isFree}
 use Rattle.tree.specs.Snapshot.{kindNo}
+use Rattle.tree.specs.Steps.{Marked}
 use Rattle.tree.proofs.Rows.{in?, at-in}
 use Rattle.table.specs.declared.Node.{Node}
 use Rattle.table.specs.Table.{at, Held, Holds}
-use Rattle.table.specs.Steps.{Marked}
 use Rattle.table.proofs.Rep.{bound}
 use Rattle.table.proofs.Links.{datum-is}
 use Rattle.lists.specs.Search.{zeroTail}

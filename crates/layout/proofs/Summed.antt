@@ -11,10 +11,10 @@ use Rattle.piece.specs.declared.node.Datum.{Datum}
 use Rattle.tree.specs.Tree.{Tree, At, count}
 use Rattle.tree.specs.Sound.{maxSide, maxStages, Domain}
 use Rattle.tree.specs.Figures.{partArea}
+use Rattle.tree.specs.Steps.{Marked}
 use Rattle.tree.proofs.Rows.{same?}
 use Rattle.table.specs.declared.Node.{Node}
 use Rattle.table.specs.Table.{at, Holds}
-use Rattle.table.specs.Steps.{Marked}
 use Rattle.lists.specs.Search.{differ}
 use Rattle.lists.proofs.Found.{differ-at, differ-all}
 use Rattle.sound.specs.Columns.{columnsOf, serialsOf}

@@ -11,16 +11,17 @@ use Rattle.piece.specs.declared.node.Kind.the-variants.{Free, Part, Structure}
 use Rattle.piece.specs.Row.{nil, grow}
 use Rattle.tree.specs.Tree.{Tree, In, count, isPart}
 use Rattle.tree.specs.Removal.{cleared, remove, subtree}
+use Rattle.tree.specs.Steps.{leaving}
+use Rattle.tree.specs.Enrolment.{removedList}
 use Rattle.tree.proofs.Rows.{at-in}
 use Rattle.table.specs.Table.{at}
-use Rattle.table.specs.Steps.{going, freeLastPlace, leaving}
+use Rattle.table.specs.Steps.{going, freeLastPlace}
 use Rattle.table.proofs.Removal.{subtree-is}
 use Rattle.walks.specs.Along.{entries, numbersAlong, parts, PartsEnd}
 use Rattle.walks.proofs.Meaning.{length-order}
 use Rattle.walks.proofs.Along.{each-subtree, sound-ends, length-numbers, parts-most}
 use Rattle.register.specs.Listings.{entriesOf}
 use Rattle.register.specs.Standing.{Stands}
-use Rattle.register.specs.Enrolment.{removedList}
 use Rattle.register.proofs.Family.{parent-cleared}
 use Rattle.removal.specs.declared.going.Going.{Going}
 use Rattle.removal.specs.declared.remove.Cleared.{Cleared}

@@ -6,13 +6,13 @@ use lib.Dec.{eqb, leb}
 use Rattle.piece.specs.declared.size.Size.{Size}
 use Rattle.tree.specs.Tree.{Tree}
 use Rattle.tree.specs.Sound.{maxSide, maxStages}
+pub use Rattle.tree.specs.Pieces.{maxSerial}
 use Rattle.table.specs.Table.{at}
 use Rattle.table.specs.Build.{treeOf}
 -- the most nodes that a layout holds is the number of entries of a list
 pub use Rattle.lists.specs.Lists.{limit}
 use Rattle.lists.specs.Search.{differ, zeroTail}
 use Rattle.lists.specs.Flags.{okB, flagsOf}
-pub use Rattle.register.specs.Pieces.{maxSerial}
 use Rattle.sound.specs.declared.columns.Columns.{Columns}
 use Rattle.sound.specs.Columns.{columnsOf}
 use Rattle.sound.specs.Places.{placesB, topB}

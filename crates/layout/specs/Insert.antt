@@ -14,11 +14,11 @@ use Rattle.piece.specs.Offers.{turned}
 use Rattle.piece.specs.declared.node.Kind.the-variants.{Free}
 use Rattle.tree.specs.Tree.{At}
 use Rattle.tree.specs.Booking.{Booking, block, book}
+use Rattle.tree.specs.Steps.{less}
+use Rattle.tree.specs.Pieces.{maxSerial}
+use Rattle.tree.specs.Family.{newPlace}
+use Rattle.tree.specs.Enrolment.{bookedList}
 use Rattle.table.specs.Table.{at}
-use Rattle.table.specs.Steps.{less}
-use Rattle.register.specs.Pieces.{maxSerial}
-use Rattle.register.specs.Family.{newPlace}
-use Rattle.register.specs.Enrolment.{bookedList}
 use Rattle.booking.specs.Marks.{blockMarks, zeroMarks}
 use Rattle.booking.specs.Offered.{offeredB}
 use Rattle.answers.specs.declared.Mark.{Mark}

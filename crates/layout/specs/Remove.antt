@@ -12,12 +12,12 @@ use Rattle.piece.specs.declared.node.Datum.{Datum}
 use Rattle.tree.specs.Tree.{isFree}
 use Rattle.tree.specs.Removal.{cleared, remove, removed}
 use Rattle.tree.specs.Apart.{Removable}
+use Rattle.tree.specs.Pieces.{maxSerial}
+use Rattle.tree.specs.Family.{newPlace}
+use Rattle.tree.specs.Enrolment.{removedList}
 use Rattle.walks.specs.Along.{Placed}
 use Rattle.removal.specs.declared.going.Going.{Going}
 use Rattle.removal.specs.Going.{goingOf, places}
-use Rattle.register.specs.Pieces.{maxSerial}
-use Rattle.register.specs.Family.{newPlace}
-use Rattle.register.specs.Enrolment.{removedList}
 use Rattle.booking.specs.Marks.{zeroMark}
 use Rattle.answers.specs.declared.Mark.{Mark}
 use Rattle.answers.specs.declared.Refusal.{Refusal}

@@ -6,8 +6,8 @@ use lib.ListN.{length, take, drop, replicate}
 use Rattle.tree.specs.Tree.{count}
 use Rattle.tree.specs.Sound.{Sound}
 use Rattle.tree.specs.Figures.{partArea}
+pub use Rattle.tree.specs.Pieces.{Pieces, piecesOf, Before, Holding, FreeList, RemovableList, Serials}
 use Rattle.table.specs.Table.{Holds}
-pub use Rattle.register.specs.Pieces.{Pieces, piecesOf, Before, Holding, FreeList, RemovableList, Serials}
 use Rattle.layout.specs.declared.layout.Layout.{Layout}
 use Rattle.layout.specs.Check.{limit, tree}
 

@@ -25,13 +25,14 @@ use Rattle.tree.specs.Booking.{Booking}
 use Rattle.tree.specs.Removal.{withoutLast, settled, cleared}
 use Rattle.tree.specs.Accepted.{Fresh}
 use Rattle.tree.specs.Apart.{Removable}
+use Rattle.tree.specs.Steps.{less, Kids, Marked}
+use Rattle.tree.specs.Family.{holds, parentIn, parentOf, childless, unheldFrom, newPlace}
 use Rattle.tree.proofs.Rows.{same?, in-eq, in?, at-in, in-after, in-first, in-second, count-after}
 use Rattle.tree.proofs.Kept.{Alone, only, not-top, free-alone}
 use Rattle.tree.proofs.RemoveKept.{settled-count}
 use Rattle.tree.proofs.Bookings.{at-unique}
 use Rattle.table.specs.declared.Node.{Node}
 use Rattle.table.specs.Table.{at, head, Rep, Holds}
-use Rattle.table.specs.Steps.{less, Kids, Marked}
 use Rattle.table.specs.Unheld.{isUnheld, lowestFrom}
 use Rattle.table.proofs.Kids.{kids-of, kids-in, kids-under, kids-distinct, kids-self, after-apart, Spot, spot-in}
 use Rattle.table.proofs.Kids.{put, put-new, in-put, put-kids, put-count}
@@ -41,7 +42,6 @@ use Rattle.table.proofs.Unlink.{less-put, less-kids, less-at}
 use Rattle.table.proofs.Removal.{cleared-put, cleared-at}
 use Rattle.table.proofs.Pigeon.{low, low-most, low-more, low-filled}
 use Rattle.table.proofs.Steps as steps
-use Rattle.register.specs.Family.{holds, parentIn, parentOf, childless, unheldFrom, newPlace}
 
 -- ---- the places of a row
 

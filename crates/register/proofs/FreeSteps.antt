@@ -10,10 +10,10 @@ use lib.ListN.{getD, length}
 use Rattle.piece.specs.declared.node.Datum.{Datum}
 use Rattle.piece.specs.declared.node.Kind.the-variants.{Free}
 use Rattle.piece.specs.Sides.{area}
-use Rattle.register.specs.Pieces.{Pieces, Before, Holding, FreeOf}
-use Rattle.register.specs.Listings.{cut, cutAll, berth, put, Names}
-use Rattle.register.proofs.ListSteps.{Orderly, same-orderly, cut-orderly}
-use Rattle.register.proofs.ListSteps.{Up, down-of, up-side, up-order, Wider, down-in, berth-most, berth-holds, berth-before, put-wider}
+use Rattle.tree.specs.ListSteps.{cut, cutAll, berth, put, Names}
+use Rattle.tree.specs.Pieces.{Pieces, Before, Holding, FreeOf}
+use Rattle.tree.proofs.ListSteps.{Orderly, same-orderly, cut-orderly}
+use Rattle.tree.proofs.ListSteps.{Up, down-of, up-side, up-order, Wider, down-in, berth-most, berth-holds, berth-before, put-wider}
 use Rattle.register.proofs.HoldingSteps.{holding-same, holding-cut, holding-apart, holding-wider}
 
 abbrev IsFree : Datum → Type 0

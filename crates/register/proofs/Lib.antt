@@ -1,4 +1,3 @@
-pub mod ListSteps
 pub mod HoldingSteps
 pub mod FreeSteps
 pub mod Listed
@@ -7,4 +6,3 @@ pub mod Naming
 pub mod Lookup
 pub mod OnePass
 pub mod Family
-pub mod Worked

@@ -1,4 +1,4 @@
--- A list of places as the code holds it: what `Kept` says of it, and each step on its array as the step on its entries (specs/Listings.antt).
+-- A list of places as the code holds it: what `Kept` says of it, and each step on its array as the step on its entries (specs/ListSteps.antt of crate `tree`).
 -- It rests on what `lists` says of padded lists and of searches. Assumes nothing.
 use mathlib.Core.Path.{_≡_, refl, sym, ap, _∙_}
 use mathlib.Core.List.{List, [], _∷_, _++_, append-nil}
@@ -12,6 +12,7 @@ use lib.Dec.{ltb}
 use lib.ListN.{getD, set, length, length-append, drop-of-length-le}
 use lib.Seq.{take-all}
 use borrow.Author.Tests.{lt-ltb, le-ltb}
+use Rattle.tree.specs.ListSteps.{spot, cut, strike, push, berth, put, cutAll, strikeAll, putAll}
 use Rattle.lists.specs.Lists.{limit, padded, putIn, takeOut, swapOut, swapped}
 use Rattle.lists.specs.Search.{firstFrom, indexOf}
 use Rattle.lists.proofs.Scan.{first-most}
@@ -20,7 +21,6 @@ use Rattle.lists.proofs.Padded.{getD-padded, take-padded, put-in-length, put-in
 use Rattle.lists.proofs.Padded.{swapped-length, swap-out-padded, append-padded}
 use Rattle.walks.specs.Along.{entries}
 use Rattle.register.specs.declared.listing.Listing.{Listing}
-use Rattle.register.specs.Listings.{spot, cut, strike, push, berth, put, cutAll, strikeAll, putAll}
 use Rattle.register.specs.Listings.{listing, entriesOf, Kept}
 
 -- ---- a list that is held so

@@ -9,13 +9,14 @@ use native.Mathlib.Decide.{ℕ-discrete, decLt}
 use borrow.Author.Tests.{eq-eqb, ne-eqb}
 use lib.ListN.{getD, set, length, replicate, length-set, length-replicate, getD-replicate}
 use lib.Seq.{ext-getD, getD-set-same, getD-set-other}
+use Rattle.tree.specs.ListSteps.{strikeAll}
 use Rattle.lists.specs.Lists.{limit, swapOut}
 use Rattle.lists.specs.Search.{firstFrom, standsAt, indexOf}
 use Rattle.lists.proofs.Found.{index-most, index-holds, index-found}
 use Rattle.lists.proofs.Named.{length-column, getD-column}
 use Rattle.lists.proofs.Padded.{length-padded}
 use Rattle.register.specs.declared.listing.Listing.{Listing}
-use Rattle.register.specs.Listings.{Kept, entriesOf, strikeAll}
+use Rattle.register.specs.Listings.{Kept, entriesOf}
 use Rattle.register.specs.Spots.{Single, Spotted, spotsOf}
 use Rattle.register.proofs.Listed.{getD-entries, length-entries, padded-entries, room-entries, strike-none, strike-one}
 use Rattle.register.proofs.Listed.{strike-each, Left, left-start, left-more}

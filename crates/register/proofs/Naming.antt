@@ -6,8 +6,8 @@ use Prim.Native.Nat.{ℕ, zero, suc, _<_}
 use native.Mathlib.Omega.{arith}
 use native.Mathlib.Decide.{ℕ-discrete}
 use lib.ListN.{getD}
+use Rattle.tree.specs.ListSteps.{Names}
 use Rattle.walks.specs.Along.{entries}
-use Rattle.register.specs.Listings.{Names}
 
 module _ (i : ℕ) where
   pub names-cases : (xs ys : List ℕ) → Names i (xs ++ ys) → Names i xs ⊎ Names i ys

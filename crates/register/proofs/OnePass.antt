@@ -10,14 +10,15 @@ use native.Mathlib.Decide.{decLt}
 use lib.ListN.{getD, set, length, take, drop, replicate, length-append, drop-of-length-le, List·getD-append}
 use lib.Seq.{take-suc, take-all, take-append-le, drop-append-le, getD-append-seam, getD-take, length-take-le}
 use Rattle.tree.proofs.Rows.{same?}
+use Rattle.tree.specs.ListSteps.{Names, cut, cutAll, push, spot}
+use Rattle.tree.proofs.ListSteps.{Absent, spot-case, cut-absent, cut-fewer}
 use Rattle.lists.specs.Lists.{limit, padded}
 use Rattle.lists.specs.Search.{indexOf}
 use Rattle.lists.proofs.Found.{index-before, index-found, index-holds}
 use Rattle.walks.specs.Along.{entries}
 use Rattle.register.specs.declared.listing.Listing.{Listing}
-use Rattle.register.specs.Listings.{Kept, Names, cut, cutAll, entriesOf, listing, push, spot}
+use Rattle.register.specs.Listings.{Kept, entriesOf, listing}
 use Rattle.register.specs.Spots.{Single, spotsOf}
-use Rattle.register.proofs.ListSteps.{Absent, spot-case, cut-absent, cut-fewer}
 use Rattle.register.proofs.Listed.{cut-each, all-length-most, entries-are, getD-entries, kept-as, length-entries, push-one}
 use Rattle.register.proofs.Naming.{named, unnamed}
 use Rattle.register.proofs.Lookup.{spots-at}

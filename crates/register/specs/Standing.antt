@@ -4,10 +4,10 @@ use Prim.Native.Nat.{ℕ}
 use Rattle.piece.specs.declared.size.Size.{Size}
 use Rattle.tree.specs.Tree.{Tree}
 use Rattle.tree.specs.Sound.{Sound}
+use Rattle.tree.specs.Pieces.{FreeList, RemovableList, Serials}
 use Rattle.table.specs.Table.{Holds}
 use Rattle.lists.specs.Lists.{limit}
 use Rattle.register.specs.declared.LayoutNodes.{LayoutNodes}
-use Rattle.register.specs.Pieces.{FreeList, RemovableList, Serials}
 use Rattle.register.specs.Listings.{Kept, entriesOf}
 
 -- the tree is w and the last serial issued is last

@@ -1,12 +1,13 @@
 // A list of places: the entries that count, and zeros behind them.
 ghost use mathlib.Core.Path.{_≡_};
 ghost use Prim.Native.Nat.{_<_, _≤_};
+ghost use Rattle.tree.specs.ListSteps as spec;
+ghost use Rattle.tree.specs.ListSteps.{berth, cutAll, strikeAll};
 ghost use Rattle.lists.specs.Lists.{limit};
 ghost use Rattle.walks.specs.Along.{entries};
 ghost use Rattle.walks.specs.Columns.{areasOf};
-ghost use Rattle.register.specs.Listings as spec;
 ghost use Rattle.register.specs.Spots.{Single};
-ghost use Rattle.register.specs.Listings.{Kept, areaAt, berth, cutAll, entriesOf, listing, strikeAll};
+ghost use Rattle.register.specs.Listings.{Kept, areaAt, entriesOf, listing};
 use crate::spots::spot_in;
 use crate::spots::spots_of;
 use lists::LIMIT;

@@ -11,6 +11,8 @@ use Rattle.tree.specs.Tree.{Tree, In, At, Distinct}
 use Rattle.tree.specs.Sound.{Sound}
 use Rattle.tree.specs.Removal.{remove, cleared}
 use Rattle.tree.specs.Apart.{Removable}
+use Rattle.tree.specs.ListSteps.{cutAll, put}
+use Rattle.tree.specs.Pieces.{piecesOf, FreeList, Serials}
 use Rattle.tree.proofs.Rows.{at-in}
 use Rattle.tree.proofs.Bookings.{at-unique}
 use Rattle.tree.proofs.RemoveKept.{remove-distinct}
@@ -20,8 +22,6 @@ use Rattle.table.specs.Table.{Holds}
 use Rattle.table.specs.Steps.{going}
 use Rattle.table.proofs.Removal.{cleared-at}
 use Rattle.table.proofs.Steps.{clear-sound}
-use Rattle.register.specs.Pieces.{piecesOf, FreeList, Serials}
-use Rattle.register.specs.Listings.{cutAll, put}
 use Rattle.register.proofs.FreeSteps.{free-cut-all, free-put}
 use Rattle.removal.specs.Remove.{newFree}
 use Rattle.removal.proofs.Pieces.{cleared-was, cleared-stays, new-there, remove-pieces}

@@ -15,13 +15,14 @@ use Rattle.piece.specs.Row.{nil, grow}
 use Rattle.lists.specs.Lists as lists
 use Rattle.tree.specs.Tree.{Tree, In, count}
 use Rattle.tree.specs.Removal.{subtree}
+use Rattle.tree.specs.Steps.{leaving}
+use Rattle.tree.specs.ListSteps.{Names}
 use Rattle.tree.proofs.Rows.{same?}
 use Rattle.table.specs.declared.Node.{Node}
 use Rattle.table.specs.Table.{zeroNode, withFirst, withLast, withNext, withPrev, at, joinBefore, joinAfter, unlink, Rep, Holds}
-use Rattle.table.specs.Steps.{leaving, going}
+use Rattle.table.specs.Steps.{going}
 use Rattle.walks.specs.Order.{childrenFirst}
 use Rattle.walks.proofs.Meaning.{order-subtree}
-use Rattle.register.specs.Listings.{Names}
 use Rattle.removal.specs.Going.{goingOf, Goes}
 
 -- ---- the walk

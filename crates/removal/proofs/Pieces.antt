@@ -13,6 +13,8 @@ use Rattle.tree.specs.Tree.{Tree, In, At, Distinct, isFree, isNil, after}
 use Rattle.tree.specs.Sound.{Sound}
 use Rattle.tree.specs.Removal.{freed, board, lastFree, withoutLast, settled, remove, cleared}
 use Rattle.tree.specs.Apart.{Removable}
+use Rattle.tree.specs.Steps.{Kids, leaving}
+use Rattle.tree.specs.ListSteps.{Names}
 use Rattle.tree.proofs.Rows.{in?, in-eq, at-in, in-after, in-first, in-second}
 use Rattle.tree.proofs.Bookings.{at-unique}
 use Rattle.tree.proofs.RemoveKept.{in-left, remove-distinct}
@@ -20,12 +22,11 @@ use Rattle.tree.proofs.Counts.{in-remove}
 use Rattle.tree.proofs.Stays.{at-remove}
 use Rattle.table.specs.declared.Node.{Node}
 use Rattle.table.specs.Table.{at, last, Holds}
-use Rattle.table.specs.Steps.{Kids, leaving, going}
+use Rattle.table.specs.Steps.{going}
 use Rattle.table.proofs.Kids.{kids-under, kids-distinct, after-apart, after-second, put, put-in, in-put, put-new, put-kids}
 use Rattle.table.proofs.Links.{in-at}
 use Rattle.table.proofs.Rep.{last-cases, last-after, bound, shows}
 use Rattle.table.proofs.Removal.{freeEnd, FreeLeaves, cleared-at}
-use Rattle.register.specs.Listings.{Names}
 use Rattle.register.proofs.Naming.{names-cases, names-first, names-second}
 use Rattle.removal.specs.Going.{Goes}
 use Rattle.removal.specs.Remove.{newFree}

@@ -14,21 +14,22 @@ use Rattle.tree.specs.Tree.{Tree, In, At, isFree}
 use Rattle.tree.specs.Sound.{Sound}
 use Rattle.tree.specs.Removal.{remove, cleared, subtree}
 use Rattle.tree.specs.Apart.{Removable}
+use Rattle.tree.specs.Steps.{leaving}
+use Rattle.tree.specs.ListSteps.{Names, strike, strikeAll, push}
+use Rattle.tree.specs.Pieces.{Pieces, SolidOf, piecesOf, RemovableList}
+use Rattle.tree.specs.Family.{parentOf, childless}
+use Rattle.tree.specs.Enrolment.{removedList}
+use Rattle.tree.proofs.ListSteps.{Absent, strike-absent}
 use Rattle.tree.proofs.Rows.{same?, at-in}
 use Rattle.tree.proofs.Bookings.{at-unique}
 use Rattle.tree.proofs.RemoveKept.{remove-distinct}
 use Rattle.tree.proofs.Stays.{at-remove}
 use Rattle.table.specs.declared.Node.{Node}
 use Rattle.table.specs.Table.{at, Holds}
-use Rattle.table.specs.Steps.{leaving, freeLast, freeLastPlace, going, unlinkAll}
+use Rattle.table.specs.Steps.{freeLast, freeLastPlace, going, unlinkAll}
 use Rattle.table.proofs.Links.{in-at, datum-is}
 use Rattle.table.proofs.Steps.{clear-sound}
-use Rattle.register.specs.Pieces.{Pieces, SolidOf, piecesOf, RemovableList}
-use Rattle.register.specs.Listings.{Names, strike, strikeAll, push}
-use Rattle.register.specs.Family.{parentOf, childless}
-use Rattle.register.specs.Enrolment.{removedList}
 use Rattle.register.proofs.Family.{parent-is, parent-held, parent-solid, parent-cleared-at, no-child}
-use Rattle.register.proofs.ListSteps.{Absent, strike-absent}
 use Rattle.register.proofs.HoldingSteps.{holding-same, holding-strike, holding-strike-all, holding-push}
 use Rattle.removal.specs.Remove.{newFree, returned}
 use Rattle.removal.proofs.Pieces.{cleared-was, cleared-stays, remove-pieces}

@@ -14,6 +14,9 @@ use Rattle.tree.specs.Tree.{Tree, At, count}
 use Rattle.tree.specs.Sound.{Sound}
 use Rattle.tree.specs.Removal.{remove, cleared}
 use Rattle.tree.specs.Apart.{Removable}
+use Rattle.tree.specs.ListSteps.{cutAll, strikeAll}
+use Rattle.tree.specs.Pieces.{FreeList, RemovableList}
+use Rattle.tree.specs.Family.{newPlace}
 use Rattle.tree.proofs.Rows.{at-in}
 use Rattle.tree.proofs.Read.{Small, Readable, sound-readable}
 use Rattle.tree.proofs.Laws.RemovalSound.{removal-sound}
@@ -23,9 +26,6 @@ use Rattle.table.specs.Steps.{going, unlinkAll}
 use Rattle.table.specs.Unheld.{lowestFrom}
 use Rattle.table.proofs.Steps.{clear-sound}
 use Rattle.table.proofs.Unheld.{lowest-room}
-use Rattle.register.specs.Pieces.{FreeList, RemovableList}
-use Rattle.register.specs.Listings.{cutAll, strikeAll}
-use Rattle.register.specs.Family.{newPlace}
 use Rattle.register.proofs.HoldingSteps.{holding-most}
 use Rattle.register.proofs.Family.{cleared-count, fresh-removal}
 use Rattle.removal.specs.Remove.{newFree}

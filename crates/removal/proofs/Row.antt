@@ -12,9 +12,10 @@ use Rattle.tree.specs.Tree.{Tree, isFree, isNil, after}
 use Rattle.tree.specs.Sound.{Sound}
 use Rattle.tree.specs.Removal.{freed, board, lastFree, withoutLast, settled, remove, cleared}
 use Rattle.tree.specs.Apart.{Removable}
+use Rattle.tree.specs.Steps.{Kids, leaving}
 use Rattle.table.specs.declared.Node.{Node}
 use Rattle.table.specs.Table.{at, Holds}
-use Rattle.table.specs.Steps.{Kids, leaving, going, freeLastDatum}
+use Rattle.table.specs.Steps.{going, freeLastDatum}
 use Rattle.table.proofs.Kids.{put}
 use Rattle.table.proofs.Links.{datum-is}
 use Rattle.table.proofs.Removal.{freeEnd, FreeLeaves, end-is, cleared-put, remove-put}

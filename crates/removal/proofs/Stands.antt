@@ -12,22 +12,24 @@ use Rattle.tree.specs.Tree.{Tree, In}
 use Rattle.tree.specs.Removal.{cleared, remove}
 use Rattle.tree.specs.Apart.{Removable}
 use Rattle.tree.specs.Sound.{Sound}
+use Rattle.tree.specs.Steps.{Marked}
+use Rattle.tree.specs.ListSteps.{cutAll, put, strikeAll}
+use Rattle.tree.specs.Pieces.{piecesOf, Holding, FreeList, RemovableList, maxSerial}
+use Rattle.tree.specs.Family.{newPlace}
+use Rattle.tree.specs.Enrolment.{removedList}
 use Rattle.tree.proofs.Rows.{at-in}
 use Rattle.tree.proofs.Read.{Small}
 use Rattle.tree.proofs.Laws.RemovalSound.{removal-sound}
 use Rattle.table.specs.declared.Node.{Node}
 use Rattle.table.specs.Table.{at, Holds, append}
-use Rattle.table.specs.Steps.{Marked, going, unlinkAll}
+use Rattle.table.specs.Steps.{going, unlinkAll}
 use Rattle.table.specs.Unheld.{lowestFrom}
 use Rattle.table.proofs.Links.{datum-is}
 use Rattle.table.proofs.Removal.{cleared-at}
 use Rattle.table.proofs.Steps.{clear-sound, remove-sound}
 use Rattle.lists.specs.Lists.{limit}
 use Rattle.register.specs.declared.LayoutNodes.{LayoutNodes}
-use Rattle.register.specs.Pieces.{piecesOf, Holding, FreeList, RemovableList, maxSerial}
-use Rattle.register.specs.Listings.{areaIn, cutAll, entriesOf, put, strikeAll}
-use Rattle.register.specs.Family.{newPlace}
-use Rattle.register.specs.Enrolment.{removedList}
+use Rattle.register.specs.Listings.{areaIn, entriesOf}
 use Rattle.register.specs.Standing.{Stands}
 use Rattle.register.proofs.Listed.{entries-listing, kept-listing}
 use Rattle.register.proofs.HoldingSteps.{holding-most, holding-single}

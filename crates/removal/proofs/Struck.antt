@@ -6,10 +6,11 @@ use Prim.Native.Nat.{ℕ, _≤_, _<_}
 use native.Mathlib.Omega.{arith}
 use lib.ListN.{length}
 use borrow.Author.Tests.{le-leb, lt-leb}
+use Rattle.tree.specs.ListSteps.{push, strike}
 use Rattle.table.specs.declared.Node.{Node}
 use Rattle.lists.specs.Lists.{limit}
 use Rattle.register.specs.declared.listing.Listing.{Listing}
-use Rattle.register.specs.Listings.{Kept, entriesOf, listing, push, strike}
+use Rattle.register.specs.Listings.{Kept, entriesOf, listing}
 use Rattle.register.proofs.Listed.{entries-are, kept-as, strike-length-most}
 use Rattle.removal.specs.Remove.{returned}
 

@@ -9,13 +9,14 @@ use lib.ListN.{length}
 use Rattle.piece.specs.declared.node.Datum.{Datum}
 use Rattle.tree.specs.Removal.{freed, board}
 use Rattle.tree.specs.Tree.{isFree}
+use Rattle.tree.specs.ListSteps.{cutAll, push, put, strike, strikeAll}
 use Rattle.table.specs.declared.Node.{Node}
 use Rattle.table.specs.Table.{at, append}
 use Rattle.table.specs.Steps.{freeLastDatum, unlinkAll}
 use Rattle.table.specs.Unheld.{lowestFrom}
 use Rattle.lists.specs.Lists.{limit}
 use Rattle.register.specs.declared.LayoutNodes.{LayoutNodes}
-use Rattle.register.specs.Listings.{Kept, areaIn, cutAll, entriesOf, listing, push, put, strike, strikeAll}
+use Rattle.register.specs.Listings.{Kept, areaIn, entriesOf, listing}
 use Rattle.register.specs.Spots.{Single}
 use Rattle.removal.specs.declared.remove.Cleared.{Cleared}
 use Rattle.removal.specs.Going.{Goes}

@@ -14,11 +14,11 @@ use Rattle.piece.specs.Sides.{other}
 use Rattle.piece.specs.Row.{nil, grow}
 use Rattle.tree.specs.Tree.{Tree, In, At, count}
 use Rattle.tree.specs.Sound.{Domain, extent, StructurePiece, Kinded, Children, Topped, Sound}
+use Rattle.tree.specs.Steps.{Deep}
 use Rattle.tree.proofs.Rows.{in?}
 use Rattle.table.specs.declared.Node.{Node}
 use Rattle.table.specs.Table.{mk, zeroNode, at, Held, head, last, Rep, Holds}
 use Rattle.table.specs.Build.{treeOf, Linkage}
-use Rattle.table.specs.Steps.{Deep}
 use Rattle.table.proofs.Build.{in-held}
 use Rattle.table.proofs.Unique.{holds-room, tree-is}
 use Rattle.table.proofs.Links.{holds-linkage}

@@ -10,10 +10,10 @@ use borrow.Author.Tests.{le-leb, lt-leb, eq-eqb, ne-eqb}
 use Rattle.piece.specs.declared.node.Datum.{Datum}
 use Rattle.piece.specs.Row.{nil, grow}
 use Rattle.tree.specs.Tree.{Tree, In, Distinct, after}
+use Rattle.tree.specs.Steps.{hang, app, Kids}
 use Rattle.tree.proofs.Rows.{in-eq, in-after, in-first, in-second, in?, distinct-after}
 use Rattle.table.specs.declared.Node.{Node}
 use Rattle.table.specs.Table.{mk, at, head, last, Rep, Holds, append}
-use Rattle.table.specs.Steps.{hang, app, Kids}
 use Rattle.table.proofs.Touch.{Grown, grown}
 use Rattle.table.proofs.Kids.{kids-of, kids-in, kids-under, kids-distinct, kids-self, put, put-here, put-left, put-right, put-in, in-put}
 use Rattle.table.proofs.Kids.{put-new, put-distinct, pass-absent, pass-after}

@@ -11,10 +11,11 @@ use Rattle.piece.specs.declared.node.Datum.{Datum}
 use Rattle.piece.specs.Row.{nil, grow}
 use Rattle.tree.specs.Tree.{Tree, In, Distinct, after}
 use Rattle.tree.specs.Booking.{Booking, block, book}
+use Rattle.tree.specs.Steps.{hang, app, less, Kids}
 use Rattle.tree.proofs.Rows.{same?, in-eq, after-nil, after-assoc}
 use Rattle.table.specs.declared.Node.{Node}
 use Rattle.table.specs.Table.{Holds, append, unlink}
-use Rattle.table.specs.Steps.{hang, app, less, Kids, plant}
+use Rattle.table.specs.Steps.{plant}
 use Rattle.table.proofs.Kids.{kids-of, kids-in, put, pass-piece}
 use Rattle.table.proofs.Append.{hang-absent, hang-after, hang-of-put, hang-in, in-hang, in-hung, append-holds}
 use Rattle.table.proofs.Unlink.{less-put, less-kids, unlink-holds}

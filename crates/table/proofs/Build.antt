@@ -11,11 +11,11 @@ use borrow.Author.Tests.{le-leb, lt-leb}
 use Rattle.piece.specs.declared.node.Datum.{Datum}
 use Rattle.piece.specs.Row.{nil, grow}
 use Rattle.tree.specs.Tree.{Tree, In, Distinct}
+use Rattle.tree.specs.Steps.{Deep}
 use Rattle.tree.proofs.Rows.{same?}
 use Rattle.table.specs.declared.Node.{Node}
 use Rattle.table.specs.Table.{mk, at, Held, head, last, Rep, Holds}
 use Rattle.table.specs.Build.{chain, kids, treeOf, Linked, Among, Local, Linkage}
-use Rattle.table.specs.Steps.{Deep}
 use Rattle.table.proofs.Kids.{kids-of, kids-under}
 use Rattle.table.proofs.Rep.{shows, bound, limit-out}
 

@@ -10,8 +10,8 @@ use borrow.Author.Tests.{eq-eqb, ne-eqb}
 use Rattle.piece.specs.declared.node.Datum.{Datum}
 use Rattle.piece.specs.Row.{nil, grow}
 use Rattle.tree.specs.Tree.{Tree, In, Distinct, after, count}
+use Rattle.tree.specs.Steps.{Rooted, Kids}
 use Rattle.tree.proofs.Rows.{in-eq, in-first, in-second}
-use Rattle.table.specs.Steps.{Rooted, Kids}
 
 pub kids-of : (q : ℕ) (w : Tree) → In q w → (k : Tree) × Kids q k w
 kids-of q nil h = absurd h

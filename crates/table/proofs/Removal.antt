@@ -13,10 +13,11 @@ use Rattle.piece.specs.declared.node.Datum.{Datum}
 use Rattle.piece.specs.Row.{nil, grow}
 use Rattle.tree.specs.Tree.{Tree, In, At, Distinct, isFree, isNil, after}
 use Rattle.tree.specs.Removal.{freed, board, lastFree, withoutLast, settled, remove, cleared, subtree}
+use Rattle.tree.specs.Steps.{app, less, Kids, leaving}
 use Rattle.tree.proofs.Rows.{in-eq, in-second, after-nil, after-assoc}
 use Rattle.table.specs.declared.Node.{Node}
 use Rattle.table.specs.Table.{at, last, Rep, Holds, append, unlink}
-use Rattle.table.specs.Steps.{app, less, Kids, leaving, freeLastPlace, freeLastDatum, unlinkAll}
+use Rattle.table.specs.Steps.{freeLastPlace, freeLastDatum, unlinkAll}
 use Rattle.table.proofs.Kids.{kids-in, kids-under, kids-kids, kids-row, kids-distinct, put, put-kids, put-put, put-same, pass-piece}
 use Rattle.table.proofs.Kids.{after-apart}
 use Rattle.table.proofs.Rep.{shows, last-after, row-from}

@@ -14,13 +14,14 @@ use Rattle.tree.specs.Booking.{Booking, block, book}
 use Rattle.tree.specs.Removal.{freed, board, remove, cleared}
 use Rattle.tree.specs.Accepted.{Fresh}
 use Rattle.tree.specs.Apart.{Removable}
+use Rattle.tree.specs.Steps.{less, Rooted, Kids, Deep, Marked, leaving}
 use Rattle.tree.proofs.Rows.{at-in}
 use Rattle.tree.proofs.Kept.{Where, This, Alone, only, not-top, free-kind, free-alone}
 use Rattle.tree.proofs.Blocks.{block-in, block-distinct}
 use Rattle.table.specs.declared.Node.{Node}
 use Rattle.table.specs.Table.{at, Holds, append, unlink}
 use Rattle.table.specs.Build.{treeOf, Linkage}
-use Rattle.table.specs.Steps.{less, Rooted, Kids, Deep, Marked, plant, leaving, freeLastDatum, going, unlinkAll}
+use Rattle.table.specs.Steps.{plant, freeLastDatum, going, unlinkAll}
 use Rattle.table.proofs.Kids.{Spot, spot-in}
 use Rattle.table.proofs.Rep.{shows, piece-at}
 use Rattle.table.proofs.Unlink.{less-in, unlink-holds}

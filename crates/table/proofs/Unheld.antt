@@ -10,10 +10,10 @@ use borrow.Author.Tests.{eqb-true, eqb-false}
 use Rattle.lists.specs.Search.{firstFrom}
 use Rattle.lists.proofs.Scan.{first-from, first-most, first-holds, first-before}
 use Rattle.tree.specs.Tree.{Tree, In, count}
+use Rattle.tree.specs.Steps.{Marked}
 use Rattle.tree.proofs.Rows.{in?}
 use Rattle.table.specs.declared.Node.{Node}
 use Rattle.table.specs.Table.{at, Held, Holds}
-use Rattle.table.specs.Steps.{Marked}
 use Rattle.table.specs.Unheld.{isUnheld, lowestFrom}
 use Rattle.table.proofs.Links.{holds-held}
 use Rattle.table.proofs.Pigeon.{low-most, low-filled}

@@ -8,11 +8,11 @@ use native.Mathlib.Omega.{arith}
 use lib.Seq.{ext-getD}
 use Rattle.piece.specs.Row.{nil, grow}
 use Rattle.tree.specs.Tree.{Tree, In, count}
+use Rattle.tree.specs.Steps.{Rooted, Kids}
 use Rattle.tree.proofs.Rows.{in?}
 use Rattle.table.specs.declared.Node.{Node}
 use Rattle.table.specs.Table.{zeroNode, at, head, Rep, Holds}
 use Rattle.table.specs.Build.{chain, kids, treeOf}
-use Rattle.table.specs.Steps.{Rooted, Kids}
 use Rattle.table.proofs.Kids.{kids-count}
 use Rattle.table.proofs.Rep.{shows, bound}
 use Rattle.table.proofs.Room.{room}

@@ -10,10 +10,10 @@ use borrow.Author.Tests.{le-leb, lt-leb, eq-eqb, ne-eqb}
 use Rattle.piece.specs.declared.node.Datum.{Datum}
 use Rattle.piece.specs.Row.{nil, grow}
 use Rattle.tree.specs.Tree.{Tree, In, At, Distinct, after}
+use Rattle.tree.specs.Steps.{less, Rooted, Kids}
 use Rattle.tree.proofs.Rows.{same?, in-eq, in?, in-after, in-first, in-second, distinct-after}
 use Rattle.table.specs.declared.Node.{Node}
 use Rattle.table.specs.Table.{mk, zeroNode, at, head, last, Rep, Holds, unlink}
-use Rattle.table.specs.Steps.{less, Rooted, Kids}
 use Rattle.table.proofs.Touch.{Cut, cut}
 use Rattle.table.proofs.Kids.{kids-in, kids-under, kids-distinct, kids-self, put, put-kids, put-new, put-in, in-put, put-distinct}
 use Rattle.table.proofs.Kids.{pass-piece, after-apart, after-first, after-second, spot-in, spot-kids}

@@ -18,4 +18,5 @@ pub mod Levels
 pub mod BookKept
 pub mod Counts
 pub mod Stays
+pub mod ListSteps
 pub mod Laws

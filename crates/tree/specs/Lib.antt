@@ -7,4 +7,9 @@ pub mod Removal
 pub mod Figures
 pub mod Apart
 pub mod Accepted
+pub mod Steps
+pub mod ListSteps
+pub mod Pieces
+pub mod Family
+pub mod Enrolment
 pub mod Worked

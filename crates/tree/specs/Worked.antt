@@ -1,15 +1,16 @@
--- Document 01, "Sheet 100 x 60, first cut Vertical": what the definitions give in the cases a to k, and what the paper says. The parts are in
--- rotation Default. (The removable lists of a and i are not the tree's: they stand with the lists.)
-use mathlib.Core.List.{List, [], _∷_}
-use Prim.Native.Nat.{ℕ, _+_}
+-- Document 01, "Sheet 100 x 60, first cut Vertical": what the definitions give in the cases a to k, and what the paper says, as one table. The parts
+-- are in rotation Default.
+use mathlib.Core.List.{List, [], _∷_, map}
+use mathlib.Core.Bool.{cond}
+use Prim.Native.Nat.{ℕ, zero, suc}
+use lib.Dec.{eqb}
 use lib.Ieee.{Float}
 use Rattle.piece.specs.declared.orientation.Orientation.{Orientation}
 use Rattle.piece.specs.declared.orientation.Orientation.the-variants.{Horizontal, Vertical}
-use Rattle.piece.specs.declared.rotation.Rotation.the-variants.{Default, Rotated}
-use Rattle.piece.specs.declared.parttype.Turn.the-variants.{Either, Fixed}
+use Rattle.piece.specs.declared.rotation.Rotation.the-variants.{Default}
+use Rattle.piece.specs.declared.parttype.Turn.the-variants.{Fixed}
 use Rattle.piece.specs.declared.parttype.PartType.{PartType}
 use Rattle.piece.specs.declared.size.Size.{Size}
-use Rattle.piece.specs.declared.node.Datum.{Datum}
 use Rattle.piece.specs.declared.node.Kind.{Kind}
 use Rattle.piece.specs.declared.node.Kind.the-variants.{Free, Part, Structure}
 use Rattle.piece.specs.declared.insertion_blueprint.InsertionShape.{InsertionShape}
@@ -18,16 +19,28 @@ use Rattle.piece.specs.declared.insertion_option.Offer.{Offer}
 use Rattle.piece.specs.Sides.{sized, area}
 use Rattle.piece.specs.Row.{nil, grow}
 use Rattle.piece.specs.Offers.{offer, offersOf}
+use Rattle.lists.specs.Lists.{limit}
 use Rattle.tree.specs.Tree.{Tree}
 use Rattle.tree.specs.Open.{opened, firstFree}
 use Rattle.tree.specs.Snapshot.{shape}
 use Rattle.tree.specs.Booking.{Booking, book}
 use Rattle.tree.specs.Removal.{remove}
 use Rattle.tree.specs.Figures.{partArea, sheetUsage, one}
+use Rattle.tree.specs.Steps.{less}
+use Rattle.tree.specs.Family.{newPlace}
+use Rattle.tree.specs.Enrolment.{bookedList}
 
--- what a case asks for: the offers, or the tree without its marks and the sheet's usage
+-- the pieces of a removable list, as the paper calls them; a free piece is none of them
+pub data Called : Type 0 where
+  top : Called
+  part : Called
+  structure : Called
+  no-such : Called
+
+-- what a case asks for: the offers, the removable list, the tree without its marks, or the sheet's usage
 pub data Answer : Type 0 where
   offered : List Offer → Answer
+  listed : List Called → Answer
   stands : Tree → Answer
   used : Float → Answer
 
@@ -38,19 +51,39 @@ abbrev pub start : Tree
 start = opened Vertical sheet
 
 -- the part, number 7, w x h
-abbrev pub part : ℕ → ℕ → PartType
-part w h = record { number = 7; size = sized w h; turn = Fixed Default }
+abbrev pub wanted : ℕ → ℕ → PartType
+wanted w h = record { number = 7; size = sized w h; turn = Fixed Default }
 
 abbrev pub offers : ℕ → ℕ → ℕ → Answer
-offers w h stages = offered (offersOf (firstFree Vertical sheet) (part w h) stages)
+offers w h stages = offered (offersOf (firstFree Vertical sheet) (wanted w h) stages)
 
--- the part booked in the free piece, at place 1, which is the lowest that is then unheld
+-- the part booked in the free piece, which is at place 1; the opening issued the serials 1 and 2
+abbrev pub booking : InsertionShape → ℕ → ℕ → Booking
+booking s w h = record { shape = s; size = sized w h; number = 7; place = newPlace limit (less 1 start); serial = 3 }
+
 abbrev pub booked : InsertionShape → ℕ → ℕ → Tree
-booked s w h = book 1 (record { shape = s; size = sized w h; number = 7; place = λ i. i + 1; serial = 3 }) start
+booked s w h = book 1 (booking s w h) start
+
+-- what the piece at a place is called
+abbrev pub called : Kind → ℕ → Called
+called Free level = no-such
+called Part level = part
+called Structure zero = top
+called Structure (suc level) = structure
+
+abbrev pub calledAt : Tree → Called → ℕ → Called
+calledAt nil otherwise p = otherwise
+calledAt (grow q d k r) otherwise p = cond (eqb p q) (called (d .kind) (d .level)) (calledAt k (calledAt r otherwise p) p)
+
+-- the removable list then; at the opening it holds the top alone, at place 0
+abbrev pub removable : InsertionShape → ℕ → ℕ → Answer
+removable s w h =
+    listed (map (calledAt (booked s w h) no-such) (bookedList limit 1 (firstFree Vertical sheet) (booking s w h) start (0 ∷ [])))
 
 unfoldable pub computed : List Answer
 computed =
     offers 40 60 3
+    ∷ removable AlongCurrentCut 40 60
     ∷ offers 40 30 3
     ∷ offers 40 30 2
     ∷ offers 40 30 1
@@ -60,6 +93,7 @@ computed =
     ∷ used (sheetUsage (partArea (booked AlongCurrentCut 100 60)) (area sheet))
     ∷ offers 101 60 3
     ∷ stands (shape (booked AlongThenAcross 40 30))
+    ∷ removable AlongThenAcross 40 30
     ∷ stands (shape (remove 1 1 5 (booked AlongCurrentCut 40 60)))
     ∷ stands (shape (remove 2 2 6 (booked AcrossCurrentCut 100 20)))
     ∷ []
@@ -83,8 +117,9 @@ topOver k = stands (bit Structure 0 Vertical 100 60 k nil)
 
 unfoldable pub paper : List Answer
 paper =
-    -- a. 40 x 60: AlongCurrentCut
+    -- a. 40 x 60: AlongCurrentCut; removable list part, top
     only AlongCurrentCut
+    ∷ listed (part ∷ top ∷ [])
     -- b. 40 x 30: both two-step shapes
     ∷ offered (offer Default AlongThenAcross ∷ offer Default AcrossThenAlong ∷ [])
     -- c. the same, stages 2: AlongThenAcross only
@@ -100,10 +135,11 @@ paper =
     ∷ used one
     -- h. 101 x 60: none
     ∷ offered []
-    -- i. b by AlongThenAcross
+    -- i. b by AlongThenAcross: removable list top, part, structure
     ∷ topOver
     (bit Structure 1 Horizontal 40 60 (bit Part 2 Vertical 40 30 nil (bit Free 2 Vertical 40 30 nil nil))
     (bit Free 1 Horizontal 60 60 nil nil))
+    ∷ listed (top ∷ part ∷ structure ∷ [])
     -- j. a, then the part removed: the opening tree
     ∷ stands (shape start)
     -- k. e, then the part removed: structure with one free 100 x 60 child at level 2

@@ -3,11 +3,16 @@ use mathlib.Core.Path.{_≡_, refl}
 use lib.Ieee.{ofBits, div, ofInt}
 use Rattle.piece.specs.Offers.{offersIn, offersOf, shapes}
 use Rattle.piece.specs.Insertion.{blockOf, table}
+use Rattle.lists.specs.Lists.{swapped}
+use Rattle.lists.specs.Search.{firstFrom, indexOf}
 use Rattle.tree.specs.Booking.{block}
 use Rattle.tree.specs.Removal.{joined, settled}
 use Rattle.tree.specs.Figures.{sheetUsage}
+use Rattle.tree.specs.ListSteps.{strike}
+use Rattle.tree.specs.Family.{unheldFrom}
+use Rattle.tree.specs.Enrolment.{bookedList}
 use Rattle.tree.specs.Worked.{computed, paper}
 
 pub worked : computed ≡ paper
-unfolding computed paper offersIn offersOf shapes blockOf table block joined settled sheetUsage ofBits div ofInt
+unfolding computed paper offersIn offersOf shapes blockOf table block joined settled sheetUsage ofBits div ofInt bookedList unheldFrom strike indexOf firstFrom swapped
 worked = refl

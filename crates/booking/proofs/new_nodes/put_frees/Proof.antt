@@ -8,9 +8,10 @@ use native.Mathlib.Omega.{arith}
 use lib.ListN.{length, drop, take, getD}
 use borrow.Author.Needs.{needs}
 use Rattle.tree.specs.Tree.{isFree}
+use Rattle.tree.specs.ListSteps.{putAll}
+use Rattle.tree.specs.Enrolment.{when}
 use Rattle.register.specs.declared.listing.Listing.{Listing}
-use Rattle.register.specs.Listings.{areaAt, entriesOf, putAll}
-use Rattle.register.specs.Enrolment.{when}
+use Rattle.register.specs.Listings.{areaAt, entriesOf}
 use Rattle.booking.specs.declared.new_nodes.NewNode.{NewNode}
 use Rattle.booking.specs.declared.new_nodes.NewNodes.{NewNodes}
 use Rattle.booking.specs.NewNodes.{freesOf, noNew, those}

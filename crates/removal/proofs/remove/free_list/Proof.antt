@@ -2,11 +2,12 @@
 use mathlib.Core.Path.{refl, ap, _∙_}
 use native.Mathlib.Omega.{arith}
 use Rattle.register.specs.declared.listing.Listing.{Listing}
-use Rattle.register.specs.Listings.{cutAll, entriesOf}
+use Rattle.register.specs.Listings.{entriesOf}
 use Rattle.register.proofs.Areas.{areas-are}
 use Rattle.register.proofs.Listed.{entries-are, kept-as}
 use Rattle.removal.specs.Going.{places}
 use borrow.Author.Needs.{needs}
+use Rattle.tree.specs.ListSteps.{cutAll}
 use Rattle.removal.proofs.remove.free_list.Statement.{statement}
 use Rattle.removal.proofs.remove.free_list.Tie as tie
 

@@ -5,12 +5,12 @@ use mathlib.Core.List.{List, [], _∷_, _++_}
 use Prim.Native.Nat.{ℕ}
 use Rattle.piece.specs.declared.node.Datum.{Datum}
 use Rattle.piece.specs.Row.{nil, grow}
 use Rattle.tree.specs.Tree.{Tree, isPart}
 use Rattle.tree.specs.Booking.{Booking, block}
 use Rattle.tree.specs.Removal.{cleared, subtree}
-use Rattle.table.specs.Steps.{less, leaving}
-use Rattle.register.specs.Listings.{strike, strikeAll}
-use Rattle.register.specs.Family.{parentOf, childless}
+use Rattle.tree.specs.Steps.{less, leaving}
+use Rattle.tree.specs.ListSteps.{strike, strikeAll}
+use Rattle.tree.specs.Family.{parentOf, childless}
 
 -- the place, if so
 abbrev pub when : Bool → ℕ → List ℕ

@@ -11,12 +11,12 @@ use borrow.Author.Tests.{lt-ltb, le-ltb, ltb-true, ltb-false}
 use lib.Dec.{ltb}
 use lib.ListN.{getD, set, length, take, drop, length-append, length-drop, drop-of-length-le, List·getD-append}
 use lib.Seq.{length-take-le, take-length, drop-length, getD-take, getD-drop, getD-at, getD-append-add, getD-set-same, getD-set-other}
 use Rattle.tree.proofs.Rows.{same?}
+use Rattle.tree.specs.ListSteps.{spot, cut, strike, push, berth, put}
 use Rattle.lists.specs.Lists.{swapped}
 use Rattle.lists.proofs.Found.{index-most, index-holds, index-found}
 use Rattle.lists.proofs.Scan.{first-most, first-holds, first-before}
 use Rattle.lists.proofs.Padded.{swapped-length}
-use Rattle.register.specs.Listings.{spot, cut, strike, push, berth, put}
 
 -- ---- where a place stands
 
