@@ -17,6 +17,7 @@ use Rattle.layout.specs.Check.{limit, soundB}
 use Rattle.layout.specs.Insert.{InsertSays, insertNo, refusedInsert}
 use Rattle.layout.specs.Remove.{RemoveSays, numbersLeft, refusedRemove, removeNo}
 use Rattle.layout.specs.Restore.{restoreOf, refusedRestore}
+use Rattle.layout.specs.Asked.{freePieceOf}
 use Rattle.layout.specs.Zero.{zeroLayout}
 use Rattle.layout.proofs.Exactly.{zero-refused}
 use Rattle.looks.specs.Answers.{usedAreaOf, freeAreaOf, nodesHeldOf, sheetUsageOf, treeUsageOf, isEmptyOf, freeMarkOf, removableMarkOf, lightOf, offersCall}
@@ -46,7 +47,7 @@ as-op {n = n} {op = op} s o e = let same : n ≡ op = cc in e ∙ ap (λ (x : �
 
 module _ (l : Layout) (unsound : soundB l ≡ false) where
   insert-examined : (m : Mark) (p : PartType) (r : Rotation) (s : InsertionShape) (a : Inserted) → InsertSays l m p r s a → a ≡ refusedInsert l NotSound
-  unfolding InsertSays insertNo
+  unfolding InsertSays insertNo freePieceOf
   insert-examined m p r s a says = rw unsound at says
 
   remove-examined : (m : Mark) (room : ℕ) (a : Removed) → RemoveSays l m room a → a ≡ refusedRemove l NotSound
@@ -62,7 +63,7 @@ module _ (l : Layout) (unsound : soundB l ≡ false) where
 
   counter-examined : (kept : Layout) (q : Request) (op : ℕ) → opOf q ≡ some op → (t : Session) (a : Answer) → Answers (both l kept) q t a
       → reply t a ≡ reply (both l kept) (refused op NotSound)
-  unfolding Answers restoreOf offersCall afterInsert afterKeep afterOffers afterRemove afterReport afterRestore
+  unfolding Answers restoreOf offersCall freePieceOf afterInsert afterKeep afterOffers afterRemove afterReport afterRestore
   counter-examined kept (Open number size cut stages) op o t a g = let z : _≡_ {A = ℕ} 0 1 = cc in absurd (omega arith)
   counter-examined kept (Offers m p) op o t a g = as-op (both l kept) o (rw unsound at g)
   counter-examined kept (Insert m p r s) op o t a g =
@@ -79,7 +80,7 @@ module _ (l : Layout) (unsound : soundB l ≡ false) where
   kept-examined k t a g = g ∙ ap (afterRestore (both k l)) (snapshot-examined k l unsound)
 
   pub examined-first : Examined l
-  unfolding restoreOf usedAreaOf freeAreaOf nodesHeldOf sheetUsageOf treeUsageOf isEmptyOf freeMarkOf removableMarkOf lightOf offersCall whyCall
+  unfolding restoreOf usedAreaOf freeAreaOf nodesHeldOf sheetUsageOf treeUsageOf isEmptyOf freeMarkOf removableMarkOf lightOf offersCall whyCall freePieceOf
   examined-first =
       record {
         insert = insert-examined;
@@ -87,6 +88,7 @@ module _ (l : Layout) (unsound : soundB l ≡ false) where
         removeBuffer = remove-keeps;
         restore = λ s. rw unsound refl;
         restoreTo = λ k. snapshot-examined k l unsound;
+        freePiece = λ m p. rw unsound refl;
         usedArea = rw unsound refl;
         freeArea = rw unsound refl;
         nodesHeld = rw unsound refl;

@@ -1,6 +1,6 @@
 -- Demand 1: "Every call .. examines the layout it is handed first." What each public call answers to a layout that isn't sound, whatever else it is
 -- handed: refusal 1, the layout as it came, zero in other fields, and a lent buffer as it was. One field to a call, and one for the ops of the counter.
--- (`Layout::sound` is the check itself, and `Layout::sought` a step that calls share behind it.)
+-- (`Layout::sound` is the check itself.)
 use mathlib.Core.Path.{_≡_}
 use mathlib.Core.List.{List}
 use mathlib.Core.Option.{Option, none, some}
@@ -16,6 +16,8 @@ use Rattle.layout.specs.declared.remove.Removed.{Removed}
 use Rattle.layout.specs.Insert.{InsertSays, refusedInsert}
 use Rattle.layout.specs.Remove.{RemoveSays, numbersLeft, refusedRemove}
 use Rattle.layout.specs.Restore.{restoreOf, refusedRestore}
+use Rattle.layout.specs.declared.replies.Sought.the-variants as sought
+use Rattle.layout.specs.Asked.{freePieceOf}
 use Rattle.looks.specs.declared.replies.AreaAnswer.the-variants as areas
 use Rattle.looks.specs.declared.replies.CountAnswer.the-variants as counts
 use Rattle.looks.specs.declared.replies.UsageAnswer.the-variants as usages
@@ -50,12 +52,13 @@ opOf Report = some 7
 opOf Malformed = none
 
 pub record Examined (l : Layout) : Type 0 where
-  -- crate layout; `restore` examines both that it is handed
+  -- crate layout; `restore` examines both that it is handed, and `free_piece` is the head of every call on a free piece
   pub insert : (m : Mark) (p : PartType) (r : Rotation) (s : InsertionShape) (a : Inserted) → InsertSays l m p r s a → a ≡ refusedInsert l NotSound
   pub remove : (m : Mark) (room : ℕ) (a : Removed) → RemoveSays l m room a → a ≡ refusedRemove l NotSound
   pub removeBuffer : (m : Mark) (out : List ℕ) → numbersLeft l m out ≡ out
   pub restore : (snapshot : Layout) → restoreOf l snapshot ≡ refusedRestore l NotSound
   pub restoreTo : (k : Layout) → restoreOf k l ≡ refusedRestore k NotSound
+  pub freePiece : (m : Mark) (p : PartType) → freePieceOf l m p ≡ sought.Refused NotSound
   -- crate looks
   pub usedArea : usedAreaOf l ≡ areas.Refused NotSound
   pub freeArea : freeAreaOf l ≡ areas.Refused NotSound
