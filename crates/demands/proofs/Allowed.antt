@@ -17,7 +17,7 @@ use Rattle.layout.specs.declared.replies.Sought.the-variants as sought
 use Rattle.layout.specs.declared.insert.Inserted.{Inserted}
 use Rattle.layout.specs.declared.remove.Removed.{Removed}
 use Rattle.layout.specs.Check.{limit, maxSerial, tree}
-use Rattle.layout.specs.Asked.{soughtOf}
+use Rattle.layout.specs.Asked.{freePieceOf, soughtOf}
 use Rattle.layout.specs.SoundLayout.{SoundLayout}
 use Rattle.layout.specs.Insert.{Insertable, InsertDone, InsertSays, bookNo, bookingFor, insertNo, pieceAt}
 use Rattle.layout.specs.Remove.{RemoveDone, RemoveSays, Takeable, goNo, numbersOut, removeNo}
@@ -36,7 +36,7 @@ module _ (l : Layout) (m : Mark) (named : Names l m) where
 
   module _ (p : PartType) (r : Rotation) (s : InsertionShape) (can : Insertable l (m .place) p r s) where
     no-refusal : insertNo l m p r s ≡ none
-    unfolding insertNo bookNo
+    unfolding insertNo freePieceOf bookNo
     no-refusal =
         rw (
           sound-shown l (can .sized) (can .sound),

@@ -18,7 +18,7 @@ use Rattle.lines.specs.Stream.{empty, feeds}
 use Rattle.layout.specs.declared.layout.Layout.{Layout}
 use Rattle.layout.specs.declared.replies.Sought.the-variants as sought
 use Rattle.layout.specs.Check.{soundB}
-use Rattle.layout.specs.Asked.{soughtOf}
+use Rattle.layout.specs.Asked.{freePieceOf, soughtOf}
 use Rattle.layout.specs.Insert.{InsertSays, insertNo, refusedInsert}
 use Rattle.layout.specs.Remove.{RemoveSays, removeNo, refusedRemove}
 use Rattle.layout.proofs.Exactly.{sound-says, sound-shown}
@@ -160,7 +160,7 @@ shaped-run g (more {s} {t} {line = line} {a = a} answer run) = shaped-run (shape
 -- a mark that isn't found is refused by each request that carries it
 module _ (s : Session) (k : Mark) (e : Refusal) (sound : soundB (s .layout) ≡ true) (no : soughtOf (s .layout) k ≡ sought.Refused e) where
   refused-so : (op : ℕ) (q : Request) → Carries k op q → Answers s q s (refused op e)
-  unfolding Answers afterOffers afterInsert afterRemove offersCall InsertSays insertNo RemoveSays removeNo
+  unfolding Answers afterOffers afterInsert afterRemove offersCall InsertSays insertNo freePieceOf RemoveSays removeNo
   refused-so op q (offersOn p part) = rw (sound, part, no) refl
   refused-so op q (insertIn p r f part) = (refusedInsert (s .layout) e, rw (sound, part, no) refl, refl)
   refused-so op q removeOf = (refusedRemove (s .layout) e, rw (sound, no) refl, refl)

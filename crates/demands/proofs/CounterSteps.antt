@@ -19,14 +19,15 @@ use Rattle.layout.specs.declared.replies.Outcome.{Outcome}
 use Rattle.layout.specs.declared.replies.Outcome.the-variants as outcomes
 use Rattle.layout.specs.declared.insert.Inserted.{Inserted}
 use Rattle.layout.specs.Check.{limit, soundB}
+use Rattle.layout.specs.Asked.{freePieceOf}
 use Rattle.layout.specs.SoundLayout.{Sized}
 use Rattle.layout.specs.Zero.{zeroLayout}
 use Rattle.layout.specs.Open.{openOf}
 use Rattle.layout.specs.Insert.{insertNo, InsertSays}
 use Rattle.layout.specs.Remove.{removeNo, RemoveSays}
 use Rattle.layout.specs.Restore.{restoreOf}
-use Rattle.layout.proofs.Exactly.{zero-refused}
-use Rattle.layout.proofs.Admitted.{passed}
+use Rattle.layout.proofs.Exactly.{sound-shown, zero-refused}
+use Rattle.layout.proofs.Admitted.{insertable, passed}
 use Rattle.layout.proofs.Inserted.{insert-accepted}
 use Rattle.layout.proofs.Gone.{remove-accepted}
 use Rattle.frames.specs.declared.Request.{Request}
@@ -59,7 +60,7 @@ started-stays {s} {t} e h i =
 
 -- each request is refused
 pub started-declines : (q : Request) (t : Session) (a : Answer) → Answers started q t a → opens a ≡ [] → Declines a
-unfolding Answers afterOpen afterOffers afterInsert afterRemove afterKeep afterRestore afterReport offersCall InsertSays insertNo RemoveSays removeNo restoreOf
+unfolding Answers afterOpen afterOffers afterInsert afterRemove afterKeep afterRestore afterReport offersCall InsertSays insertNo freePieceOf RemoveSays removeNo restoreOf
 started-declines (Open number size cut stages) t a h e = go (openOf number size cut stages .outcome) h
   where
     go : (o : Opening) → reply t a ≡ openedBy started (openOf number size cut stages .layout) o → Declines a
@@ -176,7 +177,8 @@ writes {s} {t} sized (byInsert m p r f i says e b) k h =
     let z = outcome-marks 3 (marksSaid (i .marks)) (i .outcome) k (rw b at h) in
     record {
       given = rw e (inserted-mark (s .layout) m p r f i sized says (z .0) k (z .1));
-      sound = inr (passed (soundB (s .layout)) _ NotSound (insert-accepted (s .layout) m p r f i says (z .0) .0) .0);
+      sound =
+          inr (sound-shown (s .layout) sized (insertable (s .layout) m p r f sized (insert-accepted (s .layout) m p r f i says (z .0) .0) .sound));
     }
 writes {s} {t} sized (byRemoval m r says e b) k h =
     let z = outcome-marks 4 (numbersSaid s m r) (r .outcome) k (rw b at h) in

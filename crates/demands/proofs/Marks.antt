@@ -74,7 +74,7 @@ module _ {ls : List Layout} (life : Life ls) (l : Layout) (state : OneOf l ls) (
   gone-offers p part = rw (checked, part, gone) refl
 
   pub gone-why-not : (p : PartType) → partB p ≡ true → whyCall l m p .outcome ≡ Refused Gone
-  unfolding whyCall
+  unfolding whyCall freePieceOf
   gone-why-not p part = rw (checked, part, gone) refl
 
   pub gone-insert : (p : PartType) (r : Rotation) (s : InsertionShape) → partB p ≡ true → insertNo l m p r s ≡ some Gone

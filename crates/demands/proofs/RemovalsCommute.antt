@@ -9,14 +9,14 @@ use native.Mathlib.Omega.{arith}
 use lib.ListN.{length}
 use Rattle.piece.specs.declared.node.Datum.{Datum}
 use Rattle.tree.specs.Tree.{At, In, Inside}
-use Rattle.tree.specs.Removal.{cleared, numbers, remove}
+use Rattle.tree.specs.Removal.{cleared, numbers, remove, left}
 use Rattle.tree.specs.Sound.{Sound}
 use Rattle.tree.specs.Snapshot.{Same}
 use Rattle.tree.specs.Apart.{Removable}
 use Rattle.tree.proofs.Rows.{at-in, in-eq}
 use Rattle.tree.proofs.Bookings.{at-unique}
 use Rattle.tree.proofs.Places.{gone}
-use Rattle.tree.proofs.RemoveKept.{cleared-is, in-left, left}
+use Rattle.tree.proofs.RemoveKept.{in-left}
 use Rattle.tree.proofs.Stays.{at-cleared, at-remove}
 use Rattle.tree.proofs.Laws.RemovalsCommute.{removals-commute}
 use Rattle.table.proofs.Removal.{cleared-at}
@@ -61,7 +61,7 @@ module _ (l : Layout) (x : ℕ) (can : Takeable l x) (a : Removed) (done : Remov
     another : x ≡ y → ⊥
     another z =
         gone x left (λ j d r. in-left j r) (tree l) (sound .distinct)
-        (rw (cleared-is x (tree l)) at (in-eq (cleared x (tree l)) (sym z) is-left))
+        (in-eq (cleared x (tree l)) (sym z) is-left)
 
     not-inside : Inside x y (tree l) → ⊥
     not-inside = left-outside x y (tree l) (sound .distinct) is-left
