@@ -12,6 +12,7 @@ use Rattle.layout.specs.declared.open.Opening.the-variants as openings
 use Rattle.layout.specs.declared.replies.Outcome.{Outcome}
 use Rattle.layout.specs.declared.replies.Outcome.the-variants as outcomes
 use Rattle.layout.specs.Check.{limit, soundB}
+use Rattle.layout.specs.Asked.{freePieceOf}
 use Rattle.layout.specs.Open.{openOf}
 use Rattle.layout.specs.Insert.{insertNo}
 use Rattle.layout.specs.Remove.{removeNo}
@@ -95,7 +96,7 @@ answerOf r = r .answer
 -- of a layout
 pub unsound-refused : (s : Session) (q : Request) (t : Session) {a : Answer} → looksB q ≡ true → soundB (s .layout) ≡ false → Answers s q t a
     → a ≡ refused (opOf q) NotSound
-unfolding Answers afterOffers afterInsert afterRemove afterKeep afterRestore afterReport offersCall insertNo removeNo restoreOf
+unfolding Answers afterOffers afterInsert afterRemove afterKeep afterRestore afterReport offersCall insertNo freePieceOf removeNo restoreOf
 unsound-refused s (Open number size cut stages) t looks unsound h = absurd (clash looks)
 unsound-refused s (Offers mark part) t looks unsound h = ap answerOf h ∙ rw unsound refl
 unsound-refused s (Insert m p r f) t looks unsound h =
