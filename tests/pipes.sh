@@ -4,8 +4,8 @@
 set -u
 cd "$(dirname "$0")/.." || exit 2
 . tests/run.bash
-room=$(mktemp -d) || exit 2
-trap 'rm -rf "$room"' EXIT
+# how many seconds a pause is
+pause=${QUIET:-1}
 
 # went WHAT STATUS MESSAGE: the program ended with 0 and said this on standard error
 went() {
@@ -57,7 +57,7 @@ for name in counter inspect; do
 
   # an input that has nothing to read for a while: before a line, in it and after it
   rm -f "$room/pipe" && mkfifo "$room/pipe" || exit 2
-  (sleep 1; head -c 10 "$room/in"; sleep 1; tail -c +11 "$room/in"; sleep 1) > "$room/pipe" &
+  (sleep "$pause"; head -c 10 "$room/in"; sleep "$pause"; tail -c +11 "$room/in"; sleep "$pause") > "$room/pipe" &
   exec 3< "$room/pipe"
   dd iflag=nonblock count=0 status=none <&3
   run $name <&3 > "$room/out" 2> "$room/err"
@@ -70,7 +70,7 @@ for name in counter inspect; do
   exec 3<> "$room/pipe"
   dd oflag=nonblock count=0 status=none >&3
   head -c 1048576 /dev/zero >&3 2> /dev/null
-  (exec 3>&-; sleep 3; slowly | tr -d '\0' > "$room/out") < "$room/pipe" &
+  (exec 3>&-; sleep "$pause"; sleep "$pause"; slowly | tr -d '\0' > "$room/out") < "$room/pipe" &
   run $name < "$many" 2> "$room/err" >&3
   went "$name waits for a reader that is slow" $? ''
   exec 3>&-
@@ -81,5 +81,4 @@ for name in counter inspect; do
   (trap '' PIPE; run $name < recorded/sessions.in 2> "$room/err"; echo $? > "$room/status") | head -n 1 > /dev/null
   went "$name ends quietly when nobody reads" "$(cat "$room/status")" ''
 done
-
-exit $status
+finished 24
