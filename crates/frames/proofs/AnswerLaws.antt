@@ -62,7 +62,7 @@ are-content (removed m ns) f =
     begun (omega arith) (omega arith) (join (are-mark m (f .0)) (then (omega (arith, f .1)) (are-each two are-two (f .2))))
 are-content (done op) f = begun (omega arith) (omega arith) no-bytes
 are-content (reported used nodes bits) f =
-    begun (omega arith) (omega arith) (join (are-eight used (f .0)) (then (omega arith) (are-eight bits (f .1))))
+    begun (omega arith) (omega arith) (join (are-eight used (f .0)) (then (omega arith) (are-eight bits (f .2))))
 are-content malformed f = begun (omega arith) (omega arith) no-bytes
 
 pub answer-back : (a : Answer) → AnswerFits a → pairs (charsOf (answerBytes a)) ≡ answerBytes a

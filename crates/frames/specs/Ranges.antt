@@ -44,5 +44,5 @@ AnswerFits (offered offers) = length offers < 2 ^ 8
 AnswerFits (inserted first part frees) = MarkFits first × MarkFits part × (length frees < 2 ^ 8) × Each MarkFits frees
 AnswerFits (removed mark numbers) = MarkFits mark × (length numbers < 2 ^ 8) × Each (λ n. n < 2 ^ 16) numbers
 AnswerFits (done op) = op < 2 ^ 8
-AnswerFits (reported used nodes bits) = (used < 2 ^ 64) × (bits < 2 ^ 64)
+AnswerFits (reported used nodes bits) = (used < 2 ^ 64) × (nodes < 2 ^ 8) × (bits < 2 ^ 64)
 AnswerFits malformed = Unit

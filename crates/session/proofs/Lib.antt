@@ -9,3 +9,4 @@ pub mod Decided
 pub mod Unique
 pub mod Kept
 pub mod Uses
+pub mod Fits
