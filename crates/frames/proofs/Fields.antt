@@ -1,7 +1,8 @@
--- The last exit of `read::insert`, over any values: its tests passed, its fields read.
+-- Where the last field of a mark and of a part stands, added up; and the last exit of `read::insert`, over any values: its tests passed, its fields read.
 use mathlib.Core.Path.{_≡_, refl, sym, _∙_}
 use mathlib.Core.List.{List}
-use Prim.Native.Nat.{ℕ, _≤_}
+use Prim.Native.Nat.{ℕ, _+_, _≤_}
+use native.Mathlib.Omega.{arith}
 use lib.ListN.{getD}
 use borrow.Author.Tests.{le-leb}
 use Rattle.piece.specs.declared.rotation.Rotation.{Rotation}
@@ -11,6 +12,12 @@ use Rattle.answers.specs.declared.Mark.{Mark}
 use Rattle.frames.specs.declared.Request.the-variants.{Insert}
 use Rattle.frames.specs.Fields.{markAt, partAt, rotationOf, shapeOf}
 use Rattle.frames.specs.Requests.{insertOf}
+
+pub serial-place : (i : ℕ) → i + 2 + 1 ≡ i + 3
+serial-place i = omega arith
+
+pub turn-place : (i : ℕ) → i + 2 + 4 + 4 ≡ i + 10
+turn-place i = omega arith
 
 module _ (b : List ℕ) where
   all-listed : getD b 18 0 ≤ 2 → getD b 19 0 ≤ 1 → 1 ≤ getD b 20 0 → getD b 20 0 ≤ 4

@@ -3,7 +3,7 @@ use mathlib.Core.Path.{_≡_, refl, sym, ap, _∙_, ap₂}
 use mathlib.Core.Logic.{_⊎_, inl, inr, ⊎-elim}
 use mathlib.Core.Bool.{Bool, true, false, _&&_}
 use mathlib.Core.List.{List, [], _∷_, _++_}
-use Prim.Native.Nat.{ℕ, zero, suc, _+_, _-_, _*_, _/_, _%_, _<_, _≤_}
+use Prim.Native.Nat.{ℕ, _+_, _-_, _/_, _%_, _<_, _≤_}
 use native.Mathlib.Omega.{arith}
 use lib.Dec.{eqb, leb, ltb}
 use lib.ListN.{length, getD}
@@ -11,13 +11,16 @@ use borrow.Author.Tests.{ltb-true, ltb-false, leb-true, leb-false, eqb-true, eqb
 use Rattle.hex.specs.Hex.{digitOf, letterOf, pairOf}
 use Rattle.hex.proofs.Pairs.{high-bad, low-bad, both-good}
 use Rattle.frames.specs.declared.Request.{Request}
-use Rattle.frames.specs.declared.Request.the-variants.{Open, Offers, Insert, Remove, Keep, Restore, Report, Malformed}
-use Rattle.frames.specs.Bytes.{pairs, allBytes, charsOf, total, checkOf, framed, two, four, twoAt, fourAt}
+use Rattle.frames.specs.declared.Request.the-variants.{Keep, Restore, Report, Malformed}
+use Rattle.frames.specs.Bytes.{pairs, allBytes, charsOf, total, checkOf, framed}
 use Rattle.frames.specs.Fields.{cutNo, turnNo, rotationNo, shapeNo, cutListed, turnListed, rotationListed, shapeListed, cutOf, turnOf}
-use Rattle.frames.specs.Fields.{rotationOf, shapeOf, markBytes, sizeBytes, partBytes, sizeAt, markAt, partAt}
-use Rattle.frames.specs.Requests.{openOf, offersOf, insertOf, removeOf, lengthOf, askedBy, wellFormed, requestOf, carriedBy, frameOf}
+use Rattle.frames.specs.Fields.{rotationOf, shapeOf, widths, values, allListed, given}
+use Rattle.frames.specs.Requests.{Form, openForm, offersForm, insertForm, removeForm, bare, formOf, lengthOf, readAs, askedBy}
+use Rattle.frames.specs.Requests.{wellFormed, requestOf, carried, carriedBy, frameOf}
+use Rattle.frames.specs.Ranges.{RequestFits}
 use Rattle.frames.proofs.Lists.{total-append}
 use Rattle.frames.proofs.Laws.{by-test, first-true, second-true}
+use Rattle.frames.proofs.Forms.{Fits, none, more, values-drop, all-drop, whole}
 
 -- ---- characters
 low : (c : ℕ) → c < 48 → digitOf c ≡ 16
@@ -86,35 +89,7 @@ chars-pairs (h ∷ l ∷ s) e a =
     let rest = chars-pairs s (omega arith) (second-true (ltb (pairOf h l) 256) (allBytes (pairs s)) a) in
     rw (first-letter h l small, second-letter h l small, rest) refl
 
--- ---- fields
-byte-at : (b : List ℕ) → allBytes b ≡ true → (i : ℕ) → getD b i 0 < 256
-unfolding allBytes
-byte-at [] a i = omega arith
-byte-at (x ∷ b) a zero = ltb-true x 256 (first-true (ltb x 256) (allBytes b) a)
-byte-at (x ∷ b) a (suc i) = byte-at b (second-true (ltb x 256) (allBytes b) a) i
-
-abbrev listed : ℕ → (ℕ → ℕ) → List ℕ
-listed zero g = []
-listed (suc n) g = g 0 ∷ listed n (λ i. g (suc i))
-
-shown : (n : ℕ) (b : List ℕ) → length b ≡ n → b ≡ listed n (λ i. getD b i 0)
-shown zero [] e = refl
-shown zero (x ∷ b) e = absurd (omega arith)
-shown (suc n) [] e = absurd (omega arith)
-shown (suc n) (x ∷ b) e = ap (λ (l : List ℕ). x ∷ l) (shown n b (omega arith))
-
-two-of : (x y : ℕ) → y < 256 → two (x * 256 + y) ≡ x ∷ y ∷ []
-two-of x y h =
-    let e : (x * 256 + y) / 256 ≡ x = omega arith in
-    let f : (x * 256 + y) % 256 ≡ y = omega arith in
-    rw (e, f) refl
-
-four-of : (x y : ℕ) → y < 65536 → four (x * 65536 + y) ≡ two x ++ two y
-four-of x y h =
-    let e : (x * 65536 + y) / 65536 ≡ x = omega arith in
-    let f : (x * 65536 + y) % 65536 ≡ y = omega arith in
-    rw (e, f) refl
-
+-- ---- what a listed number says, as a number again
 cut-of : (n : ℕ) → n ≤ 1 → cutNo (cutOf n) ≡ n
 cut-of n h =
     by-test (eqb n 0) (λ e. rw e (sym (eqb-true n 0 e)))
@@ -138,48 +113,6 @@ shape-of n l h =
     (λ f. by-test (eqb n 3) (λ g. rw (e, f, g) (sym (eqb-true n 3 g)))
     (λ g. rw (e, f, g) (let ne = eqb-false n 1 e in let nf = eqb-false n 2 f in let ng = eqb-false n 3 g in omega (arith, ne, nf, ng)))))
 
--- ---- the bytes of a field, from the i-th on, are what the field writes
-module _ (b : List ℕ) where
-  abbrev g : ℕ → ℕ
-  g i = getD b i 0
-
-  abbrev run2 : ℕ → List ℕ
-  run2 i = g i ∷ g (i + 1) ∷ []
-
-  abbrev run4 : ℕ → List ℕ
-  run4 i = run2 i ++ run2 (i + 2)
-
-  abbrev run8 : ℕ → List ℕ
-  run8 i = run4 i ++ run4 (i + 4)
-
-  abbrev run7 : ℕ → List ℕ
-  run7 i = run2 i ++ (g (i + 2) ∷ run4 (i + 3))
-
-  abbrev run11 : ℕ → List ℕ
-  run11 i = run2 i ++ (run8 (i + 2) ++ (g (i + 10) ∷ []))
-
-  module _ (a : allBytes b ≡ true) where
-    two-at : (i : ℕ) → two (twoAt b i) ≡ run2 i
-    two-at i = two-of (g i) (g (i + 1)) (byte-at b a (i + 1))
-
-    four-at : (i : ℕ) → four (fourAt b i) ≡ run4 i
-    four-at i =
-        four-of (twoAt b i) (twoAt b (i + 2)) (omega (arith, byte-at b a (i + 2), byte-at b a (i + 2 + 1)))
-        ∙ ap₂ (λ (u v : List ℕ). u ++ v) (two-at i) (two-at (i + 2))
-
-    size-at : (i : ℕ) → sizeBytes (sizeAt b i) ≡ run8 i
-    size-at i = ap₂ (λ (u v : List ℕ). u ++ v) (four-at i) (four-at (i + 4))
-
-    mark-at : (i : ℕ) → markBytes (markAt b i) ≡ run7 i
-    mark-at i =
-        ap₂ (λ (u v : List ℕ). u ++ ((g (i + 2) % 256) ∷ v)) (two-at i) (four-at (i + 3))
-        ∙ ap (λ (p : ℕ). run2 i ++ (p ∷ run4 (i + 3))) (omega (arith, byte-at b a (i + 2)))
-
-    part-at : (i : ℕ) → g (i + 10) ≤ 2 → partBytes (partAt b i) ≡ run11 i
-    part-at i h =
-        ap₂ (λ (u v : List ℕ). u ++ (v ++ (turnNo (turnOf (g (i + 10))) ∷ []))) (two-at i) (size-at (i + 2))
-        ∙ ap (λ (t : ℕ). run2 i ++ (run8 (i + 2) ++ (t ∷ []))) (turn-of (g (i + 10)) h)
-
 -- the last byte is the check of those before it
 closed : (b c : List ℕ) (k : ℕ) (q : Request) → b ≡ c ++ (k ∷ []) → k < 256 → total b % 256 ≡ 0 → c ≡ carriedBy q → b ≡ framed (carriedBy q)
 unfolding total
@@ -187,76 +120,87 @@ closed b c k q e small adds h =
     let check : k ≡ checkOf c = omega (arith, ap total e, total-append c (k ∷ [])) in
     e ∙ ap (λ (x : ℕ). c ++ (x ∷ [])) check ∙ ap framed h
 
--- ---- each op
-module _ (b : List ℕ) (a : allBytes b ≡ true) (adds : total b % 256 ≡ 0) where
-  abbrev Heard : Request → Type 0
-  Heard q = (q ≡ Malformed) ⊎ (b ≡ framed (carriedBy q))
+-- ---- each op: what numbers of its fields make, if all are listed, carries them and fits
+record Means (op : ℕ) (f : Form) (vs : List ℕ) (q : Request) : Type 0 where
+  carries : (q ≡ Malformed) ⊎ (carriedBy q ≡ carried op f vs)
+  fits : RequestFits q
 
-  open-heard : length b ≡ 14 → g b 0 ≡ 1 → Heard (openOf b)
-  unfolding openOf carriedBy
-  open-heard n o =
-      by-test (cutListed (g b 11))
-      (λ e. inr (rw e
-      (closed b (g b 0 ∷ (run2 b 1 ++ (run8 b 3 ++ (g b 11 ∷ g b 12 ∷ [])))) (g b 13) (Open (twoAt b 1) (sizeAt b 3) (cutOf (g b 11)) (g b 12))
-      (shown 14 b n) (byte-at b a 13) adds
-      (ap (λ (x : ℕ). x ∷ (run2 b 1 ++ (run8 b 3 ++ (g b 11 ∷ g b 12 ∷ [])))) o
-      ∙ sym (ap₂ (λ (u v : List ℕ). 1 ∷ (u ++ (v ++ (cutNo (cutOf (g b 11)) ∷ g b 12 ∷ [])))) (two-at b a 1) (size-at b a 3)
-      ∙ ap (λ (k : ℕ). 1 ∷ (run2 b 1 ++ (run8 b 3 ++ (k ∷ g b 12 ∷ [])))) (cut-of (g b 11) (leb-true (g b 11) 1 e)))))))
-      (λ e. inl (rw e refl))
+abbrev Meant : ℕ → Form → Type 0
+Meant op f = (vs : List ℕ) → Fits (f .fields) vs → allListed (f .fields) vs ≡ true → Means op f vs (given (f .fields) (f .asks) vs)
 
-  offers-heard : length b ≡ 20 → g b 0 ≡ 2 → Heard (offersOf b)
-  unfolding offersOf carriedBy
-  offers-heard n o =
-      by-test (turnListed (g b 18))
-      (λ e. inr (rw e
-      (closed b (g b 0 ∷ (run7 b 1 ++ run11 b 8)) (g b 19) (Offers (markAt b 1) (partAt b 8)) (shown 20 b n) (byte-at b a 19) adds
-      (ap (λ (x : ℕ). x ∷ (run7 b 1 ++ run11 b 8)) o
-      ∙ sym (ap₂ (λ (u v : List ℕ). 2 ∷ (u ++ v)) (mark-at b a 1) (part-at b a 8 (leb-true (g b 18) 2 e)))))))
-      (λ e. inl (rw e refl))
+open-meant : Meant 1 openForm
+unfolding carriedBy
+open-meant vs (more a (more b (more c (more {v = n} d (more e none))))) h =
+    let k = cut-of n (leb-true n 1 (first-true (cutListed n) true h)) in
+    record { carries = inr (rw k refl); fits = (a, record { width = b; height = c }, e) }
 
-  remove-heard : length b ≡ 9 → g b 0 ≡ 4 → Heard (removeOf b)
-  unfolding removeOf carriedBy
-  remove-heard n o =
-      inr (closed b (g b 0 ∷ run7 b 1) (g b 8) (Remove (markAt b 1)) (shown 9 b n) (byte-at b a 8) adds
-      (ap (λ (x : ℕ). x ∷ run7 b 1) o ∙ sym (ap (λ (u : List ℕ). 4 ∷ u) (mark-at b a 1))))
+offers-meant : Meant 2 offersForm
+unfolding carriedBy
+offers-meant vs (more a (more b (more c (more d (more e (more f (more {v = n} g none))))))) h =
+    let k = turn-of n (leb-true n 2 (first-true (turnListed n) true h)) in
+    record {
+      carries = inr (rw k refl);
+      fits = (record { layout = a; place = b; serial = c }, record { number = d; size = record { width = e; height = f } });
+    }
 
-  insert-heard : length b ≡ 22 → g b 0 ≡ 3 → Heard (insertOf b)
-  unfolding insertOf carriedBy
-  insert-heard n o =
-      by-test (turnListed (g b 18) && (rotationListed (g b 19) && shapeListed (g b 20)))
-      (λ e.
-      let t = leb-true (g b 18) 2 (first-true (turnListed (g b 18)) (rotationListed (g b 19) && shapeListed (g b 20)) e) in
-      let f = second-true (turnListed (g b 18)) (rotationListed (g b 19) && shapeListed (g b 20)) e in
-      let r = leb-true (g b 19) 1 (first-true (rotationListed (g b 19)) (shapeListed (g b 20)) f) in
-      let k = second-true (rotationListed (g b 19)) (shapeListed (g b 20)) f in
-      let s = leb-true 1 (g b 20) (first-true (leb 1 (g b 20)) (leb (g b 20) 4) k) in
-      let u = leb-true (g b 20) 4 (second-true (leb 1 (g b 20)) (leb (g b 20) 4) k) in
-      inr (rw e
-      (closed b (g b 0 ∷ (run7 b 1 ++ (run11 b 8 ++ (g b 19 ∷ g b 20 ∷ [])))) (g b 21)
-      (Insert (markAt b 1) (partAt b 8) (rotationOf (g b 19)) (shapeOf (g b 20))) (shown 22 b n) (byte-at b a 21) adds
-      (ap (λ (x : ℕ). x ∷ (run7 b 1 ++ (run11 b 8 ++ (g b 19 ∷ g b 20 ∷ [])))) o
-      ∙ sym (ap₂ (λ (v w : List ℕ). 3 ∷ (v ++ (w ++ (rotationNo (rotationOf (g b 19)) ∷ shapeNo (shapeOf (g b 20)) ∷ []))))
-      (mark-at b a 1) (part-at b a 8 t)
-      ∙ ap₂ (λ (x y : ℕ). 3 ∷ (run7 b 1 ++ (run11 b 8 ++ (x ∷ y ∷ [])))) (rotation-of (g b 19) r) (shape-of (g b 20) s u))))))
-      (λ e. inl (rw e refl))
+insert-meant : Meant 3 insertForm
+unfolding carriedBy
+insert-meant vs (more a (more b (more c (more d (more e (more f (more {v = n} g (more {v = r} i (more {v = k} j none))))))))) h =
+    let y = second-true (turnListed n) (rotationListed r && (shapeListed k && true)) h in
+    let z = first-true (shapeListed k) true (second-true (rotationListed r) (shapeListed k && true) y) in
+    let t = turn-of n (leb-true n 2 (first-true (turnListed n) (rotationListed r && (shapeListed k && true)) h)) in
+    let u = rotation-of r (leb-true r 1 (first-true (rotationListed r) (shapeListed k && true) y)) in
+    let v = shape-of k (leb-true 1 k (first-true (leb 1 k) (leb k 4) z)) (leb-true k 4 (second-true (leb 1 k) (leb k 4) z)) in
+    record {
+      carries = inr (rw (t, u, v) refl);
+      fits = (record { layout = a; place = b; serial = c }, record { number = d; size = record { width = e; height = f } });
+    }
 
-  -- an op that carries nothing
-  bare : (op : ℕ) (q : Request) → carriedBy q ≡ op ∷ [] → length b ≡ 2 → g b 0 ≡ op → Heard q
-  bare op q h n o = inr (closed b (g b 0 ∷ []) (g b 1) q (shown 2 b n) (byte-at b a 1) adds (ap (λ (x : ℕ). x ∷ []) o ∙ sym h))
+remove-meant : Meant 4 removeForm
+unfolding carriedBy
+remove-meant vs (more a (more b (more c none))) h = record { carries = inr refl; fits = record { layout = a; place = b; serial = c } }
 
-  asked-heard : length b ≡ lengthOf (g b 0) → Heard (askedBy (g b 0) b)
-  unfolding askedBy lengthOf carriedBy
-  asked-heard n =
-      by-test (eqb (g b 0) 1) (λ e. let o = eqb-true (g b 0) 1 e in rw e (open-heard (n ∙ rw e refl) o))
-      (λ e1. by-test (eqb (g b 0) 2) (λ e. rw (e1, e) (offers-heard (n ∙ rw (e1, e) refl) (eqb-true (g b 0) 2 e)))
-      (λ e2. by-test (eqb (g b 0) 3) (λ e. rw (e1, e2, e) (insert-heard (n ∙ rw (e1, e2, e) refl) (eqb-true (g b 0) 3 e)))
-      (λ e3. by-test (eqb (g b 0) 4) (λ e. rw (e1, e2, e3, e) (remove-heard (n ∙ rw (e1, e2, e3, e) refl) (eqb-true (g b 0) 4 e)))
-      (λ e4. by-test (eqb (g b 0) 5) (λ e. rw (e1, e2, e3, e4, e) (bare 5 Keep refl (n ∙ rw (e1, e2, e3, e4, e) refl) (eqb-true (g b 0) 5 e)))
-      (λ e5. by-test (eqb (g b 0) 6)
-      (λ e. rw (e1, e2, e3, e4, e5, e) (bare 6 Restore refl (n ∙ rw (e1, e2, e3, e4, e5, e) refl) (eqb-true (g b 0) 6 e)))
-      (λ e6. by-test (eqb (g b 0) 7)
-      (λ e. rw (e1, e2, e3, e4, e5, e6, e) (bare 7 Report refl (n ∙ rw (e1, e2, e3, e4, e5, e6, e) refl) (eqb-true (g b 0) 7 e)))
-      (λ e7. rw (e1, e2, e3, e4, e5, e6, e7) (inl refl))))))))
+bare-meant : (op : ℕ) (q : Request) → (q ≡ Malformed) ⊎ (carriedBy q ≡ op ∷ []) → RequestFits q → Meant op (bare q)
+bare-meant op q c f vs none h = record { carries = c; fits = f }
+
+form-meant : (op : ℕ) → Meant op (formOf op)
+unfolding formOf carriedBy
+form-meant op =
+    by-test (eqb op 1) (λ e. rw (eqb-true op 1 e) open-meant)
+    (λ e1. by-test (eqb op 2) (λ e. rw (eqb-true op 2 e) offers-meant)
+    (λ e2. by-test (eqb op 3) (λ e. rw (eqb-true op 3 e) insert-meant)
+    (λ e3. by-test (eqb op 4) (λ e. rw (eqb-true op 4 e) remove-meant)
+    (λ e4. by-test (eqb op 5) (λ e. rw (eqb-true op 5 e) (bare-meant 5 Keep (inr refl) tt))
+    (λ e5. by-test (eqb op 6) (λ e. rw (eqb-true op 6 e) (bare-meant 6 Restore (inr refl) tt))
+    (λ e6. by-test (eqb op 7) (λ e. rw (eqb-true op 7 e) (bare-meant 7 Report (inr refl) tt))
+    (λ e7. rw (e1, e2, e3, e4, e5, e6, e7) (bare-meant op Malformed (inl refl) tt))))))))
+
+-- ---- bytes of the length of their op are the frame of what they ask, or ask nothing; and what they ask fits
+record Heard (b : List ℕ) (q : Request) : Type 0 where
+  frame : (q ≡ Malformed) ⊎ (b ≡ framed (carriedBy q))
+  fits : RequestFits q
+
+form-heard : (b : List ℕ) → allBytes b ≡ true → total b % 256 ≡ 0 → (op : ℕ) (f : Form) → Meant op f → length b ≡ 2 + widths (f .fields)
+    → getD b 0 0 ≡ op → Heard b (readAs f b)
+form-heard [] a adds op f means n o = absurd (omega arith)
+form-heard (x ∷ c) a adds op f means n o =
+    let z = whole (f .fields) c (all-drop 1 (x ∷ c) a) (omega arith) in
+    let vs = values (f .fields) c 0 in
+    let read : values (f .fields) (x ∷ c) 1 ≡ vs = sym (values-drop (f .fields) (x ∷ c) 1) in
+    let bytes : x ∷ c ≡ carried op f vs ++ (z .last ∷ []) = ap₂ (λ (y : ℕ) (l : List ℕ). y ∷ l) o (z .shown) in
+    rw read
+    (by-test (allListed (f .fields) vs)
+    (λ e.
+    let m = means vs (z .fits) e in
+    rw e (record {
+      frame = ⊎-elim inl (λ h. inr (closed (x ∷ c) (carried op f vs) (z .last) _ bytes (z .small) adds (sym h))) (m .carries);
+      fits = m .fits;
+    }))
+    (λ e. rw e (record { frame = inl refl; fits = tt })))
+
+asked-heard : (b : List ℕ) → allBytes b ≡ true → total b % 256 ≡ 0 → length b ≡ lengthOf (getD b 0 0) → Heard b (askedBy (getD b 0 0) b)
+unfolding askedBy lengthOf
+asked-heard b a adds n = form-heard b a adds (getD b 0 0) (formOf (getD b 0 0)) (form-meant (getD b 0 0)) n refl
 
 -- ---- every line
 module _ (line : List ℕ) where
@@ -301,7 +245,11 @@ module _ (line : List ℕ) where
     well-heard =
         ⊎-elim (λ m. inl (asked w ∙ m))
         (λ e. inr (sym (chars-pairs line even bytes) ∙ ap charsOf e ∙ ap frameOf (sym (asked w))))
-        (asked-heard b bytes adds long)
+        (asked-heard b bytes adds long .frame)
 
   pub heard : (requestOf line ≡ Malformed) ⊎ (line ≡ frameOf (requestOf line))
   heard = by-test (wellFormed line) well-heard (λ e. inl (bad e))
+
+  -- and a line asks only what fits
+  pub request-fits : RequestFits (requestOf line)
+  request-fits = by-test (wellFormed line) (λ w. rw (asked w) (asked-heard b (bytes w) (adds w) (long w) .fits)) (λ e. rw (bad e) tt)

@@ -14,14 +14,12 @@ use Rattle.piece.specs.declared.rotation.Rotation.{Rotation}
 use Rattle.piece.specs.declared.rotation.Rotation.the-variants.{Default, Rotated}
 use Rattle.piece.specs.declared.parttype.Turn.{Turn}
 use Rattle.piece.specs.declared.parttype.Turn.the-variants.{Either, Fixed}
-use Rattle.piece.specs.declared.parttype.PartType.{PartType}
-use Rattle.piece.specs.declared.size.Size.{Size}
 use Rattle.piece.specs.declared.insertion_blueprint.InsertionShape.{InsertionShape}
 use Rattle.piece.specs.declared.insertion_blueprint.InsertionShape.the-variants.{AlongCurrentCut, AcrossCurrentCut, AlongThenAcross, AcrossThenAlong}
 use Rattle.answers.specs.declared.Mark.{Mark}
 use Rattle.frames.specs.Bytes.{pairs, allBytes, charsOf, total, checkOf, framed, two, four, eight}
-use Rattle.frames.specs.Fields.{cutNo, turnNo, rotationNo, shapeNo, markBytes, sizeBytes, partBytes}
-use Rattle.frames.specs.Ranges.{MarkFits, SizeFits, PartFits}
+use Rattle.frames.specs.Fields.{cutNo, turnNo, rotationNo, shapeNo, markBytes}
+use Rattle.frames.specs.Ranges.{MarkFits}
 use Rattle.frames.proofs.Lists.{total-append, all-append}
 
 -- ---- the check: the bytes of every frame add to 0
@@ -92,7 +90,7 @@ join {a} {b} e f = record { tested = all-append a b ∙ rw (e .tested, f .tested
 pub are-two : (n : ℕ) → n < 2 ^ 16 → AreBytes (two n)
 are-two n h = then (omega arith) (then (omega arith) no-bytes)
 
-are-four : (n : ℕ) → n < 2 ^ 32 → AreBytes (four n)
+pub are-four : (n : ℕ) → n < 2 ^ 32 → AreBytes (four n)
 are-four n h = join (are-two (n / 65536) (omega arith)) (are-two (n % 65536) (omega arith))
 
 pub are-eight : (n : ℕ) → n < 2 ^ 64 → AreBytes (eight n)
@@ -100,9 +98,6 @@ are-eight n h = join (are-four (n / 4294967296) (omega arith)) (are-four (n % 42
 
 pub are-mark : (m : Mark) → MarkFits m → AreBytes (markBytes m)
 are-mark m f = join (are-two (m .layout) (f .layout)) (then (omega arith) (are-four (m .serial) (f .serial)))
-
-pub are-size : (s : Size) → SizeFits s → AreBytes (sizeBytes s)
-are-size s f = join (are-four (s .width) (f .width)) (are-four (s .height) (f .height))
 
 pub turn-small : (t : Turn) → turnNo t < 256
 turn-small Either = omega arith
@@ -122,9 +117,6 @@ shape-small AcrossThenAlong = omega arith
 pub cut-small : (c : Orientation) → cutNo c < 256
 cut-small Horizontal = omega arith
 cut-small Vertical = omega arith
-
-pub are-part : (p : PartType) → PartFits p → AreBytes (partBytes p)
-are-part p f = join (are-two (p .number) (f .number)) (join (are-size (p .size) (f .size)) (then (turn-small (p .turn)) no-bytes))
 
 pub are-framed : {bs : List ℕ} → AreBytes bs → AreBytes (framed bs)
 are-framed e = join e (then (omega arith) no-bytes)

@@ -4,6 +4,7 @@ pub mod Fields
 pub mod Requests
 pub mod Writing
 pub mod Laws
+pub mod Forms
 pub mod AnswerLaws
 pub mod RequestLaws
 pub mod Heard

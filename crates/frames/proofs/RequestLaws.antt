@@ -1,10 +1,10 @@
--- Every request that fits its fields is read from its line. Rests on Laws.
-use mathlib.Core.Path.{_≡_, refl, _∙_}
-use mathlib.Core.Bool.{true}
-use mathlib.Core.List.{List}
-use Prim.Native.Nat.{ℕ, _+_, _-_, _*_, _/_, _%_, _^_, _<_, _≤_}
+-- Every request that fits its fields is read from its line. Rests on Forms.
+use mathlib.Core.Path.{_≡_, refl, sym, ap, _∙_}
+use mathlib.Core.Bool.{Bool, true, cond}
+use mathlib.Core.List.{List, [], _∷_, _++_}
+use Prim.Native.Nat.{ℕ, _+_, _-_, _%_, _^_, _<_, _≤_}
 use native.Mathlib.Omega.{arith}
-use lib.ListN.{length, getD}
+use lib.ListN.{length, getD, length-append}
 use borrow.Author.Tests.{le-leb, eq-eqb}
 use Rattle.hex.specs.Hex.{digitOf, letterOf, pairOf}
 use Rattle.piece.specs.declared.orientation.Orientation.{Orientation}
@@ -14,19 +14,20 @@ use Rattle.piece.specs.declared.rotation.Rotation.the-variants.{Default, Rotate
 use Rattle.piece.specs.declared.parttype.Turn.{Turn}
 use Rattle.piece.specs.declared.parttype.Turn.the-variants.{Either, Fixed}
 use Rattle.piece.specs.declared.parttype.PartType.{PartType}
-use Rattle.piece.specs.declared.size.Size.{Size}
 use Rattle.piece.specs.declared.insertion_blueprint.InsertionShape.{InsertionShape}
 use Rattle.piece.specs.declared.insertion_blueprint.InsertionShape.the-variants.{AlongCurrentCut, AcrossCurrentCut, AlongThenAcross, AcrossThenAlong}
 use Rattle.answers.specs.declared.Mark.{Mark}
 use Rattle.frames.specs.declared.Request.{Request}
 use Rattle.frames.specs.declared.Request.the-variants.{Open, Offers, Insert, Remove, Keep, Restore, Report, Malformed}
-use Rattle.frames.specs.Bytes.{pairs, allBytes, charsOf, total, framed}
-use Rattle.frames.specs.Fields.{turnNo, rotationNo, shapeNo, turnListed, rotationListed, shapeListed, turnOf, rotationOf, shapeOf}
-use Rattle.frames.specs.Requests.{openOf, offersOf, insertOf, removeOf, lengthOf, askedBy, wellFormed, requestOf, carriedBy, frameOf}
-use Rattle.frames.specs.Ranges.{MarkFits, RequestFits}
+use Rattle.frames.specs.Bytes.{pairs, allBytes, charsOf, total, checkOf, framed}
+use Rattle.frames.specs.Fields.{cutNo, turnNo, rotationNo, shapeNo, cutListed, turnListed, rotationListed, shapeListed, cutOf, turnOf, rotationOf}
+use Rattle.frames.specs.Fields.{shapeOf, Field, markFields, partFields, markNos, partNos, widths, values, allListed, written, given}
+use Rattle.frames.specs.Requests.{Form, openForm, offersForm, insertForm, removeForm, bare, formOf, lengthOf, made, readAs, askedBy}
+use Rattle.frames.specs.Requests.{wellFormed, requestOf, carried, carriedBy, frameOf}
+use Rattle.frames.specs.Ranges.{MarkFits, PartFits, RequestFits}
 use Rattle.frames.proofs.Lists.{length-chars}
-use Rattle.frames.proofs.Laws.{framed-adds, pairs-chars, AreBytes, no-bytes, then, join, are-two, are-mark, are-size, are-part, rotation-small}
-use Rattle.frames.proofs.Laws.{shape-small, cut-small, are-framed}
+use Rattle.frames.proofs.Laws.{framed-adds, pairs-chars, then, turn-small, rotation-small, shape-small, cut-small, are-framed}
+use Rattle.frames.proofs.Forms.{Fits, none, more, values-drop, values-back, length-written, are-written}
 
 module _ (bs : List ℕ) (bytes : allBytes bs ≡ true) (short : length bs ≤ 32) (adds : total bs % 256 ≡ 0)
     (long : length bs ≡ lengthOf (getD bs 0 0)) where
@@ -49,20 +50,26 @@ module _ (bs : List ℕ) (bytes : allBytes bs ≡ true) (short : length bs ≤ 3
   unfolding requestOf
   line-asks = rw (well, back) refl
 
-two-back : (n : ℕ) → n / 256 * 256 + n % 256 ≡ n
-two-back n = omega arith
+-- ---- numbers that fit the fields of an op are read from its frame
+module _ (op : ℕ) (f : Form) (vs : List ℕ) (is : formOf op ≡ f) (small : op < 256) (fits : Fits (f .fields) vs) where
+  abbrev bytes : List ℕ
+  bytes = carried op f vs
 
-four-back : (n : ℕ) → n / 65536 * 65536 + n % 65536 ≡ n
-four-back n = omega arith
+  long : length (framed bytes) ≡ 2 + widths (f .fields)
+  long = omega (arith, length-append bytes (checkOf bytes ∷ []), length-written fits)
 
-low-back : (n : ℕ) → n < 2 ^ 8 → n % 256 ≡ n
-low-back n h = omega arith
+  read : values (f .fields) (framed bytes) 1 ≡ vs
+  read = sym (values-drop (f .fields) (framed bytes) 1) ∙ values-back fits (checkOf bytes ∷ [])
 
-open-back : (l : ℕ) (s : Size) (c : Orientation) (t : ℕ) → openOf (framed (carriedBy (Open l s c t))) ≡ Open l s c t
-unfolding openOf carriedBy
-open-back l s Horizontal t = simp (two-back, four-back)
-open-back l s Vertical t = simp (two-back, four-back)
+  asks : 2 + widths (f .fields) ≤ 32 → requestOf (charsOf (framed bytes)) ≡ made f vs
+  unfolding askedBy lengthOf
+  asks short =
+      line-asks (framed bytes) (are-framed (then small (are-written fits)) .tested) (omega (arith, long)) (framed-adds bytes)
+      (long ∙ ap (λ (g : Form). 2 + widths (g .fields)) (sym is))
+      ∙ ap (λ (g : Form). readAs g (framed bytes)) is
+      ∙ ap (made f) read
 
+-- ---- each op
 turn-listed : (t : Turn) → turnListed (turnNo t) ≡ true
 turn-listed Either = refl
 turn-listed (Fixed Default) = refl
@@ -93,56 +100,38 @@ shape-back AcrossCurrentCut = refl
 shape-back AlongThenAcross = refl
 shape-back AcrossThenAlong = refl
 
-module _ (m : Mark) (f : MarkFits m) where
-  remove-back : removeOf (framed (carriedBy (Remove m))) ≡ Remove m
-  unfolding removeOf carriedBy
-  remove-back = simp (two-back, four-back, low-back (m .place) (f .place))
+cut-listed : (c : Orientation) → cutListed (cutNo c) ≡ true
+cut-listed Horizontal = refl
+cut-listed Vertical = refl
 
-  module _ (p : PartType) where
-    offers-back : offersOf (framed (carriedBy (Offers m p))) ≡ Offers m p
-    unfolding offersOf carriedBy
-    offers-back = rw (turn-listed (p .turn), turn-back (p .turn)) (simp (two-back, four-back, low-back (m .place) (f .place)))
+cut-back : (c : Orientation) → cutOf (cutNo c) ≡ c
+cut-back Horizontal = refl
+cut-back Vertical = refl
 
-    insert-back : (r : Rotation) (s : InsertionShape) → insertOf (framed (carriedBy (Insert m p r s))) ≡ Insert m p r s
-    unfolding insertOf carriedBy
-    insert-back r s =
-        rw (turn-listed (p .turn), rotation-listed r, shape-listed s, turn-back (p .turn), rotation-back r, shape-back s)
-        (simp (two-back, four-back, low-back (m .place) (f .place)))
+module _ {fs : List Field} {vs : List ℕ} (rest : Fits fs vs) where
+  mark-fits : (m : Mark) → MarkFits m → Fits (markFields ++ fs) (markNos m ++ vs)
+  mark-fits m f = more (f .layout) (more (f .place) (more (f .serial) rest))
 
-are-carried : (q : Request) → RequestFits q → AreBytes (carriedBy q)
-unfolding carriedBy
-are-carried (Open l s c t) f =
-    then (omega arith)
-    (join (are-two l (f .0)) (join (are-size s (f .1)) (then (cut-small c) (then (omega (arith, f .2)) no-bytes))))
-are-carried (Offers m p) f = then (omega arith) (join (are-mark m (f .0)) (are-part p (f .1)))
-are-carried (Insert m p r s) f =
-    then (omega arith)
-    (join (are-mark m (f .0)) (join (are-part p (f .1)) (then (rotation-small r) (then (shape-small s) no-bytes))))
-are-carried (Remove m) f = then (omega arith) (are-mark m f)
-are-carried Keep f = then (omega arith) no-bytes
-are-carried Restore f = then (omega arith) no-bytes
-are-carried Report f = then (omega arith) no-bytes
-are-carried Malformed f = no-bytes
-
--- a frame of the length of its op asks what its op says
-asks : (q : Request) → RequestFits q → length (framed (carriedBy q)) ≤ 32
-    → length (framed (carriedBy q)) ≡ lengthOf (getD (framed (carriedBy q)) 0 0)
-    → requestOf (frameOf q) ≡ askedBy (getD (framed (carriedBy q)) 0 0) (framed (carriedBy q))
-asks q f short long =
-    line-asks (framed (carriedBy q)) (are-framed (are-carried q f) .tested) short (framed-adds (carriedBy q)) long
+  part-fits : (p : PartType) → PartFits p → Fits (partFields ++ fs) (partNos p ++ vs)
+  part-fits p f = more (f .number) (more (f .size .width) (more (f .size .height) (more (turn-small (p .turn)) rest)))
 
 -- the line of no bytes but a check
 malformed-back : requestOf (frameOf Malformed) ≡ Malformed
-unfolding requestOf wellFormed pairs allBytes total lengthOf charsOf carriedBy digitOf letterOf pairOf
+unfolding requestOf wellFormed pairs allBytes total lengthOf formOf charsOf carriedBy digitOf letterOf pairOf
 malformed-back = refl
 
 pub request-back : (q : Request) → RequestFits q → requestOf (frameOf q) ≡ q
-unfolding carriedBy lengthOf askedBy
-request-back (Open l s c t) f = asks (Open l s c t) f (omega arith) refl ∙ open-back l s c t
-request-back (Offers m p) f = asks (Offers m p) f (omega arith) refl ∙ offers-back m (f .0) p
-request-back (Insert m p r s) f = asks (Insert m p r s) f (omega arith) refl ∙ insert-back m (f .0) p r s
-request-back (Remove m) f = asks (Remove m) f (omega arith) refl ∙ remove-back m f
-request-back Keep f = asks Keep f (omega arith) refl
-request-back Restore f = asks Restore f (omega arith) refl
-request-back Report f = asks Report f (omega arith) refl
+unfolding carriedBy formOf
+request-back (Open l s c t) f =
+    asks 1 openForm _ refl (omega arith) (more (f .0) (more (f .1 .width) (more (f .1 .height) (more (cut-small c) (more (f .2) none))))) (omega arith)
+    ∙ rw (cut-listed c, cut-back c) refl
+request-back (Offers m p) f =
+    asks 2 offersForm _ refl (omega arith) (mark-fits (part-fits none p (f .1)) m (f .0)) (omega arith) ∙ rw (turn-listed (p .turn), turn-back (p .turn)) refl
+request-back (Insert m p r s) f =
+    asks 3 insertForm _ refl (omega arith) (mark-fits (part-fits (more (rotation-small r) (more (shape-small s) none)) p (f .1)) m (f .0)) (omega arith)
+    ∙ rw (turn-listed (p .turn), rotation-listed r, shape-listed s, turn-back (p .turn), rotation-back r, shape-back s) refl
+request-back (Remove m) f = asks 4 removeForm _ refl (omega arith) (mark-fits none m f) (omega arith)
+request-back Keep f = asks 5 (bare Keep) [] refl (omega arith) none (omega arith)
+request-back Restore f = asks 6 (bare Restore) [] refl (omega arith) none (omega arith)
+request-back Report f = asks 7 (bare Report) [] refl (omega arith) none (omega arith)
 request-back Malformed f = malformed-back

@@ -10,8 +10,9 @@ use borrow.Author.Tests.{le-leb, lt-leb, eq-eqb, ne-eqb}
 use Rattle.frames.specs.declared.Request.the-variants.{Malformed}
 use Rattle.frames.specs.Bytes.{pairs, allBytes, total}
 use Rattle.frames.specs.Decoding.{held}
-use Rattle.frames.specs.Requests.{openOf, offersOf, insertOf, removeOf, lengthOf, askedBy, wellFormed, requestOf}
+use Rattle.frames.specs.Requests.{formOf, made, lengthOf, askedBy, wellFormed, requestOf}
 use Rattle.frames.proofs.Lists.{length-pairs}
+use Rattle.frames.proofs.Forms.{values-same}
 
 all-zero : (n j : ℕ) → _≡_ {A = ℕ} (getD (replicate n 0) j 0) 0
 all-zero zero j = refl
@@ -30,26 +31,9 @@ held-at b h i =
     (λ j. getD-drop (0 + length b) (replicate 32 0) j 0 ∙ all-zero 32 (0 + length b + j)) i
 
 -- only the bytes count, by their places
-module _ (x b : List ℕ) (same : (i : ℕ) → getD x i 0 ≡ getD b i 0) where
-  open-same : openOf x ≡ openOf b
-  unfolding openOf
-  open-same = simp same
-
-  offers-same : offersOf x ≡ offersOf b
-  unfolding offersOf
-  offers-same = simp same
-
-  insert-same : insertOf x ≡ insertOf b
-  unfolding insertOf
-  insert-same = simp same
-
-  remove-same : removeOf x ≡ removeOf b
-  unfolding removeOf
-  remove-same = simp same
-
-  pub asked-same : (op : ℕ) → askedBy op x ≡ askedBy op b
-  unfolding askedBy
-  asked-same op = rw (open-same, offers-same, insert-same, remove-same) refl
+asked-same : (x b : List ℕ) → ((i : ℕ) → getD x i 0 ≡ getD b i 0) → (op : ℕ) → askedBy op x ≡ askedBy op b
+unfolding askedBy
+asked-same x b same op = ap (made (formOf op)) (values-same x b same (formOf op .fields) 1)
 
 module _ (line : List ℕ) where
   pub too-long : 64 < length line → Malformed ≡ requestOf line

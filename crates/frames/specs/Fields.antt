@@ -1,5 +1,5 @@
 -- Document 01, "Counter frames": the fields of a frame, as bytes and back. Rests on Bytes.
-use mathlib.Core.Bool.{Bool, cond, _&&_}
+use mathlib.Core.Bool.{Bool, true, cond, _&&_}
 use mathlib.Core.List.{List, [], _∷_, _++_}
 use Prim.Native.Nat.{ℕ, _+_, _%_}
 use lib.Dec.{eqb, leb}
@@ -64,22 +64,114 @@ shapeOf n =
     cond (eqb n 1) AlongCurrentCut
     (cond (eqb n 2) AcrossCurrentCut (cond (eqb n 3) AlongThenAcross AcrossThenAlong))
 
--- "A mark is 7 bytes (layout 2, place 1, serial 4), a part 11 (number 2, width 4, height 4, turn 1)"; a size 8. A place's low byte is written.
+-- ---- a field: how many bytes it has, and which of their numbers are listed
+pub data Width : Type 0 where
+  single : Width
+  double : Width
+  quad : Width
+
+pub record Field : Type 0 where
+  pub width : Width
+  pub listed : ℕ → Bool
+
+abbrev pub byte : Field
+byte = record { width = single; listed = λ n. true }
+
+abbrev pub twoBytes : Field
+twoBytes = record { width = double; listed = λ n. true }
+
+abbrev pub fourBytes : Field
+fourBytes = record { width = quad; listed = λ n. true }
+
+abbrev pub cutByte : Field
+cutByte = record { width = single; listed = cutListed }
+
+abbrev pub turnByte : Field
+turnByte = record { width = single; listed = turnListed }
+
+abbrev pub rotationByte : Field
+rotationByte = record { width = single; listed = rotationListed }
+
+abbrev pub shapeByte : Field
+shapeByte = record { width = single; listed = shapeListed }
+
+-- "A mark is 7 bytes (layout 2, place 1, serial 4), a part 11 (number 2, width 4, height 4, turn 1)"
+abbrev pub markFields : List Field
+markFields = twoBytes ∷ byte ∷ fourBytes ∷ []
+
+abbrev pub partFields : List Field
+partFields = twoBytes ∷ fourBytes ∷ fourBytes ∷ turnByte ∷ []
+
+-- ---- what follows from a list of fields: its bytes, the numbers that stand there from the i-th byte on, whether all are listed, and numbers as bytes
+abbrev pub sizeOf : Width → ℕ
+sizeOf single = 1
+sizeOf double = 2
+sizeOf quad = 4
+
+abbrev pub widths : List Field → ℕ
+widths [] = 0
+widths (f ∷ fs) = sizeOf (f .width) + widths fs
+
+abbrev pub valueAt : Width → List ℕ → ℕ → ℕ
+valueAt single b i = getD b i 0
+valueAt double b i = twoAt b i
+valueAt quad b i = fourAt b i
+
+abbrev pub values : List Field → List ℕ → ℕ → List ℕ
+values [] b i = []
+values (f ∷ fs) b i = valueAt (f .width) b i ∷ values fs b (i + sizeOf (f .width))
+
+abbrev pub allListed : List Field → List ℕ → Bool
+allListed [] vs = true
+allListed (f ∷ fs) [] = true
+allListed (f ∷ fs) (v ∷ vs) = f .listed v && allListed fs vs
+
+-- a byte's low part is written
+abbrev pub bytesIn : Width → ℕ → List ℕ
+bytesIn single n = (n % 256) ∷ []
+bytesIn double n = two n
+bytesIn quad n = four n
+
+abbrev pub written : List Field → List ℕ → List ℕ
+written [] vs = []
+written (f ∷ fs) [] = []
+written (f ∷ fs) (v ∷ vs) = bytesIn (f .width) v ++ written fs vs
+
+-- what takes the numbers of the fields, one after another; and what it makes of them
+abbrev pub Takes : Type 0 → List Field → Type 0
+Takes A [] = A
+Takes A (f ∷ fs) = ℕ → Takes A fs
+
+abbrev pub given : {A : Type 0} (fs : List Field) → Takes A fs → List ℕ → A
+given [] a vs = a
+given (f ∷ fs) k [] = given fs (k 0) []
+given (f ∷ fs) k (v ∷ vs) = given fs (k v) vs
+
+-- ---- a size, a mark and a part, from their numbers and back
+abbrev pub aSize : ℕ → ℕ → Size
+aSize w h = record { width = w; height = h }
+
+abbrev pub aMark : ℕ → ℕ → ℕ → Mark
+aMark layout place serial = record { layout = layout; place = place; serial = serial }
+
+abbrev pub aPart : ℕ → ℕ → ℕ → ℕ → PartType
+aPart n w h t = record { number = n; size = aSize w h; turn = turnOf t }
+
+abbrev pub markNos : Mark → List ℕ
+markNos m = m .layout ∷ m .place ∷ m .serial ∷ []
+
+abbrev pub partNos : PartType → List ℕ
+partNos p = p .number ∷ p .size .width ∷ p .size .height ∷ turnNo (p .turn) ∷ []
+
 abbrev pub markBytes : Mark → List ℕ
-markBytes m = two (m .layout) ++ ((m .place % 256) ∷ four (m .serial))
+markBytes m = written markFields (markNos m)
 
-abbrev pub sizeBytes : Size → List ℕ
-sizeBytes s = four (s .width) ++ four (s .height)
-
-abbrev pub partBytes : PartType → List ℕ
-partBytes p = two (p .number) ++ (sizeBytes (p .size) ++ (turnNo (p .turn) ∷ []))
-
--- and what stands from the i-th byte on
+-- what stands from the i-th byte on
 abbrev pub sizeAt : List ℕ → ℕ → Size
-sizeAt b i = record { width = fourAt b i; height = fourAt b (i + 4) }
+sizeAt b i = given (fourBytes ∷ fourBytes ∷ []) aSize (values (fourBytes ∷ fourBytes ∷ []) b i)
 
 abbrev pub markAt : List ℕ → ℕ → Mark
-markAt b i = record { layout = twoAt b i; place = getD b (i + 2) 0; serial = fourAt b (i + 3) }
+markAt b i = given markFields aMark (values markFields b i)
 
 abbrev pub partAt : List ℕ → ℕ → PartType
-partAt b i = record { number = twoAt b i; size = sizeAt b (i + 2); turn = turnOf (getD b (i + 10) 0) }
+partAt b i = given partFields aPart (values partFields b i)

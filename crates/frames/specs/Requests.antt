@@ -1,49 +1,76 @@
 -- Document 01, "Counter frames": what a line asks, and the line that asks it. Rests on Bytes and Fields.
 use mathlib.Core.Bool.{Bool, cond, _&&_}
 use mathlib.Core.List.{List, [], _∷_, _++_}
-use Prim.Native.Nat.{ℕ, _%_}
+use Prim.Native.Nat.{ℕ, _+_, _%_}
 use lib.Dec.{eqb, leb}
 use lib.ListN.{length, getD}
 use Rattle.frames.specs.declared.Request.{Request}
 use Rattle.frames.specs.declared.Request.the-variants.{Open, Offers, Insert, Remove, Keep, Restore, Report, Malformed}
-use Rattle.frames.specs.Bytes.{pairs, allBytes, charsOf, total, framed, two, twoAt}
-use Rattle.frames.specs.Fields.{cutNo, rotationNo, shapeNo, cutListed, turnListed, rotationListed, shapeListed, cutOf, rotationOf, shapeOf}
-use Rattle.frames.specs.Fields.{markBytes, sizeBytes, partBytes, sizeAt, markAt, partAt}
+use Rattle.frames.specs.Bytes.{pairs, allBytes, charsOf, total, framed}
+use Rattle.frames.specs.Fields.{cutNo, rotationNo, shapeNo, cutOf, rotationOf, shapeOf, Field, byte, twoBytes, fourBytes, cutByte, rotationByte}
+use Rattle.frames.specs.Fields.{shapeByte, markFields, partFields, widths, values, allListed, written, Takes, given, aSize, aMark, aPart}
+use Rattle.frames.specs.Fields.{markNos, partNos}
 
--- what the bytes of each op carry, byte 0 being the op
+-- ---- the table "op | carries": the fields of each op, said once, and the request that their numbers make
+pub record Form : Type 0 where
+  pub fields : List Field
+  pub asks : Takes Request fields
+
+abbrev pub openForm : Form
+openForm = record { fields = twoBytes ∷ fourBytes ∷ fourBytes ∷ cutByte ∷ byte ∷ []; asks = λ n w h c t. Open n (aSize w h) (cutOf c) t }
+
+abbrev pub offersForm : Form
+offersForm = record { fields = markFields ++ partFields; asks = λ l p s n w h t. Offers (aMark l p s) (aPart n w h t) }
+
+abbrev pub insertForm : Form
+insertForm =
+    record {
+      fields = markFields ++ (partFields ++ (rotationByte ∷ shapeByte ∷ []));
+      asks = λ l p s n w h t r k. Insert (aMark l p s) (aPart n w h t) (rotationOf r) (shapeOf k);
+    }
+
+abbrev pub removeForm : Form
+removeForm = record { fields = markFields; asks = λ l p s. Remove (aMark l p s) }
+
+-- the ops that carry nothing; one that is not listed asks nothing
+abbrev pub bareOf : ℕ → Request
+bareOf op = cond (eqb op 5) Keep (cond (eqb op 6) Restore (cond (eqb op 7) Report Malformed))
+
+abbrev pub bare : Request → Form
+bare q = record { fields = []; asks = q }
+
+unfoldable pub formOf : ℕ → Form
+formOf op =
+    cond (eqb op 1) openForm (cond (eqb op 2) offersForm (cond (eqb op 3) insertForm (cond (eqb op 4) removeForm (bare (bareOf op)))))
+
+-- ---- what follows from it. The bytes of a frame, op and check among them
+abbrev pub formLength : Form → ℕ
+formLength f = 2 + widths (f .fields)
+
+unfoldable pub lengthOf : ℕ → ℕ
+lengthOf op = formLength (formOf op)
+
+-- what bytes ask, byte 0 being the op
+abbrev pub made : Form → List ℕ → Request
+made f vs = cond (allListed (f .fields) vs) (given (f .fields) (f .asks) vs) Malformed
+
+abbrev pub readAs : Form → List ℕ → Request
+readAs f b = made f (values (f .fields) b 1)
+
 unfoldable pub openOf : List ℕ → Request
-openOf b =
-    cond (cutListed (getD b 11 0))
-    (Open (twoAt b 1) (sizeAt b 3) (cutOf (getD b 11 0)) (getD b 12 0))
-    Malformed
+openOf b = readAs openForm b
 
 unfoldable pub offersOf : List ℕ → Request
-offersOf b = cond (turnListed (getD b 18 0)) (Offers (markAt b 1) (partAt b 8)) Malformed
+offersOf b = readAs offersForm b
 
 unfoldable pub insertOf : List ℕ → Request
-insertOf b =
-    cond (turnListed (getD b 18 0) && (rotationListed (getD b 19 0) && shapeListed (getD b 20 0)))
-    (Insert (markAt b 1) (partAt b 8) (rotationOf (getD b 19 0)) (shapeOf (getD b 20 0)))
-    Malformed
+insertOf b = readAs insertForm b
 
 unfoldable pub removeOf : List ℕ → Request
-removeOf b = Remove (markAt b 1)
-
--- the bytes of each op's frame, op and check among them; 0 for an op not listed
-unfoldable pub lengthOf : ℕ → ℕ
-lengthOf op =
-    cond (eqb op 1) 14
-    (cond (eqb op 2) 20
-    (cond (eqb op 3) 22
-    (cond (eqb op 4) 9 (cond (eqb op 5) 2 (cond (eqb op 6) 2 (cond (eqb op 7) 2 0))))))
+removeOf b = readAs removeForm b
 
 unfoldable pub askedBy : ℕ → List ℕ → Request
-askedBy op b =
-    cond (eqb op 1) (openOf b)
-    (cond (eqb op 2) (offersOf b)
-    (cond (eqb op 3) (insertOf b)
-    (cond (eqb op 4) (removeOf b)
-    (cond (eqb op 5) Keep (cond (eqb op 6) Restore (cond (eqb op 7) Report Malformed))))))
+askedBy op b = readAs (formOf op) b
 
 -- "at most 64 characters"; "lower-case hexadecimal", two characters a byte; "the bytes of a frame add to 0"; and the length of its op
 unfoldable pub wellFormed : List ℕ → Bool
@@ -58,15 +85,18 @@ unfoldable pub requestOf : List ℕ → Request
 requestOf line = cond (wellFormed line) (askedBy (getD (pairs line) 0 0) (pairs line)) Malformed
 
 -- the op and what each request carries; and its line, with the check. Malformed has none, and no bytes but a check ask nothing.
+abbrev pub carried : ℕ → Form → List ℕ → List ℕ
+carried op f vs = op ∷ written (f .fields) vs
+
 unfoldable pub carriedBy : Request → List ℕ
-carriedBy (Open layout size cut stages) = 1 ∷ (two layout ++ (sizeBytes size ++ (cutNo cut ∷ stages ∷ [])))
-carriedBy (Offers mark part) = 2 ∷ (markBytes mark ++ partBytes part)
+carriedBy (Open layout size cut stages) = carried 1 openForm (layout ∷ size .width ∷ size .height ∷ cutNo cut ∷ stages ∷ [])
+carriedBy (Offers mark part) = carried 2 offersForm (markNos mark ++ partNos part)
 carriedBy (Insert mark part rotation shape) =
-    3 ∷ (markBytes mark ++ (partBytes part ++ (rotationNo rotation ∷ shapeNo shape ∷ [])))
-carriedBy (Remove mark) = 4 ∷ markBytes mark
-carriedBy Keep = 5 ∷ []
-carriedBy Restore = 6 ∷ []
-carriedBy Report = 7 ∷ []
+    carried 3 insertForm (markNos mark ++ (partNos part ++ (rotationNo rotation ∷ shapeNo shape ∷ [])))
+carriedBy (Remove mark) = carried 4 removeForm (markNos mark)
+carriedBy Keep = carried 5 (bare Keep) []
+carriedBy Restore = carried 6 (bare Restore) []
+carriedBy Report = carried 7 (bare Report) []
 carriedBy Malformed = []
 
 abbrev pub frameOf : Request → List ℕ

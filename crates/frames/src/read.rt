@@ -18,6 +18,61 @@ use piece::size::Size;
 // The longest line, in characters.
 pub const LONGEST: usize = 64;
 
+// The bytes of a field.
+const BYTE: usize = 1;
+
+const TWO: usize = 2;
+
+const FOUR: usize = 4;
+
+const SIZE: usize = FOUR + FOUR;
+
+// A mark and a part: where each field stands, which is behind the one before it, and how many bytes they are.
+const MARK_PLACE: usize = TWO;
+
+const MARK_SERIAL: usize = MARK_PLACE + BYTE;
+
+const MARK: usize = MARK_SERIAL + FOUR;
+
+const PART_SIZE: usize = TWO;
+
+const PART_TURN: usize = PART_SIZE + SIZE;
+
+const PART: usize = PART_TURN + BYTE;
+
+// A frame: byte 0 is its op, the fields of the op follow, and the check is last; and how many bytes it is.
+const FIRST: usize = BYTE;
+
+const CHECK: usize = BYTE;
+
+const OPEN_SIZE: usize = FIRST + TWO;
+
+const OPEN_CUT: usize = OPEN_SIZE + SIZE;
+
+const OPEN_STAGES: usize = OPEN_CUT + BYTE;
+
+const OPEN: usize = OPEN_STAGES + BYTE + CHECK;
+
+const OFFERS_PART: usize = FIRST + MARK;
+
+const OFFERS_TURN: usize = OFFERS_PART + PART_TURN;
+
+const OFFERS: usize = OFFERS_PART + PART + CHECK;
+
+const INSERT_PART: usize = FIRST + MARK;
+
+const INSERT_TURN: usize = INSERT_PART + PART_TURN;
+
+const INSERT_ROTATION: usize = INSERT_PART + PART;
+
+const INSERT_SHAPE: usize = INSERT_ROTATION + BYTE;
+
+const INSERT: usize = INSERT_SHAPE + BYTE + CHECK;
+
+const REMOVE: usize = FIRST + MARK + CHECK;
+
+const BARE: usize = FIRST + CHECK;
+
 // The bytes of a line, zero past the last; their sum, counting past 255 from 0 again; and whether all characters are digits.
 struct Decoded {
     bytes: [u8; 32],
@@ -91,8 +146,8 @@ fn mark_at(b: &[u8; 32], i: usize) -> Mark
 {
     Mark {
         layout: two_at(b, i),
-        place: wide(b[i + 2]),
-        serial: four_at(b, i + 3),
+        place: wide(b[i + MARK_PLACE]),
+        serial: four_at(b, i + MARK_SERIAL),
     }
 }
 
@@ -102,8 +157,8 @@ fn part_at(b: &[u8; 32], i: usize) -> PartType
 {
     PartType {
         number: two_at(b, i),
-        size: size_at(b, i + 2),
-        turn: turn_of(b[i + 10]),
+        size: size_at(b, i + PART_SIZE),
+        turn: turn_of(b[i + PART_TURN]),
     }
 }
 
@@ -161,37 +216,37 @@ fn shape_of(n: u8) -> InsertionShape
 fn open(b: &[u8; 32]) -> Request
     ensures { λ r. ⌜ r ≡ openOf (now (b .entry)) ⌝ }
 {
-    let cut = b[11];
+    let cut = b[OPEN_CUT];
     if 1 < cut {
         return Request::Malformed;
     }
     Request::Open {
-        layout: two_at(b, 1),
-        size: size_at(b, 3),
+        layout: two_at(b, FIRST),
+        size: size_at(b, OPEN_SIZE),
         cut: cut_of(cut),
-        stages: b[12],
+        stages: b[OPEN_STAGES],
     }
 }
 
 fn offers(b: &[u8; 32]) -> Request
     ensures { λ r. ⌜ r ≡ offersOf (now (b .entry)) ⌝ }
 {
-    let turn = b[18];
+    let turn = b[OFFERS_TURN];
     if 2 < turn {
         return Request::Malformed;
     }
     Request::Offers {
-        mark: mark_at(b, 1),
-        part: part_at(b, 8),
+        mark: mark_at(b, FIRST),
+        part: part_at(b, OFFERS_PART),
     }
 }
 
 fn insert(b: &[u8; 32]) -> Request
     ensures { λ r. ⌜ r ≡ insertOf (now (b .entry)) ⌝ }
 {
-    let turn = b[18];
-    let rotation = b[19];
-    let shape = b[20];
+    let turn = b[INSERT_TURN];
+    let rotation = b[INSERT_ROTATION];
+    let shape = b[INSERT_SHAPE];
     if 2 < turn {
         return Request::Malformed;
     }
@@ -205,8 +260,8 @@ fn insert(b: &[u8; 32]) -> Request
         return Request::Malformed;
     }
     Request::Insert {
-        mark: mark_at(b, 1),
-        part: part_at(b, 8),
+        mark: mark_at(b, FIRST),
+        part: part_at(b, INSERT_PART),
         rotation: rotation_of(rotation),
         shape: shape_of(shape),
     }
@@ -216,22 +271,20 @@ fn remove(b: &[u8; 32]) -> Request
     ensures { λ r. ⌜ r ≡ removeOf (now (b .entry)) ⌝ }
 {
     Request::Remove {
-        mark: mark_at(b, 1),
+        mark: mark_at(b, FIRST),
     }
 }
 
+// Op and check among its bytes; an op that is not listed carries nothing.
 fn length_of(op: u8) -> usize
     ensures { λ r. ⌜ r ≡ lengthOf op ⌝ }
 {
     match op {
-        1 => 14,
-        2 => 20,
-        3 => 22,
-        4 => 9,
-        5 => 2,
-        6 => 2,
-        7 => 2,
-        _ => 0,
+        1 => OPEN,
+        2 => OFFERS,
+        3 => INSERT,
+        4 => REMOVE,
+        _ => BARE,
     }
 }
 

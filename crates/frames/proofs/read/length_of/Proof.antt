@@ -1,52 +1,30 @@
 -- `read::length_of` meets its contract. Assumes nothing.
 use borrow.Author.Tests.{ne-eqb}
-use Rattle.frames.specs.Requests.{lengthOf}
+use Rattle.frames.specs.Requests.{formOf, lengthOf}
 use Rattle.frames.proofs.read.length_of.Statement.{statement}
 use Rattle.frames.proofs.read.length_of.Tie as tie
 
 returns : tie.Need-returns
-unfolding lengthOf
+unfolding formOf lengthOf
 returns c = rw (c .match .keys1)
 
 returns-2 : tie.Need-returns-2
-unfolding lengthOf
+unfolding formOf lengthOf
 returns-2 c = rw (c .match .keys2)
 
 returns-3 : tie.Need-returns-3
-unfolding lengthOf
+unfolding formOf lengthOf
 returns-3 c = rw (c .match .keys3)
 
 returns-4 : tie.Need-returns-4
-unfolding lengthOf
+unfolding formOf lengthOf
 returns-4 c = rw (c .match .keys4)
 
 returns-5 : tie.Need-returns-5
-unfolding lengthOf
-returns-5 c = rw (c .match .keys5)
-
-returns-6 : tie.Need-returns-6
-unfolding lengthOf
-returns-6 c = rw (c .match .keys6)
-
-returns-7 : tie.Need-returns-7
-unfolding lengthOf
-returns-7 c = rw (c .match .keys7)
-
-returns-8 : tie.Need-returns-8
-unfolding lengthOf
-returns-8 c =
+unfolding formOf lengthOf
+returns-5 c =
     let no = c .match .rest in
-    simp (
-      ne-eqb _ _ (no .0 .0 .0 .0 .0 .0 .1),
-      ne-eqb _ _ (no .0 .0 .0 .0 .0 .1),
-      ne-eqb _ _ (no .0 .0 .0 .0 .1),
-      ne-eqb _ _ (no .0 .0 .0 .1),
-      ne-eqb _ _ (no .0 .0 .1),
-      ne-eqb _ _ (no .0 .1),
-      ne-eqb _ _ (no .1),
-    )
+    simp (ne-eqb _ _ (no .0 .0 .0 .1), ne-eqb _ _ (no .0 .0 .1), ne-eqb _ _ (no .0 .1), ne-eqb _ _ (no .1))
 
 pub length-of-spec : {M : Type 1} → statement M
-length-of-spec =
-    tie.close
-    (tie.spec returns returns-2 returns-3 returns-4 returns-5 returns-6 returns-7 returns-8)
+length-of-spec = tie.close (tie.spec returns returns-2 returns-3 returns-4 returns-5)

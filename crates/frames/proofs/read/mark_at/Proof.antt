@@ -1,5 +1,6 @@
 -- `read::mark_at` meets its contract. Assumes nothing.
 use borrow.Author.Needs.{needs}
+use Rattle.frames.proofs.Fields.{serial-place}
 use Rattle.frames.proofs.read.mark_at.Statement.{statement}
 use Rattle.frames.proofs.read.mark_at.Tie as tie
 
@@ -22,7 +23,7 @@ four-at-requires : tie.Need-four-at-requires
 four-at-requires c κs = search needs
 
 returns : tie.Need-returns
-returns c = simp (c .before .before .before .two-at .ensures, c .before .wide .ensures, c .four-at .ensures)
+returns c = simp (c .before .before .before .two-at .ensures, c .before .wide .ensures, c .four-at .ensures, serial-place)
 
 pub mark-at-spec : {M : Type 1} → statement M
 mark-at-spec =

@@ -1,5 +1,6 @@
 -- `read::part_at` meets its contract. Assumes nothing.
 use borrow.Author.Needs.{needs}
+use Rattle.frames.proofs.Fields.{turn-place}
 use Rattle.frames.proofs.read.part_at.Statement.{statement}
 use Rattle.frames.proofs.read.part_at.Tie as tie
 
@@ -22,7 +23,7 @@ turn-of-requires : tie.Need-turn-of-requires
 turn-of-requires c κs = search needs
 
 returns : tie.Need-returns
-returns c = simp (c .before .before .before .two-at .ensures, c .before .before .size-at .ensures, c .turn-of .ensures)
+returns c = simp (c .before .before .before .two-at .ensures, c .before .before .size-at .ensures, c .turn-of .ensures, turn-place)
 
 pub part-at-spec : {M : Type 1} → statement M
 part-at-spec =
