@@ -13,8 +13,9 @@ use Rattle.frames.specs.Fields.{markBytes}
 use Rattle.frames.specs.Answers.{Answer, refused, opened, offered, inserted, removed, done, reported, malformed, each, offerBytes, contentOf}
 use Rattle.frames.specs.Answers.{answerBytes}
 use Rattle.frames.specs.Ranges.{Each, none, more, AnswerFits}
-use Rattle.frames.proofs.Laws.{framed-adds, pairs-chars, AreBytes, no-bytes, then, join, are-two, are-eight, are-mark, rotation-small}
+use Rattle.frames.proofs.Laws.{framed-adds, pairs-chars, AreBytes, no-bytes, then, join, are-two, are-eight, rotation-small}
 use Rattle.frames.proofs.Laws.{shape-small, are-framed}
+use Rattle.frames.proofs.Forms.{are-mark}
 
 pub answer-adds : (a : Answer) → total (answerBytes a) % 256 ≡ 0
 answer-adds a = framed-adds (contentOf a)

@@ -9,9 +9,13 @@ use lib.Dec.{ltb}
 use lib.ListN.{length, getD, drop, length-append, length-drop}
 use lib.Seq.{getD-drop, drop-drop}
 use borrow.Author.Tests.{ltb-true}
+use Rattle.piece.specs.declared.parttype.PartType.{PartType}
+use Rattle.answers.specs.declared.Mark.{Mark}
 use Rattle.frames.specs.Bytes.{allBytes, two, four}
-use Rattle.frames.specs.Fields.{Width, single, double, quad, Field, sizeOf, widths, valueAt, values, bytesIn, written}
-use Rattle.frames.proofs.Laws.{first-true, second-true, AreBytes, no-bytes, then, join, are-two, are-four}
+use Rattle.frames.specs.Fields.{Width, single, double, quad, Field, markFields, partFields, sizeOf, widths, valueAt, values, bytesIn, written}
+use Rattle.frames.specs.Fields.{markNos, partNos, markBytes}
+use Rattle.frames.specs.Ranges.{MarkFits, PartFits}
+use Rattle.frames.proofs.Laws.{first-true, second-true, AreBytes, no-bytes, then, join, are-two, are-four, turn-small}
 
 abbrev boundOf : Width → ℕ
 boundOf single = 2 ^ 8
@@ -22,6 +26,14 @@ boundOf quad = 2 ^ 32
 pub data Fits : List Field → List ℕ → Type 0 where
   none : Fits [] []
   more : {f : Field} {fs : List Field} {v : ℕ} {vs : List ℕ} → v < boundOf (f .width) → Fits fs vs → Fits (f ∷ fs) (v ∷ vs)
+
+-- marks and parts that fit, before further numbers
+module _ {fs : List Field} {vs : List ℕ} (rest : Fits fs vs) where
+  pub mark-fits : (m : Mark) → MarkFits m → Fits (markFields ++ fs) (markNos m ++ vs)
+  mark-fits m f = more (f .layout) (more (f .place) (more (f .serial) rest))
+
+  pub part-fits : (p : PartType) → PartFits p → Fits (partFields ++ fs) (partNos p ++ vs)
+  part-fits p f = more (f .number) (more (f .size .width) (more (f .size .height) (more (turn-small (p .turn)) rest)))
 
 abbrev cons : ℕ → List ℕ → List ℕ
 cons v vs = v ∷ vs
@@ -93,6 +105,9 @@ are-in quad v h = are-four v h
 pub are-written : {fs : List Field} {vs : List ℕ} → Fits fs vs → AreBytes (written fs vs)
 are-written none = no-bytes
 are-written (more {f} {fs} {v} {vs} h hs) = join (are-in (f .width) v h) (are-written hs)
+
+pub are-mark : (m : Mark) → MarkFits m → AreBytes (markBytes m)
+are-mark m f = are-written (mark-fits none m f)
 
 -- ---- bytes, as numbers and back
 byte-at : (b : List ℕ) → allBytes b ≡ true → (i : ℕ) → getD b i 0 < 256

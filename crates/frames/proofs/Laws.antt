@@ -16,10 +16,8 @@ use Rattle.piece.specs.declared.parttype.Turn.{Turn}
 use Rattle.piece.specs.declared.parttype.Turn.the-variants.{Either, Fixed}
 use Rattle.piece.specs.declared.insertion_blueprint.InsertionShape.{InsertionShape}
 use Rattle.piece.specs.declared.insertion_blueprint.InsertionShape.the-variants.{AlongCurrentCut, AcrossCurrentCut, AlongThenAcross, AcrossThenAlong}
-use Rattle.answers.specs.declared.Mark.{Mark}
 use Rattle.frames.specs.Bytes.{pairs, allBytes, charsOf, total, checkOf, framed, two, four, eight}
-use Rattle.frames.specs.Fields.{cutNo, turnNo, rotationNo, shapeNo, markBytes}
-use Rattle.frames.specs.Ranges.{MarkFits}
+use Rattle.frames.specs.Fields.{cutNo, turnNo, rotationNo, shapeNo}
 use Rattle.frames.proofs.Lists.{total-append, all-append}
 
 -- ---- the check: the bytes of every frame add to 0
@@ -95,9 +93,6 @@ are-four n h = join (are-two (n / 65536) (omega arith)) (are-two (n % 65536) (om
 
 pub are-eight : (n : ℕ) → n < 2 ^ 64 → AreBytes (eight n)
 are-eight n h = join (are-four (n / 4294967296) (omega arith)) (are-four (n % 4294967296) (omega arith))
-
-pub are-mark : (m : Mark) → MarkFits m → AreBytes (markBytes m)
-are-mark m f = join (are-two (m .layout) (f .layout)) (then (omega arith) (are-four (m .serial) (f .serial)))
 
 pub turn-small : (t : Turn) → turnNo t < 256
 turn-small Either = omega arith

@@ -1,8 +1,8 @@
 -- Every request that fits its fields is read from its line. Rests on Forms.
 use mathlib.Core.Path.{_≡_, refl, sym, ap, _∙_}
-use mathlib.Core.Bool.{Bool, true, cond}
-use mathlib.Core.List.{List, [], _∷_, _++_}
-use Prim.Native.Nat.{ℕ, _+_, _-_, _%_, _^_, _<_, _≤_}
+use mathlib.Core.Bool.{true}
+use mathlib.Core.List.{List, [], _∷_}
+use Prim.Native.Nat.{ℕ, _+_, _-_, _%_, _<_, _≤_}
 use native.Mathlib.Omega.{arith}
 use lib.ListN.{length, getD, length-append}
 use borrow.Author.Tests.{le-leb, eq-eqb}
@@ -13,21 +13,19 @@ use Rattle.piece.specs.declared.rotation.Rotation.{Rotation}
 use Rattle.piece.specs.declared.rotation.Rotation.the-variants.{Default, Rotated}
 use Rattle.piece.specs.declared.parttype.Turn.{Turn}
 use Rattle.piece.specs.declared.parttype.Turn.the-variants.{Either, Fixed}
-use Rattle.piece.specs.declared.parttype.PartType.{PartType}
 use Rattle.piece.specs.declared.insertion_blueprint.InsertionShape.{InsertionShape}
 use Rattle.piece.specs.declared.insertion_blueprint.InsertionShape.the-variants.{AlongCurrentCut, AcrossCurrentCut, AlongThenAcross, AcrossThenAlong}
-use Rattle.answers.specs.declared.Mark.{Mark}
 use Rattle.frames.specs.declared.Request.{Request}
 use Rattle.frames.specs.declared.Request.the-variants.{Open, Offers, Insert, Remove, Keep, Restore, Report, Malformed}
 use Rattle.frames.specs.Bytes.{pairs, allBytes, charsOf, total, checkOf, framed}
 use Rattle.frames.specs.Fields.{cutNo, turnNo, rotationNo, shapeNo, cutListed, turnListed, rotationListed, shapeListed, cutOf, turnOf, rotationOf}
-use Rattle.frames.specs.Fields.{shapeOf, Field, markFields, partFields, markNos, partNos, widths, values, allListed, written, given}
+use Rattle.frames.specs.Fields.{shapeOf, widths, values}
 use Rattle.frames.specs.Requests.{Form, openForm, offersForm, insertForm, removeForm, bare, formOf, lengthOf, made, readAs, askedBy}
 use Rattle.frames.specs.Requests.{wellFormed, requestOf, carried, carriedBy, frameOf}
-use Rattle.frames.specs.Ranges.{MarkFits, PartFits, RequestFits}
+use Rattle.frames.specs.Ranges.{RequestFits}
 use Rattle.frames.proofs.Lists.{length-chars}
-use Rattle.frames.proofs.Laws.{framed-adds, pairs-chars, then, turn-small, rotation-small, shape-small, cut-small, are-framed}
-use Rattle.frames.proofs.Forms.{Fits, none, more, values-drop, values-back, length-written, are-written}
+use Rattle.frames.proofs.Laws.{framed-adds, pairs-chars, then, rotation-small, shape-small, cut-small, are-framed}
+use Rattle.frames.proofs.Forms.{Fits, none, more, mark-fits, part-fits, values-drop, values-back, length-written, are-written}
 
 module _ (bs : List ℕ) (bytes : allBytes bs ≡ true) (short : length bs ≤ 32) (adds : total bs % 256 ≡ 0)
     (long : length bs ≡ lengthOf (getD bs 0 0)) where
@@ -70,50 +68,25 @@ module _ (op : ℕ) (f : Form) (vs : List ℕ) (is : formOf op ≡ f) (small : o
       ∙ ap (made f) read
 
 -- ---- each op
-turn-listed : (t : Turn) → turnListed (turnNo t) ≡ true
-turn-listed Either = refl
-turn-listed (Fixed Default) = refl
-turn-listed (Fixed Rotated) = refl
+-- what a number is given for is listed, and says it
+turn-back : (t : Turn) → (turnListed (turnNo t) ≡ true) × (turnOf (turnNo t) ≡ t)
+turn-back Either = (refl, refl)
+turn-back (Fixed Default) = (refl, refl)
+turn-back (Fixed Rotated) = (refl, refl)
 
-turn-back : (t : Turn) → turnOf (turnNo t) ≡ t
-turn-back Either = refl
-turn-back (Fixed Default) = refl
-turn-back (Fixed Rotated) = refl
+rotation-back : (r : Rotation) → (rotationListed (rotationNo r) ≡ true) × (rotationOf (rotationNo r) ≡ r)
+rotation-back Default = (refl, refl)
+rotation-back Rotated = (refl, refl)
 
-rotation-listed : (r : Rotation) → rotationListed (rotationNo r) ≡ true
-rotation-listed Default = refl
-rotation-listed Rotated = refl
+shape-back : (s : InsertionShape) → (shapeListed (shapeNo s) ≡ true) × (shapeOf (shapeNo s) ≡ s)
+shape-back AlongCurrentCut = (refl, refl)
+shape-back AcrossCurrentCut = (refl, refl)
+shape-back AlongThenAcross = (refl, refl)
+shape-back AcrossThenAlong = (refl, refl)
 
-rotation-back : (r : Rotation) → rotationOf (rotationNo r) ≡ r
-rotation-back Default = refl
-rotation-back Rotated = refl
-
-shape-listed : (s : InsertionShape) → shapeListed (shapeNo s) ≡ true
-shape-listed AlongCurrentCut = refl
-shape-listed AcrossCurrentCut = refl
-shape-listed AlongThenAcross = refl
-shape-listed AcrossThenAlong = refl
-
-shape-back : (s : InsertionShape) → shapeOf (shapeNo s) ≡ s
-shape-back AlongCurrentCut = refl
-shape-back AcrossCurrentCut = refl
-shape-back AlongThenAcross = refl
-shape-back AcrossThenAlong = refl
-
-cut-listed : (c : Orientation) → cutListed (cutNo c) ≡ true
-cut-listed Horizontal = refl
-cut-listed Vertical = refl
-
-cut-back : (c : Orientation) → cutOf (cutNo c) ≡ c
-cut-back Horizontal = refl
-cut-back Vertical = refl
-
-module _ {fs : List Field} {vs : List ℕ} (rest : Fits fs vs) where
-  mark-fits : (m : Mark) → MarkFits m → Fits (markFields ++ fs) (markNos m ++ vs)
-  mark-fits m f = more (f .layout) (more (f .place) (more (f .serial) rest))
-
-  part-fits : (p : PartType) → PartFits p → Fits (partFields ++ fs) (partNos p ++ vs)
-  part-fits p f = more (f .number) (more (f .size .width) (more (f .size .height) (more (turn-small (p .turn)) rest)))
+cut-back : (c : Orientation) → (cutListed (cutNo c) ≡ true) × (cutOf (cutNo c) ≡ c)
+cut-back Horizontal = (refl, refl)
+cut-back Vertical = (refl, refl)
 
 -- the line of no bytes but a check
 malformed-back : requestOf (frameOf Malformed) ≡ Malformed
@@ -124,12 +97,12 @@ pub request-back : (q : Request) → RequestFits q → requestOf (frameOf q) ≡
 unfolding carriedBy formOf
 request-back (Open l s c t) f =
     asks 1 openForm _ refl (omega arith) (more (f .0) (more (f .1 .width) (more (f .1 .height) (more (cut-small c) (more (f .2) none))))) (omega arith)
-    ∙ rw (cut-listed c, cut-back c) refl
+    ∙ rw (cut-back c .0, cut-back c .1) refl
 request-back (Offers m p) f =
-    asks 2 offersForm _ refl (omega arith) (mark-fits (part-fits none p (f .1)) m (f .0)) (omega arith) ∙ rw (turn-listed (p .turn), turn-back (p .turn)) refl
+    asks 2 offersForm _ refl (omega arith) (mark-fits (part-fits none p (f .1)) m (f .0)) (omega arith) ∙ rw (turn-back (p .turn) .0, turn-back (p .turn) .1) refl
 request-back (Insert m p r s) f =
     asks 3 insertForm _ refl (omega arith) (mark-fits (part-fits (more (rotation-small r) (more (shape-small s) none)) p (f .1)) m (f .0)) (omega arith)
-    ∙ rw (turn-listed (p .turn), rotation-listed r, shape-listed s, turn-back (p .turn), rotation-back r, shape-back s) refl
+    ∙ rw (turn-back (p .turn) .0, rotation-back r .0, shape-back s .0, turn-back (p .turn) .1, rotation-back r .1, shape-back s .1) refl
 request-back (Remove m) f = asks 4 removeForm _ refl (omega arith) (mark-fits none m f) (omega arith)
 request-back Keep f = asks 5 (bare Keep) [] refl (omega arith) none (omega arith)
 request-back Restore f = asks 6 (bare Restore) [] refl (omega arith) none (omega arith)

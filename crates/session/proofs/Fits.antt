@@ -2,15 +2,15 @@
 -- is written, and its line reads back. The marks are those of pieces of the next layout, which is sound; part numbers are those of a sound tree.
 use mathlib.Core.Path.{_≡_, refl, sym, ap, _∙_}
 use mathlib.Core.Bool.{Bool, true, false, cond}
-use mathlib.Core.List.{List, [], _∷_, _++_}
+use mathlib.Core.List.{List, _∷_, _++_}
 use mathlib.Core.Logic.{inl, inr}
 use Prim.Native.Nat.{ℕ, zero, suc, _+_, _^_, _<_}
 use native.Mathlib.Omega.{arith}
 use lib.Dec.{eqb}
-use lib.Ieee.{binary64, toBits}
+use lib.Ieee.{binary64}
 use lib.Ieee.Bits.{toBits-lt}
 use lib.Ieee.Fits.{div-fits}
-use lib.ListN.{length, take, length-take}
+use lib.ListN.{take, length-take}
 use Rattle.piece.specs.declared.orientation.Orientation.{Orientation}
 use Rattle.piece.specs.declared.rotation.Rotation.{Rotation}
 use Rattle.piece.specs.declared.size.Size.{Size}
@@ -58,7 +58,7 @@ use Rattle.frames.specs.Answers.{Answer, done, answerBytes}
 use Rattle.frames.specs.Ranges.{MarkFits, RequestFits, Each, none, more, AnswerFits}
 use Rattle.frames.proofs.AnswerLaws.{answer-back}
 use Rattle.session.specs.declared.Session.{Session}
-use Rattle.session.specs.Session.{Reply, answerBy, offersSaid, marksSaid, numbersSaid, keptBy, figures, reportBy, Answers}
+use Rattle.session.specs.Session.{Reply, answerBy, offersSaid, marksSaid, numbersSaid, keptBy, reportBy, Answers}
 use Rattle.session.specs.Session.{afterOpen, afterOffers, afterInsert, afterRemove, afterKeep, afterRestore, afterReport}
 use Rattle.session.proofs.Ways.{offers-four}
 

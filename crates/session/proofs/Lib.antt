@@ -10,3 +10,4 @@ pub mod Unique
 pub mod Kept
 pub mod Uses
 pub mod Fits
+pub mod Fitting
