@@ -1,4 +1,5 @@
--- Which requests and answers fit the fields of their frames: what the types of the code say of every value that it holds.
+-- Which requests and answers fit the fields of their frames. What a line asks does (proofs/Heard.antt, `request-fits`), and so does every answer of the
+-- counter (session/proofs/Fitting.antt, `counter-fits`).
 use mathlib.Core.List.{List, [], _∷_}
 use Prim.Native.Nat.{_<_, _^_}
 use lib.ListN.{length}

@@ -4,7 +4,7 @@ ghost use Prim.Native.Nat.{_+_, _≤_};
 ghost use lib.ListN.{length};
 ghost use Rattle.frames.specs.Bytes.{twoAt, fourAt};
 ghost use Rattle.frames.specs.Decoding.{Decodes};
-ghost use Rattle.frames.specs.Fields.{cutOf, turnOf, rotationOf, shapeOf, sizeAt, markAt, partAt};
+ghost use Rattle.frames.specs.Fields.{cutOf, turnOf, rotationOf, shapeOf, markFields, partFields, widths, sizeAt, markAt, partAt};
 ghost use Rattle.frames.specs.Requests.{openOf, offersOf, insertOf, removeOf, lengthOf, askedBy, requestOf};
 use crate::Request;
 use answers::Mark;
@@ -141,7 +141,7 @@ fn wide(byte: u8) -> u16
 }
 
 fn mark_at(b: &[u8; 32], i: usize) -> Mark
-    requires { ⌜ i + 7 ≤ 32 ⌝ }
+    requires { ⌜ i + widths markFields ≤ 32 ⌝ }
     ensures { λ r. ⌜ r ≡ markAt (now (b .entry)) i ⌝ }
 {
     Mark {
@@ -152,7 +152,7 @@ fn mark_at(b: &[u8; 32], i: usize) -> Mark
 }
 
 fn part_at(b: &[u8; 32], i: usize) -> PartType
-    requires { ⌜ i + 11 ≤ 32 ⌝ }
+    requires { ⌜ i + widths partFields ≤ 32 ⌝ }
     ensures { λ r. ⌜ r ≡ partAt (now (b .entry)) i ⌝ }
 {
     PartType {

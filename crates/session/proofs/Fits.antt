@@ -236,7 +236,7 @@ module _ (s : Session) (sized : Sized (s .layout)) (number : s .layout .number <
   keep-fits true = omega arith
   keep-fits false = omega arith
 
-  -- THE LAW
+  -- THE LAW: a request that fits, at a layout that is as its type says, gets an answer that fits
   pub answer-fits : (q : Request) (t : Session) (a : Answer) → RequestFits q → Answers s q t a → AnswerFits a
   unfolding Answers afterOpen afterOffers afterInsert afterRemove afterKeep afterRestore afterReport
   answer-fits (Open n size cut stages) t a f h =
