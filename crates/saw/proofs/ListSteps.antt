@@ -1,5 +1,5 @@
--- The steps of the two routines, once over the way: what `listed` is where nothing is left, past the end, at the last piece of a row, and where a
--- piece is cut off; and what is written along them. Rests on CutBytes. Assumes nothing.
+-- The steps of the two routines, once over the way: a call of a routine, how far it is, and at each such place what the next call may ask and what is
+-- written in the end. Rests on CutBytes. Assumes nothing.
 use mathlib.Core.Path.{_≡_, refl, ap, _∙_}
 use mathlib.Core.List.{List, [], _∷_, _++_, append-nil}
 use Prim.Native.Nat.{ℕ, zero, suc, _+_, _-_, _*_, _≤_, _<_}
@@ -17,158 +17,208 @@ use Rattle.saw.proofs.CutBytes.{bytes-written}
 -- ---- what a routine asks, and what it does
 
 -- there is room for these cuts behind n cuts, and the board is in the pile that those make
-abbrev pub Room : ℕ → List Cut → ℕ → ℕ → List ℕ → Type 0
+abbrev Room : ℕ → List Cut → ℕ → ℕ → List ℕ → Type 0
 Room limit cs place n out = (place ≤ n) × (n + length cs ≤ limit) × (9 * (n + length cs) ≤ length out)
 
 -- they are written there, and counted
-abbrev pub Done : List Cut → ℕ → List ℕ → List ℕ → ℕ → Type 0
+abbrev Done : List Cut → ℕ → List ℕ → List ℕ → ℕ → Type 0
 Done cs n out after m = (after ≡ sets out (9 * n) (bytesOf cs)) × (m ≡ n + length cs)
 
-pub none-done : {cs : List Cut} (n : ℕ) (out : List ℕ) → cs ≡ [] → Done cs n out out n
+none-done : {cs : List Cut} (n : ℕ) (out : List ℕ) → cs ≡ [] → Done cs n out out n
 unfolding bytesOf
 none-done n out e = rw e (refl, omega arith)
 
--- a cut, those below, and those of the rest, one after the other
-module _ (limit : ℕ) (cs : List Cut) (c : Cut) (ds es : List Cut) (is : cs ≡ c ∷ (ds ++ es)) (place n : ℕ) (out : List ℕ)
-    (room : Room limit cs place n out) where
-  longer : length cs ≡ suc (length ds + length es)
-  longer = ap length is ∙ ap suc (length-append ds es)
+-- a cut, those below it, and those of the rest, one after the other
+all-done : (c : Cut) (ds es : List Cut) (n : ℕ) (out : List ℕ) {out₁ out₂ after : List ℕ} {m q : ℕ} → out₁ ≡ sets out (9 * n) (cutBytes c [])
+    → Done ds (n + 1) out₁ out₂ m → Done es m out₂ after q → Done (c ∷ (ds ++ es)) n out after q
+unfolding bytesOf
+all-done c ds es n out {m} cut lower rest =
+    let e : m ≡ n + length (c ∷ ds) = omega (arith, lower .1) in (
+      rw (rest .0, lower .0, cut, e)
+          (ap (λ (l : List ℕ). sets l (9 * (n + length (c ∷ ds))) (bytesOf es)) (bytes-written (c ∷ []) ds out n)
+          ∙ bytes-written (c ∷ ds) es out n),
+      omega (arith, length-append ds es, lower .1, rest .1),
+    )
 
-  room-one : 9 * n + 9 ≤ length out
-  room-one = omega (arith, longer, room .2)
+-- ---- how far a call is
 
-  module _ (out₁ : List ℕ) (cut : out₁ ≡ sets out (9 * n) (cutBytes c [])) where
-    as-long : length out₁ ≡ length out
-    as-long = ap length cut ∙ length-sets out (9 * n) (cutBytes c [])
+-- what is lent to every call: the columns, of so many places
+pub record Lent : Type 0 where
+  pub limit : ℕ
+  pub first : List ℕ
+  pub next : List ℕ
+  pub kind : List ℕ
+  pub width : List ℕ
+  pub height : List ℕ
 
-    room-below : Room limit ds place (n + 1) out₁
-    room-below = (omega (arith, room .0), omega (arith, longer, room .1), omega (arith, longer, as-long, room .2))
+-- what a call of this way lists of them
+abbrev listedOf : Lent → Orientation → (left i c : ℕ) → List Cut
+listedOf l way left i c = listed (l .limit) (l .first) (l .next) (l .kind) (l .width) (l .height) way left i c
 
-    module _ (out₂ : List ℕ) (m : ℕ) (lower : Done ds (n + 1) out₁ out₂ m) where
-      room-rest : (p : ℕ) → p ≡ place + (1 + length ds) → Room limit es p m out₂
-      room-rest p e =
-          let w = ap length (lower .0) ∙ length-sets out₁ (9 * (n + 1)) (bytesOf ds) in (
-            omega (arith, room .0, lower .1),
-            omega (arith, longer, room .1, lower .1),
-            omega (arith, longer, as-long, room .2, lower .1),
-          )
+-- a call: its way, its arguments, and what it asked. The calls in it have less than t left.
+pub record Call : Type 0 where
+  pub lent : Lent
+  pub way : Orientation
+  pub left : ℕ
+  pub place : ℕ
+  pub c : ℕ
+  pub n : ℕ
+  pub out : List ℕ
+  pub t : ℕ
+  pub asked : (left ≡ t) × Room (lent .limit) (listedOf lent way left place c) place n out
 
-      done-all : (after : List ℕ) (q : ℕ) → Done es m out₂ after q → Done cs n out after q
-      unfolding bytesOf
-      done-all after q last =
-          let e : m ≡ n + length (c ∷ ds) = omega (arith, lower .1) in (
-            rw (last .0, lower .0, cut, e, is)
-                (ap (λ (l : List ℕ). sets l (9 * (n + length (c ∷ ds))) (bytesOf es)) (bytes-written (c ∷ []) ds out n)
-                ∙ bytes-written (c ∷ ds) es out n),
-            omega (arith, longer, lower .1, last .1),
-          )
+abbrev sides : Call → List ℕ
+sides s = sidesIn (s .way) (s .lent .width) (s .lent .height)
 
--- ---- the list
+-- all its cuts, and those of the call for the piece at c
+abbrev all : Call → List Cut
+all s = listedOf (s .lent) (s .way) (s .left) (s .place) (s .c)
+
+abbrev inner : Call → List Cut
+inner s = listedOf (s .lent) (other (s .way)) (s .left - 1) (s .place) (getD (s .lent .first) (s .c) 0)
+
+-- it is at the piece at c, and r is the place of what is left
+pub record Here : Type 0 where
+  pub call : Call
+  pub some : call .left ≡ 0 → ⊥
+  pub held : call .c < call .lent .limit
+  pub r : ℕ
+  pub rest : r ≡ restOf (call .lent .limit) (call .lent .next) (sides call) (call .c)
+
+-- the cuts of the call for the rest, whose board is at the place p of the pile, and the place where it is
+abbrev later : Here → ℕ → List Cut
+later s p = listedOf (s .call .lent) (s .call .way) (s .call .left - 1) p (s .r)
+
+abbrev behind : Here → ℕ
+behind s = s .call .place + (1 + length (inner (s .call)))
+
+-- the cut that takes the piece off, where k is the kind of what is left
+abbrev one : Call → ℕ → Cut
+one s k = record { place = s .place; way = s .way; distance = getD (sides s) (s .c) 0; piece = getD (s .lent .kind) (s .c) 0; left = k }
+
+-- that cut is written
+pub record Off : Type 0 where
+  pub here : Here
+  pub more : here .r < here .call .lent .limit
+  pub k : ℕ
+  pub kinds : k ≡ leftIn (here .call .lent .limit) (here .call .lent .next) (here .call .lent .kind) (sides (here .call)) (here .r)
+  pub out : List ℕ
+  pub cut : out ≡ sets (here .call .out) (9 * here .call .n) (cutBytes (one (here .call) k) [])
+
+-- and the cuts of the piece
+pub record Under : Type 0 where
+  pub off : Off
+  pub out : List ℕ
+  pub m : ℕ
+  pub lower : Done (inner (off .here .call)) (off .here .call .n + 1) (off .out) out m
+
+-- ---- the steps
+
+-- nothing is left, or there is no piece at c
+pub none-left : (s : Call) → s .left ≡ 0 → Done (all s) (s .n) (s .out) (s .out) (s .n)
+unfolding listed
+none-left s e = none-done (s .n) (s .out) (rw e refl)
+
+past : (s : Call) (left i c : ℕ) → s .lent .limit ≤ c → listedOf (s .lent) (s .way) left i c ≡ []
+unfolding listed
+past s zero i c h = refl
+past s (suc l) i c h = rw (le-leb (s .lent .limit) c h) refl
+
+pub none-here : (s : Call) → s .lent .limit ≤ s .c → Done (all s) (s .n) (s .out) (s .out) (s .n)
+none-here s h = none-done (s .n) (s .out) (past s (s .left) (s .place) (s .c) h)
 
 less-one : (n : ℕ) → suc n - 1 ≡ n
 less-one n = omega arith
 
-module _ (limit : ℕ) (first next kind width height : List ℕ) (way : Orientation) where
-  -- the cuts from c on, and those below it
-  abbrev from : (left i c : ℕ) → List Cut
-  from left i c = listed limit first next kind width height way left i c
+-- the list at the piece at c, with so much left for the calls in it
+abbrev rowOf : Call → (left r : ℕ) → List Cut
+rowOf s left r =
+    let below = listedOf (s .lent) (other (s .way)) left (s .place) (getD (s .lent .first) (s .c) 0) in
+    cutBefore (s .lent .limit) (s .lent .next) (s .lent .kind) (sides s) (s .way) (s .place) (s .c) r
+    ++ (below ++ listedOf (s .lent) (s .way) left (s .place + (1 + length below)) r)
 
-  abbrev below : (left i c : ℕ) → List Cut
-  below left i c = listed limit first next kind width height (other way) left i (getD first c 0)
+on : (s : Call) (left : ℕ) → s .c < s .lent .limit
+    → listedOf (s .lent) (s .way) (suc left) (s .place) (s .c) ≡ rowOf s left (restOf (s .lent .limit) (s .lent .next) (sides s) (s .c))
+unfolding listed
+on s left h = rw (lt-leb (s .lent .limit) (s .c) h) refl
 
-  -- the cut that takes the piece at c off, where k is the kind of what is left
-  abbrev cutAt : (i c k : ℕ) → Cut
-  cutAt i c k =
-      record { place = i; way = way; distance = getD (sidesIn way width height) c 0; piece = getD kind c 0; left = k }
+on-row : (s : Call) (left r : ℕ) → (left ≡ 0 → ⊥) → s .c < s .lent .limit → r ≡ restOf (s .lent .limit) (s .lent .next) (sides s) (s .c)
+    → listedOf (s .lent) (s .way) left (s .place) (s .c) ≡ rowOf s (left - 1) r
+on-row s zero r f h e = absurd (f refl)
+on-row s (suc l) r f h e = rw (less-one l, e) (on s l h)
 
-  -- from c on, where r is the place of what is left
-  abbrev row : (left i c r : ℕ) → List Cut
-  row left i c r =
-      cutBefore limit next kind (sidesIn way width height) way i c r
-      ++ (below left i c ++ from left (i + (1 + length (below left i c))) r)
+module _ (s : Here) where
+  abbrev a : Call
+  a = s .call
 
-  pub list-none : (left i c : ℕ) → left ≡ 0 → from left i c ≡ []
-  unfolding listed
-  list-none left i c e = rw e refl
+  less : a .left - 1 < a .t
+  less = omega (arith, s .some, a .asked .0)
 
-  pub list-past : (left i c : ℕ) → limit ≤ c → from left i c ≡ []
-  unfolding listed
-  list-past zero i c h = refl
-  list-past (suc n) i c h = rw (le-leb limit c h) refl
+  row : all a ≡ rowOf a (a .left - 1) (s .r)
+  row = on-row a (a .left) (s .r) (s .some) (s .held) (s .rest)
 
-  list-on : (left i c : ℕ) → c < limit → from (suc left) i c ≡ row left i c (restOf limit next (sidesIn way width height) c)
-  unfolding listed
-  list-on left i c h = rw (lt-leb limit c h) refl
+  -- nothing is left behind the piece: no cut, and the piece is the board
+  last : a .lent .limit ≤ s .r → all a ≡ inner a
+  last h = row ∙ rw (le-leb (a .lent .limit) (s .r) h, past a (a .left - 1) (behind s) (s .r) h) (append-nil (inner a))
 
-  -- a routine is at the piece at c, and r is the place of what is left
-  pub record Here (left i c r n : ℕ) (out : List ℕ) : Type 0 where
-    pub some : left ≡ 0 → ⊥
-    pub held : c < limit
-    pub rest : r ≡ restOf limit next (sidesIn way width height) c
-    pub room : Room limit (from left i c) i n out
+  pub last-asks : a .lent .limit ≤ s .r → (a .left - 1 < a .t) × Room (a .lent .limit) (inner a) (a .place) (a .n) (a .out)
+  last-asks h = (less, rw (last h) at (a .asked .1))
 
-module _ {limit : ℕ} {first next kind width height : List ℕ} {way : Orientation} {left i c r n : ℕ} {out : List ℕ}
-    (s : Here limit first next kind width height way left i c r n out) where
-  -- all cuts of this call, those of the call for the piece, and those of the call for the rest
-  abbrev all : List Cut
-  all = from limit first next kind width height way left i c
-
-  abbrev inner : List Cut
-  inner = below limit first next kind width height way (left - 1) i c
-
-  abbrev later : ℕ → List Cut
-  later p = from limit first next kind width height way (left - 1) p r
-
-  list-row : all ≡ row limit first next kind width height way (left - 1) i c r
-  list-row = go left (s .some)
-    where
-      go : (l : ℕ) → (l ≡ 0 → ⊥)
-          → from limit first next kind width height way l i c ≡ row limit first next kind width height way (l - 1) i c r
-      go zero f = absurd (f refl)
-      go (suc l) f = rw (less-one l, s .rest) (list-on limit first next kind width height way l i c (s .held))
-
-  -- nothing is left: no cut, and the piece is the board
-  list-last : limit ≤ r → all ≡ inner
-  list-last h =
-      list-row
-      ∙ rw (le-leb limit r h, list-past limit first next kind width height way (left - 1) (i + (1 + length inner)) r h)
-      (append-nil inner)
-
-  pub last-room : limit ≤ r → Room limit inner i n out
-  last-room h = rw (list-last h) at (s .room)
-
-  pub last-done : limit ≤ r → {after : List ℕ} {m : ℕ} → Done inner n out after m → Done all n out after m
-  last-done h d = rw (list-last h) d
+  pub last-done : a .lent .limit ≤ s .r → {after : List ℕ} {m : ℕ} → Done (inner a) (a .n) (a .out) after m → Done (all a) (a .n) (a .out) after m
+  last-done h d = rw (last h) d
 
   -- the piece is cut off; then come the cuts below it, and those of the rest
-  module _ {k : ℕ} (more : r < limit) (behind : k ≡ leftIn limit next kind (sidesIn way width height) r) where
-    abbrev one : Cut
-    one = cutAt limit first next kind width height way i c k
+  more-row : (k p : ℕ) → s .r < a .lent .limit → k ≡ leftIn (a .lent .limit) (a .lent .next) (a .lent .kind) (sides a) (s .r) → p ≡ behind s
+      → all a ≡ one a k ∷ (inner a ++ later s p)
+  more-row k p h e f = row ∙ rw (lt-leb (a .lent .limit) (s .r) h, e, f) refl
 
-    list-more : (p : ℕ) → p ≡ i + (1 + length inner) → all ≡ one ∷ (inner ++ later p)
-    list-more p e = list-row ∙ rw (lt-leb limit r more, behind, e) refl
+  longer : (p : ℕ) → s .r < a .lent .limit → p ≡ behind s → length (all a) ≡ suc (length (inner a) + length (later s p))
+  longer p h f = ap length (more-row _ p h refl f) ∙ ap suc (length-append (inner a) (later s p))
 
-    pub cut-room : 9 * n + 9 ≤ length out
-    cut-room =
-        let p = i + (1 + length inner) in
-        room-one limit all one inner (later p) (list-more p refl) i n out (s .room)
+  pub cut-room : s .r < a .lent .limit → 9 * a .n + 9 ≤ length (a .out)
+  cut-room h = omega (arith, longer (behind s) h refl, a .asked .1 .2)
 
-    module _ {out₁ : List ℕ} (cut : out₁ ≡ sets out (9 * n) (cutBytes one [])) where
-      pub below-room : Room limit inner i (n + 1) out₁
-      below-room =
-          let p = i + (1 + length inner) in
-          room-below limit all one inner (later p) (list-more p refl) i n out (s .room) out₁ cut
+module _ (s : Off) where
+  abbrev b : Call
+  b = s .here .call
 
-      module _ {out₂ : List ℕ} {m : ℕ} (lower : Done inner (n + 1) out₁ out₂ m) where
-        placed : i + (m - n) ≡ i + (1 + length inner)
-        placed = omega (arith, lower .1)
+  off-long : length (s .out) ≡ length (b .out)
+  off-long = ap length (s .cut) ∙ simp length-sets
 
-        pub rest-room : Room limit (later (i + (m - n))) (i + (m - n)) m out₂
-        rest-room =
-            room-rest limit all one inner (later (i + (m - n))) (list-more (i + (m - n)) placed) i n out (s .room) out₁ cut out₂ m lower
-            (i + (m - n)) placed
+  pub below-asks : (b .left - 1 < b .t) × Room (b .lent .limit) (inner b) (b .place) (b .n + 1) (s .out)
+  below-asks =
+      let l = longer (s .here) (behind (s .here)) (s .more) refl in
+      let r = b .asked .1 in
+      (less (s .here), (omega (arith, r .0), omega (arith, l, r .1), omega (arith, l, off-long, r .2)))
 
-        pub more-done : {after : List ℕ} {q : ℕ} → Done (later (i + (m - n))) m out₂ after q → Done all n out after q
-        more-done {after} {q} last =
-            done-all limit all one inner (later (i + (m - n))) (list-more (i + (m - n)) placed) i n out (s .room) out₁ cut out₂ m lower
-            after q last
+module _ (s : Under) where
+  abbrev h : Here
+  h = s .off .here
+
+  abbrev d : Call
+  d = h .call
+
+  -- where the rest is in the pile, as the routine counts it
+  abbrev p : ℕ
+  p = d .place + (s .m - d .n)
+
+  placed : p ≡ behind h
+  placed = omega (arith, s .lower .1)
+
+  pub rest-asks : (d .left - 1 < d .t) × Room (d .lent .limit) (later h p) p (s .m) (s .out)
+  rest-asks =
+      let l = longer h p (s .off .more) placed in
+      let r = d .asked .1 in
+      let w : length (s .out) ≡ length (s .off .out) = ap length (s .lower .0) ∙ simp length-sets in (
+        less h,
+        (
+          omega (arith, r .0, s .lower .1),
+          omega (arith, l, r .1, s .lower .1),
+          omega (arith, l, w, off-long (s .off), r .2, s .lower .1),
+        ),
+      )
+
+  pub rest-done : {after : List ℕ} {q : ℕ} → Done (later h p) (s .m) (s .out) after q → Done (all d) (d .n) (d .out) after q
+  rest-done rest =
+      rw (more-row h (s .off .k) p (s .off .more) (s .off .kinds) placed)
+      (all-done (one d (s .off .k)) (inner d) (later h p) (d .n) (d .out) (s .off .cut) (s .lower) rest)
