@@ -60,12 +60,12 @@ none-left : (stages : ℕ) (q : Datum) (r : Tree) → Children stages q r → ex
 none-left stages q nil h e = refl
 none-left stages q (grow p d k r) h e = flat-gone (d .kind) p d k r (h .1) (flat-area (other (q .cut)) (d .size) (omega arith))
 
--- what is left out has no board, and nothing below it
-empty-board : (κ : Kind) (d : Datum) (k r : Tree) → Kinded κ d k r → (isFree κ && eqb (area (d .size)) 0) ≡ true
-    → (ownBoard κ (d .size) ≡ []) × (k ≡ nil)
-empty-board Free d k r f e = (rw e refl, f .childless)
-empty-board Part d k r f e = absurd (clash e)
-empty-board Structure d k r f e = absurd (clash e)
+-- what is left out has no board, nothing below it and nothing behind it
+pub empty-gone : (κ : Kind) (d : Datum) (k r : Tree) → Kinded κ d k r → (isFree κ && eqb (area (d .size)) 0) ≡ true
+    → (ownBoard κ (d .size) ≡ []) × (k ≡ nil) × (r ≡ nil)
+empty-gone Free d k r f e = (rw e refl, f .childless, f .last)
+empty-gone Part d k r f e = absurd (clash e)
+empty-gone Structure d k r f e = absurd (clash e)
 
 pub boards-kept : (stages : ℕ) (q : Datum) (r : Tree) → Children stages q r → boards (withoutEmpty r) ≡ boards r
 boards-kept stages q nil h = refl
@@ -73,7 +73,7 @@ boards-kept stages q (grow p d k r) h =
     let below = boards-kept stages d k (h .2) in
     let rest = boards-kept stages q r (h .3) in
     ⊎-elim
-    (λ e. let gone = empty-board (d .kind) d k r (h .1) e in rw (e, gone .0, gone .1) rest)
+    (λ e. let gone = empty-gone (d .kind) d k r (h .1) e in rw (e, gone .0, gone .1) rest)
     (λ e. rw e (ap₂ (λ (u v : List Size). ownBoard (d .kind) (d .size) ++ (u ++ v)) below rest))
     (test (isEmpty d))
 
@@ -93,11 +93,11 @@ readable-kept l (grow p d k r) h =
 
 -- ---- a sound tree's rows fill their boards
 
--- a free piece is the last of its row; the others have two sides
-piece-sided : (κ : Kind) (d : Datum) (k r : Tree) → Kinded κ d k r → (r ≡ nil → Sided (d .size)) → Sided (d .size)
-piece-sided Free d k r f last = last (f .last)
-piece-sided Part d k r f last = f .sided
-piece-sided Structure d k r f last = f .sided
+-- a free piece has no children and is the last of its row; the others have two sides
+pub piece-sided : (κ : Kind) (d : Datum) (k r : Tree) → Kinded κ d k r → (k ≡ nil → r ≡ nil → Sided (d .size)) → Sided (d .size)
+piece-sided Free d k r f alone = alone (f .childless) (f .last)
+piece-sided Part d k r f alone = f .sided
+piece-sided Structure d k r f alone = f .sided
 
 piece-below : (κ : Kind) (d : Datum) (k r : Tree) (F : Type 0) → Kinded κ d k r → (StructurePiece d k → F) → Below κ (withoutEmpty k) F
 piece-below Free d k r F f below = ap withoutEmpty (f .childless)
@@ -138,7 +138,7 @@ module _ (stages : ℕ) (q : Datum) (p : ℕ) (d : Datum) (k r : Tree) (s : Size
   whole z = is-whole (q .cut) (d .size) s height (omega (arith, lengths))
 
   two-sides : Sided (d .size)
-  two-sides = piece-sided (d .kind) d k r (h .1) (λ z. subst⁻¹ Sided (whole (ap (extent (other (q .cut))) z)) (a .sided))
+  two-sides = piece-sided (d .kind) d k r (h .1) (λ y z. subst⁻¹ Sided (whole (ap (extent (other (q .cut))) z)) (a .sided))
 
   off : 1 ≤ extent (other (q .cut)) r → Off (q .cut) s (d .size)
   off z =

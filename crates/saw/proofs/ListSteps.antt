@@ -67,6 +67,7 @@ pub record Call : Type 0 where
   pub t : ℕ
   pub asked : (left ≡ t) × Room (lent .limit) (listedOf lent way left place c) place n out
 
+-- the sides that its cuts divide
 abbrev sides : Call → List ℕ
 sides s = sidesIn (s .way) (s .lent .width) (s .lent .height)
 
@@ -119,13 +120,13 @@ pub none-left : (s : Call) → s .left ≡ 0 → Done (all s) (s .n) (s .out) (s
 unfolding listed
 none-left s e = none-done (s .n) (s .out) (rw e refl)
 
-past : (s : Call) (left i c : ℕ) → s .lent .limit ≤ c → listedOf (s .lent) (s .way) left i c ≡ []
+list-past : (s : Call) (left i c : ℕ) → s .lent .limit ≤ c → listedOf (s .lent) (s .way) left i c ≡ []
 unfolding listed
-past s zero i c h = refl
-past s (suc l) i c h = rw (le-leb (s .lent .limit) c h) refl
+list-past s zero i c h = refl
+list-past s (suc l) i c h = rw (le-leb (s .lent .limit) c h) refl
 
 pub none-here : (s : Call) → s .lent .limit ≤ s .c → Done (all s) (s .n) (s .out) (s .out) (s .n)
-none-here s h = none-done (s .n) (s .out) (past s (s .left) (s .place) (s .c) h)
+none-here s h = none-done (s .n) (s .out) (list-past s (s .left) (s .place) (s .c) h)
 
 less-one : (n : ℕ) → suc n - 1 ≡ n
 less-one n = omega arith
@@ -137,43 +138,44 @@ rowOf s left r =
     cutBefore (s .lent .limit) (s .lent .next) (s .lent .kind) (sides s) (s .way) (s .place) (s .c) r
     ++ (below ++ listedOf (s .lent) (s .way) left (s .place + (1 + length below)) r)
 
-on : (s : Call) (left : ℕ) → s .c < s .lent .limit
+list-on : (s : Call) (left : ℕ) → s .c < s .lent .limit
     → listedOf (s .lent) (s .way) (suc left) (s .place) (s .c) ≡ rowOf s left (restOf (s .lent .limit) (s .lent .next) (sides s) (s .c))
 unfolding listed
-on s left h = rw (lt-leb (s .lent .limit) (s .c) h) refl
+list-on s left h = rw (lt-leb (s .lent .limit) (s .c) h) refl
 
-on-row : (s : Call) (left r : ℕ) → (left ≡ 0 → ⊥) → s .c < s .lent .limit → r ≡ restOf (s .lent .limit) (s .lent .next) (sides s) (s .c)
+list-from : (s : Call) (left r : ℕ) → (left ≡ 0 → ⊥) → s .c < s .lent .limit → r ≡ restOf (s .lent .limit) (s .lent .next) (sides s) (s .c)
     → listedOf (s .lent) (s .way) left (s .place) (s .c) ≡ rowOf s (left - 1) r
-on-row s zero r f h e = absurd (f refl)
-on-row s (suc l) r f h e = rw (less-one l, e) (on s l h)
+list-from s zero r f h e = absurd (f refl)
+list-from s (suc l) r f h e = rw (less-one l, e) (list-on s l h)
 
 module _ (s : Here) where
+  -- the call that is here
   abbrev a : Call
   a = s .call
 
   less : a .left - 1 < a .t
   less = omega (arith, s .some, a .asked .0)
 
-  row : all a ≡ rowOf a (a .left - 1) (s .r)
-  row = on-row a (a .left) (s .r) (s .some) (s .held) (s .rest)
+  list-row : all a ≡ rowOf a (a .left - 1) (s .r)
+  list-row = list-from a (a .left) (s .r) (s .some) (s .held) (s .rest)
 
   -- nothing is left behind the piece: no cut, and the piece is the board
-  last : a .lent .limit ≤ s .r → all a ≡ inner a
-  last h = row ∙ rw (le-leb (a .lent .limit) (s .r) h, past a (a .left - 1) (behind s) (s .r) h) (append-nil (inner a))
+  list-last : a .lent .limit ≤ s .r → all a ≡ inner a
+  list-last h = list-row ∙ rw (le-leb (a .lent .limit) (s .r) h, list-past a (a .left - 1) (behind s) (s .r) h) (append-nil (inner a))
 
   pub last-asks : a .lent .limit ≤ s .r → (a .left - 1 < a .t) × Room (a .lent .limit) (inner a) (a .place) (a .n) (a .out)
-  last-asks h = (less, rw (last h) at (a .asked .1))
+  last-asks h = (less, rw (list-last h) at (a .asked .1))
 
   pub last-done : a .lent .limit ≤ s .r → {after : List ℕ} {m : ℕ} → Done (inner a) (a .n) (a .out) after m → Done (all a) (a .n) (a .out) after m
-  last-done h d = rw (last h) d
+  last-done h d = rw (list-last h) d
 
   -- the piece is cut off; then come the cuts below it, and those of the rest
-  more-row : (k p : ℕ) → s .r < a .lent .limit → k ≡ leftIn (a .lent .limit) (a .lent .next) (a .lent .kind) (sides a) (s .r) → p ≡ behind s
+  list-more : (k p : ℕ) → s .r < a .lent .limit → k ≡ leftIn (a .lent .limit) (a .lent .next) (a .lent .kind) (sides a) (s .r) → p ≡ behind s
       → all a ≡ one a k ∷ (inner a ++ later s p)
-  more-row k p h e f = row ∙ rw (lt-leb (a .lent .limit) (s .r) h, e, f) refl
+  list-more k p h e f = list-row ∙ rw (lt-leb (a .lent .limit) (s .r) h, e, f) refl
 
   longer : (p : ℕ) → s .r < a .lent .limit → p ≡ behind s → length (all a) ≡ suc (length (inner a) + length (later s p))
-  longer p h f = ap length (more-row _ p h refl f) ∙ ap suc (length-append (inner a) (later s p))
+  longer p h f = ap length (list-more _ p h refl f) ∙ ap suc (length-append (inner a) (later s p))
 
   pub cut-room : s .r < a .lent .limit → 9 * a .n + 9 ≤ length (a .out)
   cut-room h = omega (arith, longer (behind s) h refl, a .asked .1 .2)
@@ -220,5 +222,5 @@ module _ (s : Under) where
 
   pub rest-done : {after : List ℕ} {q : ℕ} → Done (later h p) (s .m) (s .out) after q → Done (all d) (d .n) (d .out) after q
   rest-done rest =
-      rw (more-row h (s .off .k) p (s .off .more) (s .off .kinds) placed)
+      rw (list-more h (s .off .k) p (s .off .more) (s .off .kinds) placed)
       (all-done (one d (s .off .k)) (inner d) (later h p) (d .n) (d .out) (s .off .cut) (s .lower) rest)

@@ -2,7 +2,7 @@
 -- of a table that holds a row (Rep, Holds), and on what `tree` says of a sound tree's sides. An offcut of area 0 stands last in its row and has
 -- nothing of the side that the cut divides, as no other piece: so the routines, which look at that side, leave out what specs/Cuts.antt does.
 -- Assumes nothing.
-use mathlib.Core.Path.{_≡_, refl, sym, ap, _∙_, subst}
+use mathlib.Core.Path.{_≡_, refl, sym, ap, _∙_}
 use mathlib.Core.List.{List, map}
 use mathlib.Core.Bool.{Bool, true, false, cond, _&&_}
 use Prim.Native.Nat.{ℕ, zero, suc, _*_, _+_, _≤_, _<_}
@@ -27,12 +27,12 @@ use Rattle.tree.proofs.Areas.{area-laid}
 use Rattle.tree.proofs.Laying.{laid-sided}
 use Rattle.table.specs.declared.Node.{Node}
 use Rattle.table.specs.Table.{zeroNode, at, head, Rep, Holds}
-use Rattle.lists.proofs.Scan.{clash}
 use Rattle.walks.specs.Columns.{firstsOf, nextsOf, kindsOf, widthsOf, heightsOf, columnsOf}
 use Rattle.saw.specs.Saw.{side}
 use Rattle.saw.specs.Cuts.{isEmpty, withoutEmpty, leftNo, cutOff, rowCuts, cuts}
 use Rattle.saw.specs.Listed.{sidesIn, restOf, leftIn, cutBefore, listed, listedIn}
-use Rattle.saw.proofs.Fills.{count-kept}
+use Rattle.saw.proofs.Slices.{sided-side}
+use Rattle.saw.proofs.Fills.{count-kept, empty-gone, piece-sided}
 
 -- the column of the sides that a cut of this way divides
 abbrev sidesOf : Orientation → List Node → List ℕ
@@ -114,28 +114,17 @@ nothing a b h = go (ℕ-discrete a 0)
 module _ {stages : ℕ} {q d : Datum} (way : Orientation) (cut : way ≡ q .cut) (sided : Sided (q .size)) (child : Child stages q d) where
   across : 1 ≤ laid (other way) (d .size) .height
   across =
-      let e : laid (other way) (d .size) .height ≡ laid (other way) (q .size) .height =
-      subst (λ (c : Orientation). laid c (d .size) .height ≡ laid c (q .size) .height)
-      (child .cut ∙ ap other (sym cut)) (child .side) in
+      let e : laid (other way) (d .size) .height ≡ laid (other way) (q .size) .height = rw (child .cut, ← cut) at (child .side) in
       omega (arith, laid-sided (other way) sided .tall)
+
+  some-side : Sided (d .size) → false ≡ eqb (side way (d .size)) 0
+  some-side h = sym (ne-eqb (side way (d .size)) 0 (λ z. omega (arith, sided-side way h)))
 
   empty-side : (c : Kind) (k r : Tree) → Kinded c d k r → (isFree c && eqb (area (d .size)) 0) ≡ eqb (side way (d .size)) 0
   empty-side Free k r f =
       rw (← area-laid (other way) (d .size)) (nothing (side way (d .size)) (laid (other way) (d .size) .height) across)
-  empty-side Part k r f = sym (ne-eqb (side way (d .size)) 0 (λ z. omega (arith, laid-sided (other way) (f .sided) .wide)))
-  empty-side Structure k r f = sym (ne-eqb (side way (d .size)) 0 (λ z. omega (arith, laid-sided (other way) (f .sided) .wide)))
-
--- it stands last
-empty-last : (c : Kind) (b : Bool) (d : Datum) (k r : Tree) → Kinded c d k r → (isFree c && b) ≡ true → r ≡ nil
-empty-last Free b d k r f e = f .last
-empty-last Part b d k r f e = absurd (clash e)
-empty-last Structure b d k r f e = absurd (clash e)
-
--- a piece that has children has sides of at least 1
-parent-sided : (c : Kind) (d : Datum) (k r : Tree) → Kinded c d k r → 1 ≤ count k → Sided (d .size)
-parent-sided Free d k r f h = let none : ⊥ = omega (arith, ap count (f .childless)) in absurd none
-parent-sided Part d k r f h = f .sided
-parent-sided Structure d k r f h = f .sided
+  empty-side Part k r f = some-side (f .sided)
+  empty-side Structure k r f = some-side (f .sided)
 
 -- ---- what is left of a row
 
@@ -153,8 +142,8 @@ module _ (limit stages : ℕ) where
           omega (
             arith,
             s .filled,
-            ap (extent (other (q .cut))) (empty-last (d .kind) (eqb (area (d .size)) 0) d k r (e .1) b),
-            laid-sided (other (q .cut)) (s .sided) .wide,
+            ap (extent (other (q .cut))) (empty-gone (d .kind) d k r (e .1) b .2),
+            sided-side (q .cut) (s .sided),
           )
 
       go : (b : Bool) → isEmpty d ≡ b → p ≡ head limit (cond b (withoutEmpty r) (grow p d (withoutEmpty k) (withoutEmpty r)))
@@ -187,7 +176,7 @@ module _ (limit stages : ℕ) where
       where
         go : (b : Bool) → isEmpty d ≡ b
             → cond b limit x ≡ head limit (cond b (withoutEmpty r) (grow x d (withoutEmpty k) (withoutEmpty r)))
-        go true b = rw (empty-last (d .kind) (eqb (area (d .size)) 0) d k r (c .1) b) refl
+        go true b = rw (empty-gone (d .kind) d k r (c .1) b .2) refl
         go false b = refl
 
     -- a piece in the columns
@@ -215,7 +204,8 @@ module _ (limit stages : ℕ) where
     shown (grow p d k r) q way o pv cut sided c e =
         keep (isEmpty d) way p d (withoutEmpty k) (withoutEmpty r)
         (piece-of q way o pv p d k r cut (sided (omega arith)) c e)
-        (shown k d (other way) p limit (ap other cut ∙ sym (c .0 .cut)) (parent-sided (d .kind) d k r (c .1)) (c .2) (e .2))
+        (shown k d (other way) p limit (ap other cut ∙ sym (c .0 .cut))
+        (λ h. piece-sided (d .kind) d k r (c .1) (λ z y. let none : ⊥ = omega (arith, ap count z) in absurd none)) (c .2) (e .2))
         (shown r q way o p cut (λ h. sided (omega arith)) (c .3) (e .3))
 
 -- The laws. `n` is the fuel: the count of nodes held is enough.

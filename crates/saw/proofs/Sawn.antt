@@ -1,7 +1,7 @@
 -- The law of change request 3 (document 02): "running the list on the full sheet gives exactly the parts and free pieces of the tree, in tree order".
 -- That the saw gives `some` pile says that it "never cuts a piece that isn't there or at distance 0". Rests on Truly: a sawyer who believes the list
 -- can run it, and the saw does as he does.
-use mathlib.Core.Path.{_≡_, refl, sym, ap, ap₂, _∙_, subst, subst⁻¹}
+use mathlib.Core.Path.{_≡_, refl, sym, ap, _∙_, subst, subst⁻¹}
 use mathlib.Core.Bool.{Bool, true, false, cond, _&&_}
 use mathlib.Core.Option.{Option, none, some}
 use mathlib.Core.List.{List, [], _∷_, _++_, map, map-append}
@@ -38,17 +38,9 @@ sizes-called : (n : ℕ) (way : Orientation) (l : List Size) → sizes (map (cal
 sizes-called n way [] = refl
 sizes-called n way (s ∷ l) = ap (λ (r : List Size). s ∷ r) (sizes-called n way l)
 
-sizes-append : (a b : List Piece) → sizes (a ++ b) ≡ sizes a ++ sizes b
-sizes-append a b = map-append (λ (x : Piece). x .size) a b
-
 sizes-two : (way : Orientation) (n m : ℕ) (near far : List Size) (pile : List Piece)
     → sizes ((map (called n way) near ++ map (called m way) far) ++ pile) ≡ (near ++ far) ++ sizes pile
-sizes-two way n m near far pile =
-    let u = map (called n way) near in
-    let v = map (called m way) far in
-    sizes-append (u ++ v) pile
-    ∙ ap (λ (l : List Size). l ++ sizes pile)
-    (sizes-append u v ∙ ap₂ (λ (k l : List Size). k ++ l) (sizes-called n way near) (sizes-called m way far))
+sizes-two way n m near far pile = simp (map-append, sizes-called)
 
 does-cut : (may can : Bool) (p : List Piece) (q : List Size) → sizes p ≡ q → Does (cond (may && can) (some p) none) (cond can (some q) none)
 does-cut true true p q e = ap (λ (l : List Size). some l) (sym e)

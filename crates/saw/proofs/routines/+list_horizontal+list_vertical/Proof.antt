@@ -66,7 +66,9 @@ module _ (t : ℕ) where
   horizontal-under c = record { off = horizontal-off (c .before .before .before .before); out = _; m = _; lower = c .list-vertical2 .ensures }
 
   horizontal-done : horizontal-lts.Need-returns-4 in-horizontal (at horizontal.Pre) horizontal.Post
-  horizontal-done c = let z = c .before .before in rest-done (horizontal-under (z .before .before .before .before)) (z .list-horizontal .ensures)
+  horizontal-done c =
+      let z = c .before .before in
+      rest-done (horizontal-under (z .before .before .before .before)) {after = z .list-horizontal .last .1 .1 .1 .1 .1 .1 .1 .1 .0} (z .list-horizontal .ensures)
 
   -- ---- the places of list_vertical
 
@@ -95,7 +97,9 @@ module _ (t : ℕ) where
   vertical-under c = record { off = vertical-off (c .before .before .before .before); out = _; m = _; lower = c .list-horizontal2 .ensures }
 
   vertical-done : vertical-lts.Need-returns-4 in-vertical (at vertical.Pre) vertical.Post
-  vertical-done c = let z = c .before .before in rest-done (vertical-under (z .before .before .before .before)) (z .list-vertical .ensures)
+  vertical-done c =
+      let z = c .before .before in
+      rest-done (vertical-under (z .before .before .before .before)) {after = z .list-vertical .last .1 .1 .1 .1 .1 .1 .1 .1 .0} (z .list-vertical .ensures)
 
 pub +list-horizontal+list-vertical-spec : {M : Type 1} → statement M
 +list-horizontal+list-vertical-spec =
