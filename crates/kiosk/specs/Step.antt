@@ -1,5 +1,5 @@
 -- What the exported step does: the session that the record says takes the line, and the record, the answer and its count are what comes of it.
--- Document 01: "Refused: number, layout as handed in". Where the answer is a refusal, the record is as it was, bit for bit, whatever numbers it holds.
+-- Document 01: "Refused: number, layout as handed in". Where the answer is a refusal, each number of the record is as it was, whatever numbers it holds.
 use mathlib.Core.Path.{_≡_}
 use mathlib.Core.Bool.{Bool, cond}
 use mathlib.Core.List.{List}

@@ -2,6 +2,8 @@
 // again; where nothing is there yet, or there is no room yet, it is made again after a pause; any other failure is said on standard error.
 // Rests on C's calls alone, whose contracts say how many bytes moved and not which.
 ghost use mathlib.Core.Path.{_≡_};
+ghost use mathlib.Core.Bool.{true};
+ghost use lib.ListN.{length};
 ghost use Rattle.pipes.specs.Came.{Within};
 ghost use Rattle.pipes.specs.Remedy.{remedyOf};
 use libc::types::timespec;
@@ -95,8 +97,10 @@ pub fn read_some(fd: i32, buf: &mut [u8; 4096], what: &[u8]) -> Came
     Came::Failed
 }
 
-// Writes all of it, and says whether it could.
-pub fn write_whole(fd: i32, buf: &[u8], what: &[u8]) -> bool {
+// Writes all of it, and says whether it could: yes at once where there is nothing to write. (What C has written no contract can say.)
+pub fn write_whole(fd: i32, buf: &[u8], what: &[u8]) -> bool
+    ensures { λ r. ⌜ (length (now (buf .entry)) ≡ 0 → r ≡ true) ⌝ }
+{
     let mut done: usize = 0;
     let mut tries = u64::MAX;
     while done < buf.len() {

@@ -1,5 +1,7 @@
--- `write_whole` is safe and ends: what is lent lies in the text, and so does what was taken of it. The measure is the number of tries that are left.
--- Assumes nothing.
+-- `write_whole` is safe and ends: what is lent lies in the text, and so does what was taken of it. It says no only from within the loop, where something is left to
+-- write. The measure is the number of tries that are left. Assumes nothing.
+use mathlib.Core.Path.{refl}
+use native.Mathlib.Omega.{arith}
 use borrow.Author.Needs.{needs}
 use Rattle.pipes.proofs.write_whole.Statement.{statement}
 use Rattle.pipes.proofs.write_whole.Tie as tie
@@ -14,7 +16,7 @@ loop-holds : tie.Need-loop-holds Inv-loop μ-loop
 loop-holds c = search needs
 
 returns : tie.Need-returns Inv-loop μ-loop
-returns c = search needs
+returns c e = absurd (omega arith)
 
 sub-rest : tie.Need-sub-rest Inv-loop μ-loop
 sub-rest c = search needs
@@ -35,7 +37,7 @@ again-requires : tie.Need-again-requires Inv-loop μ-loop
 again-requires c κs = search needs
 
 returns-2 : tie.Need-returns-2 Inv-loop μ-loop
-returns-2 c = search needs
+returns-2 c e = absurd (omega arith)
 
 add-done : tie.Need-add-done Inv-loop μ-loop
 add-done c = search needs
@@ -50,7 +52,7 @@ loop-again : tie.Need-loop-again Inv-loop μ-loop
 loop-again c = search needs
 
 returns-3 : tie.Need-returns-3 Inv-loop μ-loop
-returns-3 c = search needs
+returns-3 c e = refl
 
 pub write-whole-spec : {M : Type 1} → statement M
 write-whole-spec =
