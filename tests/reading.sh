@@ -69,7 +69,8 @@ while IFS=$'\t' read -r kind at what rest; do
   IFS=$'\t' read -r -a more <<< "$rest"
   wrong=
   case $kind in
-    path) found "$what" "${more[@]}" || { [[ $at != docs/READING.md:* ]] && edit_of "$what"; } || wrong="no such path: $what" ;;
+    # what stands outside the repository may be missing
+    path) [[ $what == ../* ]] || found "$what" "${more[@]}" || { [[ $at != docs/READING.md:* ]] && edit_of "$what"; } || wrong="no such path: $what" ;;
     name)
       wrong="$what is not defined in ${more[*]}"
       for file in "${more[@]}"; do
