@@ -8,8 +8,8 @@ cd "$(dirname "$0")/.." || exit 2
 . tests/run.bash
 unset PROGRAMS
 
-# What a script is given here, so that it takes less time.
-declare -A arguments=([counter_random]=200000)
+# What a script is given here, so that it takes less time. (On a stack that is too small all three programs are tried, below.)
+declare -A arguments=([counter_random]=200000 [stack]='deep_chain counter')
 
 # Real words for a stand-in: the program of the same name, as the tests run it.
 words_of NAME
