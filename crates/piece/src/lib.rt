@@ -6,4 +6,5 @@ pub mod node;
 pub mod orientation;
 pub mod parttype;
 pub mod rotation;
+pub mod settings;
 pub mod size;

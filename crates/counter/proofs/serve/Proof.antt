@@ -21,9 +21,6 @@ abbrev μ-loop : tie.MeasureT-loop
 loop-holds : tie.Need-loop-holds Inv-loop μ-loop
 loop-holds c xs e t = (xs, t)
 
-turn-requires : tie.Need-turn-requires Inv-loop μ-loop
-turn-requires c κs = search needs
-
 say-requires : tie.Need-say-requires Inv-loop μ-loop
 say-requires c κs = count-fits (c .before .turn .ensures .turned)
 
@@ -46,4 +43,4 @@ returns-2 c w = let l = c .before .loop in l .inv [] (l .d) (stop (c .loop-test 
 
 pub serve-spec : {M : Type 1} → statement M
 serve-spec =
-    tie.close (tie.spec Inv-loop μ-loop loop-holds turn-requires say-requires returns loop-less loop-again returns-2)
+    tie.close (tie.spec Inv-loop μ-loop loop-holds (λ c κs. search needs) say-requires returns loop-less loop-again returns-2)

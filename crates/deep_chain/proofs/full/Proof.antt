@@ -10,61 +10,22 @@ Inv-loop deep l₀ i₀ l i = i ≤ 255
 abbrev μ-loop : tie.MeasureT-loop
 μ-loop deep l₀ i₀ l i = 255 - i
 
-zero-requires : tie.Need-zero-requires Inv-loop μ-loop
-zero-requires c κs = search needs
-
-loop-holds : tie.Need-loop-holds Inv-loop μ-loop
-loop-holds c = search needs
-
-node-at-requires : tie.Need-node-at-requires Inv-loop μ-loop
-node-at-requires c κs = search needs
-
-node-in-row-requires : tie.Need-node-in-row-requires Inv-loop μ-loop
-node-in-row-requires c κs = search needs
-
-mul-t13 : tie.Need-mul-t13 Inv-loop μ-loop
-mul-t13 c = search needs
-
-element-set-from-l : tie.Need-element-set-from-l Inv-loop μ-loop
-element-set-from-l c = search needs
-
-cast-l : tie.Need-cast-l Inv-loop μ-loop
-cast-l c = search needs
-
-mul-l : tie.Need-mul-l Inv-loop μ-loop
-mul-l c = search needs
-
-element-write-l : tie.Need-element-write-l Inv-loop μ-loop
-element-write-l c = search needs
-
-add-i : tie.Need-add-i Inv-loop μ-loop
-add-i c = search needs
-
-loop-less : tie.Need-loop-less Inv-loop μ-loop
-loop-less c = search needs
-
-loop-again : tie.Need-loop-again Inv-loop μ-loop
-loop-again c = search needs
-
-returns : tie.Need-returns Inv-loop μ-loop
-returns c = search needs
-
 pub full-spec : {M : Type 1} → statement M
 full-spec =
     tie.close
     (tie.spec
     Inv-loop
     μ-loop
-    zero-requires
-    loop-holds
-    node-at-requires
-    node-in-row-requires
-    mul-t13
-    element-set-from-l
-    cast-l
-    mul-l
-    element-write-l
-    add-i
-    loop-less
-    loop-again
-    returns)
+    (λ c κs. search needs)  -- zero-requires
+    (λ c. search needs)  -- loop-holds
+    (λ c κs. search needs)  -- node-at-requires
+    (λ c κs. search needs)  -- node-in-row-requires
+    (λ c. search needs)  -- mul-t13
+    (λ c. search needs)  -- element-set-from-l
+    (λ c. search needs)  -- cast-l
+    (λ c. search needs)  -- mul-l
+    (λ c. search needs)  -- element-write-l
+    (λ c. search needs)  -- add-i
+    (λ c. search needs)  -- loop-less
+    (λ c. search needs)  -- loop-again
+    (λ c. search needs))  -- returns

@@ -6,12 +6,6 @@ use Rattle.hex.proofs.Pairs.{high-bad, low-bad, both-good}
 use Rattle.hex.proofs.byte.Statement.{statement}
 use Rattle.hex.proofs.byte.Tie as tie
 
-value-requires : tie.Need-value-requires
-value-requires c κs = search needs
-
-value-requires-2 : tie.Need-value-requires-2
-value-requires-2 c κs = search needs
-
 returns : tie.Need-returns
 returns c =
     let a = c .before .before .before .args in
@@ -21,18 +15,6 @@ returns-2 : tie.Need-returns-2
 returns-2 c =
     let a = c .before .before .before .before .args in
     low-bad (a .high) (a .low) (subst (λ (z : ℕ). 16 ≤ z) (c .before .before .value2 .ensures) (c .if2 .taken))
-
-cast-result : tie.Need-cast-result
-cast-result c = search needs
-
-mul-result : tie.Need-mul-result
-mul-result c = search needs
-
-cast-result-2 : tie.Need-cast-result-2
-cast-result-2 c = search needs
-
-add-result : tie.Need-add-result
-add-result c = search needs
 
 returns-3 : tie.Need-returns-3
 returns-3 c =
@@ -47,12 +29,12 @@ pub byte-spec : {M : Type 1} → statement M
 byte-spec =
     tie.close
     (tie.spec
-    value-requires
-    value-requires-2
+    (λ c κs. search needs)  -- value-requires
+    (λ c κs. search needs)  -- value-requires-2
     returns
     returns-2
-    cast-result
-    mul-result
-    cast-result-2
-    add-result
+    (λ c. search needs)  -- cast-result
+    (λ c. search needs)  -- mul-result
+    (λ c. search needs)  -- cast-result-2
+    (λ c. search needs)  -- add-result
     returns-3)

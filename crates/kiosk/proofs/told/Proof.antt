@@ -4,15 +4,6 @@ use borrow.Author.Needs.{needs}
 use Rattle.kiosk.proofs.told.Statement.{statement}
 use Rattle.kiosk.proofs.told.Tie as tie
 
-says-requires : tie.Need-says-requires
-says-requires c κs = search needs
-
-layout-record-requires : tie.Need-layout-record-requires
-layout-record-requires c κs = search needs
-
-says-requires-2 : tie.Need-says-requires-2
-says-requires-2 c κs = search needs
-
 returns : tie.Need-returns
 returns c = rw (c .says .ensures, c .before .if1 .taken) refl
 
@@ -20,4 +11,11 @@ returns-2 : tie.Need-returns-2
 returns-2 c = rw (c .says2 .ensures, c .before .layout-record .ensures, c .before .before .before .if1 .left) refl
 
 pub told-spec : {M : Type 1} → statement M
-told-spec = tie.close (tie.spec says-requires returns layout-record-requires says-requires-2 returns-2)
+told-spec =
+    tie.close
+    (tie.spec
+    (λ c κs. search needs)  -- says-requires
+    returns
+    (λ c κs. search needs)  -- layout-record-requires
+    (λ c κs. search needs)  -- says-requires-2
+    returns-2)

@@ -7,20 +7,8 @@ use borrow.Author.Needs.{needs}
 use Rattle.lines.proofs.chars_at.Statement.{statement}
 use Rattle.lines.proofs.chars_at.Tie as tie
 
-sub-result : tie.Need-sub-result
-sub-result c = search needs
-
-part-result-start : tie.Need-part-result-start
-part-result-start c = search needs
-
-part-result-end : tie.Need-part-result-end
-part-result-end c = search needs
-
 returns : tie.Need-returns
 returns c = chars-none _ _ (c .before .if1 .taken)
-
-newline-requires : tie.Need-newline-requires
-newline-requires c κs = search needs
 
 sub-result-2 : tie.Need-sub-result-2
 sub-result-2 c =
@@ -47,11 +35,11 @@ pub chars-at-spec : {M : Type 1} → statement M
 chars-at-spec =
     tie.close
     (tie.spec
-    sub-result
-    part-result-start
-    part-result-end
+    (λ c. search needs)  -- sub-result
+    (λ c. search needs)  -- part-result-start
+    (λ c. search needs)  -- part-result-end
     returns
-    newline-requires
+    (λ c κs. search needs)  -- newline-requires
     sub-result-2
     part-result-start-2
     part-result-end-2

@@ -4,12 +4,6 @@ use borrow.Author.Needs.{needs}
 use Rattle.lines.proofs.past_at.Statement.{statement}
 use Rattle.lines.proofs.past_at.Tie as tie
 
-newline-requires : tie.Need-newline-requires
-newline-requires c κs = search needs
-
-add-result : tie.Need-add-result
-add-result c = search needs
-
 returns : tie.Need-returns
 returns c =
     let a = c .before .before .before .args in
@@ -23,4 +17,10 @@ returns-2 c =
     rw e (past-rest (a .text .now) (a .at) (rw e at (c .if1 .left)))
 
 pub past-at-spec : {M : Type 1} → statement M
-past-at-spec = tie.close (tie.spec newline-requires add-result returns returns-2)
+past-at-spec =
+    tie.close
+    (tie.spec
+    (λ c κs. search needs)  -- newline-requires
+    (λ c. search needs)  -- add-result
+    returns
+    returns-2)

@@ -12,44 +12,11 @@ Inv-loop fd buf what done₀ tries₀ done tries = Unit {0}
 abbrev μ-loop : tie.MeasureT-loop
 μ-loop fd buf what done₀ tries₀ done tries = tries
 
-loop-holds : tie.Need-loop-holds Inv-loop μ-loop
-loop-holds c = search needs
-
 returns : tie.Need-returns Inv-loop μ-loop
 returns c e = absurd (omega arith)
 
-sub-rest : tie.Need-sub-rest Inv-loop μ-loop
-sub-rest c = search needs
-
-part-rest-start : tie.Need-part-rest-start Inv-loop μ-loop
-part-rest-start c = search needs
-
-part-rest-end : tie.Need-part-rest-end Inv-loop μ-loop
-part-rest-end c = search needs
-
-write-requires : tie.Need-write-requires Inv-loop μ-loop
-write-requires c κs = search needs
-
-count-requires : tie.Need-count-requires Inv-loop μ-loop
-count-requires c κs = search needs
-
-again-requires : tie.Need-again-requires Inv-loop μ-loop
-again-requires c κs = search needs
-
 returns-2 : tie.Need-returns-2 Inv-loop μ-loop
 returns-2 c e = absurd (omega arith)
-
-add-done : tie.Need-add-done Inv-loop μ-loop
-add-done c = search needs
-
-sub-tries : tie.Need-sub-tries Inv-loop μ-loop
-sub-tries c = search needs
-
-loop-less : tie.Need-loop-less Inv-loop μ-loop
-loop-less c = search needs
-
-loop-again : tie.Need-loop-again Inv-loop μ-loop
-loop-again c = search needs
 
 returns-3 : tie.Need-returns-3 Inv-loop μ-loop
 returns-3 c e = refl
@@ -60,17 +27,17 @@ write-whole-spec =
     (tie.spec
     Inv-loop
     μ-loop
-    loop-holds
+    (λ c. search needs)  -- loop-holds
     returns
-    sub-rest
-    part-rest-start
-    part-rest-end
-    write-requires
-    count-requires
-    again-requires
+    (λ c. search needs)  -- sub-rest
+    (λ c. search needs)  -- part-rest-start
+    (λ c. search needs)  -- part-rest-end
+    (λ c κs. search needs)  -- write-requires
+    (λ c κs. search needs)  -- count-requires
+    (λ c κs. search needs)  -- again-requires
     returns-2
-    add-done
-    sub-tries
-    loop-less
-    loop-again
+    (λ c. search needs)  -- add-done
+    (λ c. search needs)  -- sub-tries
+    (λ c. search needs)  -- loop-less
+    (λ c. search needs)  -- loop-again
     returns-3)

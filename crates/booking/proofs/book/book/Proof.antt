@@ -56,37 +56,10 @@ module _ (c : tie.In-loop Inv-loop μ-loop) where
   low : (node .under < limit) × (node .place < limit)
   low = placed (c .before .before) .1 (c .before .loop .j) (c .loop-test .taken)
 
-mul-old : tie.Need-mul-old Inv-loop μ-loop
-mul-old c = search needs
-
-array-copy-out-old : tie.Need-array-copy-out-old Inv-loop μ-loop
-array-copy-out-old c = search needs
-
-unlink-requires : tie.Need-unlink-requires Inv-loop μ-loop
-unlink-requires c κs = search needs
-
-cast-q : tie.Need-cast-q Inv-loop μ-loop
-cast-q c = search needs
-
-mul-up : tie.Need-mul-up Inv-loop μ-loop
-mul-up c = search needs
-
-array-copy-out-up : tie.Need-array-copy-out-up Inv-loop μ-loop
-array-copy-out-up c = search needs
-
-new-places-requires : tie.Need-new-places-requires Inv-loop μ-loop
-new-places-requires c κs = search needs
-
-site-of-requires : tie.Need-site-of-requires Inv-loop μ-loop
-site-of-requires c κs = search needs
-
 new-at-requires : tie.Need-new-at-requires Inv-loop μ-loop
 new-at-requires c κs =
     let h = c .before .before .before .before .before .before .before .pre .spent in
     rw (c .site-of .ensures) (omega arith)
-
-loop-holds : tie.Need-loop-holds Inv-loop μ-loop
-loop-holds c = search needs
 
 mul-n : tie.Need-mul-n Inv-loop μ-loop
 mul-n c = let h = placed (c .before .before) .0 in search needs
@@ -94,80 +67,26 @@ mul-n c = let h = placed (c .before .before) .0 in search needs
 array-copy-out-n : tie.Need-array-copy-out-n Inv-loop μ-loop
 array-copy-out-n c = let h = placed (c .before .before) .0 in search needs
 
-cast-under : tie.Need-cast-under Inv-loop μ-loop
-cast-under c = search needs
-
-cast-place : tie.Need-cast-place Inv-loop μ-loop
-cast-place c = search needs
-
-mul-parent : tie.Need-mul-parent Inv-loop μ-loop
-mul-parent c = search needs
-
 array-copy-out-parent : tie.Need-array-copy-out-parent Inv-loop μ-loop
 array-copy-out-parent c = let h = low (c .before .before .before .before) in search needs
-
-leaf-requires : tie.Need-leaf-requires Inv-loop μ-loop
-leaf-requires c κs = search needs
-
-mul-t : tie.Need-mul-t Inv-loop μ-loop
-mul-t c = search needs
 
 array-set-from-t : tie.Need-array-set-from-t Inv-loop μ-loop
 array-set-from-t c = let h = low (c .before .before .before .before .before .before) in search needs
 
-mul-parent-2 : tie.Need-mul-parent-2 Inv-loop μ-loop
-mul-parent-2 c = search needs
-
 array-copy-out-parent-2 : tie.Need-array-copy-out-parent-2 Inv-loop μ-loop
 array-copy-out-parent-2 c = let h = low (c .before .before .before .before .before .before .before) in search needs
-
-with-first-requires : tie.Need-with-first-requires Inv-loop μ-loop
-with-first-requires c κs = search needs
-
-mul-t-2 : tie.Need-mul-t-2 Inv-loop μ-loop
-mul-t-2 c = search needs
 
 array-set-from-t-2 : tie.Need-array-set-from-t-2 Inv-loop μ-loop
 array-set-from-t-2 c = let h = low (c .before .before .before .before .before .before .before .before .before) in search needs
 
-cast-at : tie.Need-cast-at Inv-loop μ-loop
-cast-at c = search needs
-
-mul-before : tie.Need-mul-before Inv-loop μ-loop
-mul-before c = search needs
-
-array-copy-out-before : tie.Need-array-copy-out-before Inv-loop μ-loop
-array-copy-out-before c = search needs
-
-with-next-requires : tie.Need-with-next-requires Inv-loop μ-loop
-with-next-requires c κs = search needs
-
-mul-t-3 : tie.Need-mul-t-3 Inv-loop μ-loop
-mul-t-3 c = search needs
-
-array-set-from-t-3 : tie.Need-array-set-from-t-3 Inv-loop μ-loop
-array-set-from-t-3 c = search needs
-
-mul-parent-3 : tie.Need-mul-parent-3 Inv-loop μ-loop
-mul-parent-3 c = search needs
-
 array-copy-out-parent-3 : tie.Need-array-copy-out-parent-3 Inv-loop μ-loop
 array-copy-out-parent-3 c = let h = low (c .before .before .before .before .before .before .before) in search needs
-
-with-last-requires : tie.Need-with-last-requires Inv-loop μ-loop
-with-last-requires c κs = search needs
-
-mul-t-4 : tie.Need-mul-t-4 Inv-loop μ-loop
-mul-t-4 c = search needs
 
 array-set-from-t-4 : tie.Need-array-set-from-t-4 Inv-loop μ-loop
 array-set-from-t-4 c = let h = low (c .before .before .before .before .before .before .before .before .before) in search needs
 
 add-j : tie.Need-add-j Inv-loop μ-loop
 add-j c = let h = placed (c .before .before .before .before .before .before .before .before .before .before .before) .0 in search needs
-
-loop-less : tie.Need-loop-less Inv-loop μ-loop
-loop-less c = search needs
 
 loop-again : tie.Need-loop-again Inv-loop μ-loop
 loop-again c =
@@ -184,12 +103,6 @@ loop-again c =
     in
     let more = appended limit (l .t) (n .under) (n .place) (n .datum) leaf tied (c .with-last .ensures) in
     (search needs, rw more (rw (next-entry (new o .list) (new o .count) noNew few (l .j) (i .loop-test .taken)) at (l .inv .1)))
-
-areas-of-requires : tie.Need-areas-of-requires Inv-loop μ-loop
-areas-of-requires c κs = search needs
-
-cut-requires : tie.Need-cut-requires Inv-loop μ-loop
-cut-requires c κs = search needs
 
 put-frees-requires : tie.Need-put-frees-requires Inv-loop μ-loop
 put-frees-requires c κs =
@@ -231,46 +144,46 @@ book-spec =
     (tie.spec
     Inv-loop
     μ-loop
-    mul-old
-    array-copy-out-old
-    unlink-requires
-    cast-q
-    mul-up
-    array-copy-out-up
-    new-places-requires
-    site-of-requires
+    (λ c. search needs)  -- mul-old
+    (λ c. search needs)  -- array-copy-out-old
+    (λ c κs. search needs)  -- unlink-requires
+    (λ c. search needs)  -- cast-q
+    (λ c. search needs)  -- mul-up
+    (λ c. search needs)  -- array-copy-out-up
+    (λ c κs. search needs)  -- new-places-requires
+    (λ c κs. search needs)  -- site-of-requires
     new-at-requires
-    loop-holds
+    (λ c. search needs)  -- loop-holds
     mul-n
     array-copy-out-n
-    cast-under
-    cast-place
-    mul-parent
+    (λ c. search needs)  -- cast-under
+    (λ c. search needs)  -- cast-place
+    (λ c. search needs)  -- mul-parent
     array-copy-out-parent
-    leaf-requires
-    mul-t
+    (λ c κs. search needs)  -- leaf-requires
+    (λ c. search needs)  -- mul-t
     array-set-from-t
-    mul-parent-2
+    (λ c. search needs)  -- mul-parent-2
     array-copy-out-parent-2
-    with-first-requires
-    mul-t-2
+    (λ c κs. search needs)  -- with-first-requires
+    (λ c. search needs)  -- mul-t-2
     array-set-from-t-2
-    cast-at
-    mul-before
-    array-copy-out-before
-    with-next-requires
-    mul-t-3
-    array-set-from-t-3
-    mul-parent-3
+    (λ c. search needs)  -- cast-at
+    (λ c. search needs)  -- mul-before
+    (λ c. search needs)  -- array-copy-out-before
+    (λ c κs. search needs)  -- with-next-requires
+    (λ c. search needs)  -- mul-t-3
+    (λ c. search needs)  -- array-set-from-t-3
+    (λ c. search needs)  -- mul-parent-3
     array-copy-out-parent-3
-    with-last-requires
-    mul-t-4
+    (λ c κs. search needs)  -- with-last-requires
+    (λ c. search needs)  -- mul-t-4
     array-set-from-t-4
     add-j
-    loop-less
+    (λ c. search needs)  -- loop-less
     loop-again
-    areas-of-requires
-    cut-requires
+    (λ c κs. search needs)  -- areas-of-requires
+    (λ c κs. search needs)  -- cut-requires
     put-frees-requires
     less-parent-requires
     enrol-requires

@@ -4,12 +4,6 @@ use borrow.Author.Needs.{needs}
 use Rattle.booking.proofs.book.less_parent.Statement.{statement}
 use Rattle.booking.proofs.book.less_parent.Tie as tie
 
-no-child-requires : tie.Need-no-child-requires
-no-child-requires c κs = search needs
-
-strike-requires : tie.Need-strike-requires
-strike-requires c κs = search needs
-
 returns : tie.Need-returns
 returns c = simp (c .strike .ensures, sym (c .before .before .no-child .ensures) ∙ c .before .if1 .taken)
 
@@ -17,4 +11,10 @@ returns-2 : tie.Need-returns-2
 returns-2 c = c .before .before .pre .zeros ∙ simp (sym (c .before .no-child .ensures) ∙ c .if1 .left)
 
 pub less-parent-spec : {M : Type 1} → statement M
-less-parent-spec = tie.close (tie.spec no-child-requires strike-requires returns returns-2)
+less-parent-spec =
+    tie.close
+    (tie.spec
+    (λ c κs. search needs)  -- no-child-requires
+    (λ c κs. search needs)  -- strike-requires
+    returns
+    returns-2)

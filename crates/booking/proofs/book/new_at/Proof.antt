@@ -5,9 +5,6 @@ use borrow.Author.Needs.{needs}
 use Rattle.booking.proofs.book.new_at.Statement.{statement}
 use Rattle.booking.proofs.book.new_at.Tie as tie
 
-nodes-requires : tie.Need-nodes-requires
-nodes-requires c κs = search needs
-
 new-nodes-requires : tie.Need-new-nodes-requires
 new-nodes-requires c κs =
     let s = c .before .before .before in
@@ -21,4 +18,4 @@ returns c =
     c .new-nodes .ensures ∙ simp (c .before .nodes .ensures, blueprint-listed (a .shape) (d .cut) (d .size) (a .size))
 
 pub new-at-spec : {M : Type 1} → statement M
-new-at-spec = tie.close (tie.spec nodes-requires new-nodes-requires returns)
+new-at-spec = tie.close (tie.spec (λ c κs. search needs) new-nodes-requires returns)

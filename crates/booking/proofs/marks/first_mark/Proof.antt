@@ -9,15 +9,6 @@ use Rattle.booking.proofs.Typed.{five-new}
 use Rattle.booking.proofs.marks.first_mark.Statement.{statement}
 use Rattle.booking.proofs.marks.first_mark.Tie as tie
 
-array-copy-out-n : tie.Need-array-copy-out-n
-array-copy-out-n c = search needs
-
-mark-of-requires : tie.Need-mark-of-requires
-mark-of-requires c κs = search needs
-
-no-mark-requires : tie.Need-no-mark-requires
-no-mark-requires c κs = search needs
-
 returns : tie.Need-returns
 returns c =
     let s = c .before .before .before .before in
@@ -32,4 +23,10 @@ returns-2 c =
 
 pub first-mark-spec : {M : Type 1} → statement M
 first-mark-spec =
-    tie.close (tie.spec array-copy-out-n mark-of-requires no-mark-requires returns returns-2)
+    tie.close
+    (tie.spec
+    (λ c. search needs)  -- array-copy-out-n
+    (λ c κs. search needs)  -- mark-of-requires
+    (λ c κs. search needs)  -- no-mark-requires
+    returns
+    returns-2)

@@ -44,23 +44,8 @@ low c =
     let room = noted-room (s .args .number) (those n) m (drop (l .i + 1) (those n)) (l .frees) (l .found) (coming i) free in
     omega (arith, free-marks-count (s .args .number) (those n), s .pre .1)
 
-no-mark-requires : tie.Need-no-mark-requires Inv-loop μ-loop
-no-mark-requires c κs = search needs
-
 loop-holds : tie.Need-loop-holds Inv-loop μ-loop
 loop-holds c = (search needs, rw (c .no-mark .ensures) (noted-none (c .before .before .args .number) (those (c .before .before .args .new))))
-
-mul-n : tie.Need-mul-n Inv-loop μ-loop
-mul-n c = search needs
-
-array-copy-out-n : tie.Need-array-copy-out-n Inv-loop μ-loop
-array-copy-out-n c = search needs
-
-is-free-requires : tie.Need-is-free-requires Inv-loop μ-loop
-is-free-requires c κs = search needs
-
-mark-of-requires : tie.Need-mark-of-requires Inv-loop μ-loop
-mark-of-requires c κs = search needs
 
 mul-frees : tie.Need-mul-frees Inv-loop μ-loop
 mul-frees c = let h = low c in search needs
@@ -70,12 +55,6 @@ array-set-from-frees c = low c
 
 add-found : tie.Need-add-found Inv-loop μ-loop
 add-found c = let h = low c in search needs
-
-add-i : tie.Need-add-i Inv-loop μ-loop
-add-i c = search needs
-
-loop-less : tie.Need-loop-less Inv-loop μ-loop
-loop-less c = search needs
 
 loop-again : tie.Need-loop-again Inv-loop μ-loop
 loop-again c =
@@ -93,12 +72,6 @@ loop-again c =
           (c .if1 .came),
     )
 
-first-mark-requires : tie.Need-first-mark-requires Inv-loop μ-loop
-first-mark-requires c κs = search needs
-
-part-mark-requires : tie.Need-part-mark-requires Inv-loop μ-loop
-part-mark-requires c κs = search needs
-
 returns : tie.Need-returns Inv-loop μ-loop
 returns c =
     let l = c .before .before .before .loop in
@@ -114,18 +87,18 @@ marks-of-spec =
     (tie.spec
     Inv-loop
     μ-loop
-    no-mark-requires
+    (λ c κs. search needs)  -- no-mark-requires
     loop-holds
-    mul-n
-    array-copy-out-n
-    is-free-requires
-    mark-of-requires
+    (λ c. search needs)  -- mul-n
+    (λ c. search needs)  -- array-copy-out-n
+    (λ c κs. search needs)  -- is-free-requires
+    (λ c κs. search needs)  -- mark-of-requires
     mul-frees
     array-set-from-frees
     add-found
-    add-i
-    loop-less
+    (λ c. search needs)  -- add-i
+    (λ c. search needs)  -- loop-less
     loop-again
-    first-mark-requires
-    part-mark-requires
+    (λ c κs. search needs)  -- first-mark-requires
+    (λ c κs. search needs)  -- part-mark-requires
     returns)

@@ -4,11 +4,8 @@ use borrow.Author.Needs.{needs}
 use Rattle.booking.proofs.marks.no_marks.Statement.{statement}
 use Rattle.booking.proofs.marks.no_marks.Tie as tie
 
-no-mark-requires : tie.Need-no-mark-requires
-no-mark-requires c κs = search needs
-
 returns : tie.Need-returns
 returns c = rw (c .no-mark .ensures) refl
 
 pub no-marks-spec : {M : Type 1} → statement M
-no-marks-spec = tie.close (tie.spec no-mark-requires returns)
+no-marks-spec = tie.close (tie.spec (λ c κs. search needs) returns)

@@ -20,21 +20,6 @@ Inv-loop number list count i₀ i =
 abbrev μ-loop : tie.MeasureT-loop
 μ-loop number list count i₀ i = count - i
 
-loop-holds : tie.Need-loop-holds Inv-loop μ-loop
-loop-holds c = search needs
-
-mul-n : tie.Need-mul-n Inv-loop μ-loop
-mul-n c = search needs
-
-array-copy-out-n : tie.Need-array-copy-out-n Inv-loop μ-loop
-array-copy-out-n c = search needs
-
-is-part-requires : tie.Need-is-part-requires Inv-loop μ-loop
-is-part-requires c κs = search needs
-
-mark-of-requires : tie.Need-mark-of-requires Inv-loop μ-loop
-mark-of-requires c κs = search needs
-
 returns : tie.Need-returns Inv-loop μ-loop
 returns c =
     let l = c .before .before .before .before .before .loop in
@@ -44,12 +29,6 @@ returns c =
     let part = sym (c .before .before .is-part .ensures) ∙ c .before .if1 .taken in
     c .mark-of .ensures
     ∙ (rw (next-entry (n .list) (n .count) noNew few (l .i) (c .before .before .before .before .loop-test .taken), part) at (l .inv .1))
-
-add-i : tie.Need-add-i Inv-loop μ-loop
-add-i c = search needs
-
-loop-less : tie.Need-loop-less Inv-loop μ-loop
-loop-less c = search needs
 
 loop-again : tie.Need-loop-again Inv-loop μ-loop
 loop-again c =
@@ -61,9 +40,6 @@ loop-again c =
       search needs,
       rw (next-entry (n .list) (n .count) noNew few (l .i) (c .before .before .before .loop-test .taken), other) at (l .inv .1),
     )
-
-no-mark-requires : tie.Need-no-mark-requires Inv-loop μ-loop
-no-mark-requires c κs = search needs
 
 returns-2 : tie.Need-returns-2 Inv-loop μ-loop
 returns-2 c =
@@ -77,14 +53,14 @@ part-mark-spec =
     (tie.spec
     Inv-loop
     μ-loop
-    loop-holds
-    mul-n
-    array-copy-out-n
-    is-part-requires
-    mark-of-requires
+    (λ c. search needs)  -- loop-holds
+    (λ c. search needs)  -- mul-n
+    (λ c. search needs)  -- array-copy-out-n
+    (λ c κs. search needs)  -- is-part-requires
+    (λ c κs. search needs)  -- mark-of-requires
     returns
-    add-i
-    loop-less
+    (λ c. search needs)  -- add-i
+    (λ c. search needs)  -- loop-less
     loop-again
-    no-mark-requires
+    (λ c κs. search needs)  -- no-mark-requires
     returns-2)

@@ -4,9 +4,6 @@ use borrow.Author.Tests.{lt-ltb, le-ltb}
 use Rattle.booking.proofs.new_nodes.deeper.Statement.{statement}
 use Rattle.booking.proofs.new_nodes.deeper.Tie as tie
 
-add-result : tie.Need-add-result
-add-result c = search needs
-
 returns : tie.Need-returns
 returns c = simp (lt-ltb _ _ (c .if1 .taken))
 
@@ -14,4 +11,4 @@ returns-2 : tie.Need-returns-2
 returns-2 c = simp (le-ltb _ _ (c .if1 .left))
 
 pub deeper-spec : {M : Type 1} → statement M
-deeper-spec = tie.close (tie.spec add-result returns returns-2)
+deeper-spec = tie.close (tie.spec (λ c. search needs) returns returns-2)

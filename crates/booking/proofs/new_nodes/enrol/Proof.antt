@@ -76,26 +76,11 @@ loop-holds c =
     let s = c .before in
     (search needs, coming-start _++_ (enrolments (those (s .args .new))) (s .args .removable) (s .pre .0) (s .pre .2))
 
-mul-n : tie.Need-mul-n Inv-loop μ-loop
-mul-n c = search needs
-
-array-copy-out-n : tie.Need-array-copy-out-n Inv-loop μ-loop
-array-copy-out-n c = search needs
-
-is-part-requires : tie.Need-is-part-requires Inv-loop μ-loop
-is-part-requires c κs = search needs
-
 push-requires : tie.Need-push-requires Inv-loop μ-loop
 push-requires c κs = (part c .kept, coming-room push-grows (part c))
 
 push-requires-2 : tie.Need-push-requires-2 Inv-loop μ-loop
 push-requires-2 c κs = (eldest c .kept, coming-room push-grows (eldest c))
-
-add-i : tie.Need-add-i Inv-loop μ-loop
-add-i c = search needs
-
-loop-less : tie.Need-loop-less Inv-loop μ-loop
-loop-less c = search needs
 
 loop-again : tie.Need-loop-again Inv-loop μ-loop
 loop-again c =
@@ -120,12 +105,12 @@ enrol-spec =
     Inv-loop
     μ-loop
     loop-holds
-    mul-n
-    array-copy-out-n
-    is-part-requires
+    (λ c. search needs)  -- mul-n
+    (λ c. search needs)  -- array-copy-out-n
+    (λ c κs. search needs)  -- is-part-requires
     push-requires
     push-requires-2
-    add-i
-    loop-less
+    (λ c. search needs)  -- add-i
+    (λ c. search needs)  -- loop-less
     loop-again
     returns)

@@ -18,26 +18,8 @@ Inv-loop site count nodes new₀ i₀ new i =
 abbrev μ-loop : tie.MeasureT-loop
 μ-loop site count nodes new₀ i₀ new i = count - i
 
-none-requires : tie.Need-none-requires Inv-loop μ-loop
-none-requires c κs = search needs
-
 loop-holds : tie.Need-loop-holds Inv-loop μ-loop
 loop-holds c = (search needs, rw (c .none .ensures) refl, rw (c .none .ensures) refl)
-
-mul-n : tie.Need-mul-n Inv-loop μ-loop
-mul-n c = search needs
-
-array-copy-out-n : tie.Need-array-copy-out-n Inv-loop μ-loop
-array-copy-out-n c = search needs
-
-add-requires : tie.Need-add-requires Inv-loop μ-loop
-add-requires c κs = search needs
-
-add-i : tie.Need-add-i Inv-loop μ-loop
-add-i c = search needs
-
-loop-less : tie.Need-loop-less Inv-loop μ-loop
-loop-less c = search needs
 
 loop-again : tie.Need-loop-again Inv-loop μ-loop
 loop-again c =
@@ -62,12 +44,12 @@ new-nodes-spec =
     (tie.spec
     Inv-loop
     μ-loop
-    none-requires
+    (λ c κs. search needs)  -- none-requires
     loop-holds
-    mul-n
-    array-copy-out-n
-    add-requires
-    add-i
-    loop-less
+    (λ c. search needs)  -- mul-n
+    (λ c. search needs)  -- array-copy-out-n
+    (λ c κs. search needs)  -- add-requires
+    (λ c. search needs)  -- add-i
+    (λ c. search needs)  -- loop-less
     loop-again
     returns)

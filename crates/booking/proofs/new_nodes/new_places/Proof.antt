@@ -15,26 +15,11 @@ abbrev μ-loop : tie.MeasureT-loop
 loop-holds : tie.Need-loop-holds Inv-loop μ-loop
 loop-holds c = (omega arith, found-none (c .args .nodes))
 
-unheld-requires : tie.Need-unheld-requires Inv-loop μ-loop
-unheld-requires c κs = search needs
-
-mul-places : tie.Need-mul-places Inv-loop μ-loop
-mul-places c = search needs
-
-array-write-places : tie.Need-array-write-places Inv-loop μ-loop
-array-write-places c = search needs
-
 add-from : tie.Need-add-from Inv-loop μ-loop
 add-from c =
     let o = c .before .before in
     let h = found-most (o .before .args .nodes) (o .loop .inv .1) (c .before .loop-test .taken) (c .unheld .ensures) in
     search needs
-
-add-k : tie.Need-add-k Inv-loop μ-loop
-add-k c = search needs
-
-loop-less : tie.Need-loop-less Inv-loop μ-loop
-loop-less c = search needs
 
 loop-again : tie.Need-loop-again Inv-loop μ-loop
 loop-again c =
@@ -51,11 +36,11 @@ new-places-spec =
     Inv-loop
     μ-loop
     loop-holds
-    unheld-requires
-    mul-places
-    array-write-places
+    (λ c κs. search needs)  -- unheld-requires
+    (λ c. search needs)  -- mul-places
+    (λ c. search needs)  -- array-write-places
     add-from
-    add-k
-    loop-less
+    (λ c. search needs)  -- add-k
+    (λ c. search needs)  -- loop-less
     loop-again
     returns)

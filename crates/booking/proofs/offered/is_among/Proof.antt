@@ -22,27 +22,12 @@ four c = sym (length-map (c .args .t3 .list) _) ∙ c .good .1 .1 .0 .1 .1 .0 .1
 loop-holds : tie.Need-loop-holds Inv-loop μ-loop
 loop-holds c = (omega arith, refl)
 
-mul-same-offer : tie.Need-mul-same-offer Inv-loop μ-loop
-mul-same-offer c = search needs
-
-element-copy-out-same-offer : tie.Need-element-copy-out-same-offer Inv-loop μ-loop
-element-copy-out-same-offer c = search needs
-
-same-offer-requires : tie.Need-same-offer-requires Inv-loop μ-loop
-same-offer-requires c κs = search needs
-
 returns : tie.Need-returns Inv-loop μ-loop
 returns c =
     let l = c .before .before .before .before .loop in
     let s = c .before .before .before .before .before in
     sym (among-at (s .args .rotation) (s .args .shape) (l .i) (s .args .t3 .count) (s .args .t3 .list) (omega arith) (rw (four s) (s .pre))
     (sym (c .before .same-offer .ensures) ∙ c .if1 .taken))
-
-add-i : tie.Need-add-i Inv-loop μ-loop
-add-i c = search needs
-
-loop-less : tie.Need-loop-less Inv-loop μ-loop
-loop-less c = search needs
 
 loop-again : tie.Need-loop-again Inv-loop μ-loop
 loop-again c =
@@ -66,11 +51,11 @@ is-among-spec =
     Inv-loop
     μ-loop
     loop-holds
-    mul-same-offer
-    element-copy-out-same-offer
-    same-offer-requires
+    (λ c. search needs)  -- mul-same-offer
+    (λ c. search needs)  -- element-copy-out-same-offer
+    (λ c κs. search needs)  -- same-offer-requires
     returns
-    add-i
-    loop-less
+    (λ c. search needs)  -- add-i
+    (λ c. search needs)  -- loop-less
     loop-again
     returns-2)

@@ -8,9 +8,6 @@ use Rattle.booking.specs.Offered.{amongB, offeredB}
 use Rattle.booking.proofs.offered.is_offered.Statement.{statement}
 use Rattle.booking.proofs.offered.is_offered.Tie as tie
 
-offers-requires : tie.Need-offers-requires
-offers-requires c κs = search needs
-
 is-among-requires : tie.Need-is-among-requires
 is-among-requires c κs =
     let a = c .before .args in
@@ -26,4 +23,4 @@ returns c =
     ∙ rw (c .before .offers .ensures, held-whole os (offers-few (a .piece) (a .part) (a .stages))) refl
 
 pub is-offered-spec : {M : Type 1} → statement M
-is-offered-spec = tie.close (tie.spec offers-requires is-among-requires returns)
+is-offered-spec = tie.close (tie.spec (λ c κs. search needs) is-among-requires returns)

@@ -5,18 +5,6 @@ use Rattle.frames.specs.Requests.{formOf, openOf, offersOf, insertOf, re
 use Rattle.frames.proofs.read.asked_by.Statement.{statement}
 use Rattle.frames.proofs.read.asked_by.Tie as tie
 
-open-requires : tie.Need-open-requires
-open-requires c κs = search needs
-
-offers-requires : tie.Need-offers-requires
-offers-requires c κs = search needs
-
-insert-requires : tie.Need-insert-requires
-insert-requires c κs = search needs
-
-remove-requires : tie.Need-remove-requires
-remove-requires c κs = search needs
-
 returns : tie.Need-returns
 unfolding askedBy formOf openOf offersOf insertOf removeOf
 returns c = rw (c .before .match .keys1, c .open .ensures)
@@ -63,10 +51,10 @@ pub asked-by-spec : {M : Type 1} → statement M
 asked-by-spec =
     tie.close
     (tie.spec
-    open-requires
-    offers-requires
-    insert-requires
-    remove-requires
+    (λ c κs. search needs)  -- open-requires
+    (λ c κs. search needs)  -- offers-requires
+    (λ c κs. search needs)  -- insert-requires
+    (λ c κs. search needs)  -- remove-requires
     returns
     returns-2
     returns-3

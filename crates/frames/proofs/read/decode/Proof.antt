@@ -31,9 +31,6 @@ add-byte c = omega arith
 shared-slice-read-byte-2 : tie.Need-shared-slice-read-byte-2 Inv-loop μ-loop
 shared-slice-read-byte-2 c = omega arith
 
-byte-requires : tie.Need-byte-requires Inv-loop μ-loop
-byte-requires c κs = search needs
-
 returns : tie.Need-returns Inv-loop μ-loop
 returns c =
     let e = c .before in
@@ -46,9 +43,6 @@ cast-byte c = omega arith
 
 array-write-bytes : tie.Need-array-write-bytes Inv-loop μ-loop
 array-write-bytes c = omega arith
-
-wrapping-add-u8-requires : tie.Need-wrapping-add-u8-requires Inv-loop μ-loop
-wrapping-add-u8-requires c κs = search needs
 
 add-i : tie.Need-add-i Inv-loop μ-loop
 add-i c = omega arith
@@ -78,11 +72,11 @@ decode-spec =
     mul-byte-2
     add-byte
     shared-slice-read-byte-2
-    byte-requires
+    (λ c κs. search needs)  -- byte-requires
     returns
     cast-byte
     array-write-bytes
-    wrapping-add-u8-requires
+    (λ c κs. search needs)  -- wrapping-add-u8-requires
     add-i
     loop-less
     loop-again

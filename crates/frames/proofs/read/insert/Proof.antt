@@ -6,15 +6,6 @@ use Rattle.frames.proofs.Fields.{insert-read}
 use Rattle.frames.proofs.read.insert.Statement.{statement}
 use Rattle.frames.proofs.read.insert.Tie as tie
 
-element-copy-out-turn : tie.Need-element-copy-out-turn
-element-copy-out-turn c = search needs
-
-element-copy-out-rotation : tie.Need-element-copy-out-rotation
-element-copy-out-rotation c = search needs
-
-element-copy-out-shape : tie.Need-element-copy-out-shape
-element-copy-out-shape c = search needs
-
 returns : tie.Need-returns
 unfolding insertOf
 returns c = simp (lt-leb _ _ (c .if1 .taken))
@@ -38,18 +29,6 @@ returns-4 c =
       lt-leb _ _ (c .if4 .taken),
     )
 
-mark-at-requires : tie.Need-mark-at-requires
-mark-at-requires c κs = search needs
-
-part-at-requires : tie.Need-part-at-requires
-part-at-requires c κs = search needs
-
-rotation-of-requires : tie.Need-rotation-of-requires
-rotation-of-requires c κs = search needs
-
-shape-of-requires : tie.Need-shape-of-requires
-shape-of-requires c κs = search needs
-
 returns-5 : tie.Need-returns-5
 returns-5 c =
     let f = c .before .before .before in
@@ -68,15 +47,15 @@ pub insert-spec : {M : Type 1} → statement M
 insert-spec =
     tie.close
     (tie.spec
-    element-copy-out-turn
-    element-copy-out-rotation
-    element-copy-out-shape
+    (λ c. search needs)  -- element-copy-out-turn
+    (λ c. search needs)  -- element-copy-out-rotation
+    (λ c. search needs)  -- element-copy-out-shape
     returns
     returns-2
     returns-3
     returns-4
-    mark-at-requires
-    part-at-requires
-    rotation-of-requires
-    shape-of-requires
+    (λ c κs. search needs)  -- mark-at-requires
+    (λ c κs. search needs)  -- part-at-requires
+    (λ c κs. search needs)  -- rotation-of-requires
+    (λ c κs. search needs)  -- shape-of-requires
     returns-5)

@@ -5,18 +5,9 @@ use Rattle.frames.specs.Requests.{offersOf}
 use Rattle.frames.proofs.read.offers.Statement.{statement}
 use Rattle.frames.proofs.read.offers.Tie as tie
 
-element-copy-out-turn : tie.Need-element-copy-out-turn
-element-copy-out-turn c = search needs
-
 returns : tie.Need-returns
 unfolding offersOf
 returns c = simp (lt-leb _ _ (c .if1 .taken))
-
-mark-at-requires : tie.Need-mark-at-requires
-mark-at-requires c κs = search needs
-
-part-at-requires : tie.Need-part-at-requires
-part-at-requires c κs = search needs
 
 returns-2 : tie.Need-returns-2
 unfolding offersOf
@@ -24,4 +15,10 @@ returns-2 c = simp (le-leb _ _ (c .before .before .if1 .left), c .before .mark-a
 
 pub offers-spec : {M : Type 1} → statement M
 offers-spec =
-    tie.close (tie.spec element-copy-out-turn returns mark-at-requires part-at-requires returns-2)
+    tie.close
+    (tie.spec
+    (λ c. search needs)  -- element-copy-out-turn
+    returns
+    (λ c κs. search needs)  -- mark-at-requires
+    (λ c κs. search needs)  -- part-at-requires
+    returns-2)

@@ -5,24 +5,9 @@ use Rattle.frames.specs.Requests.{openOf}
 use Rattle.frames.proofs.read.open.Statement.{statement}
 use Rattle.frames.proofs.read.open.Tie as tie
 
-element-copy-out-cut : tie.Need-element-copy-out-cut
-element-copy-out-cut c = search needs
-
 returns : tie.Need-returns
 unfolding openOf
 returns c = simp (lt-leb _ _ (c .if1 .taken))
-
-two-at-requires : tie.Need-two-at-requires
-two-at-requires c κs = search needs
-
-size-at-requires : tie.Need-size-at-requires
-size-at-requires c κs = search needs
-
-cut-of-requires : tie.Need-cut-of-requires
-cut-of-requires c κs = search needs
-
-element-copy-out-t5 : tie.Need-element-copy-out-t5
-element-copy-out-t5 c = search needs
 
 returns-2 : tie.Need-returns-2
 unfolding openOf
@@ -39,10 +24,10 @@ pub open-spec : {M : Type 1} → statement M
 open-spec =
     tie.close
     (tie.spec
-    element-copy-out-cut
+    (λ c. search needs)  -- element-copy-out-cut
     returns
-    two-at-requires
-    size-at-requires
-    cut-of-requires
-    element-copy-out-t5
+    (λ c κs. search needs)  -- two-at-requires
+    (λ c κs. search needs)  -- size-at-requires
+    (λ c κs. search needs)  -- cut-of-requires
+    (λ c. search needs)  -- element-copy-out-t5
     returns-2)

@@ -4,12 +4,9 @@ use Rattle.frames.specs.Requests.{removeOf}
 use Rattle.frames.proofs.read.remove.Statement.{statement}
 use Rattle.frames.proofs.read.remove.Tie as tie
 
-mark-at-requires : tie.Need-mark-at-requires
-mark-at-requires c κs = search needs
-
 returns : tie.Need-returns
 unfolding removeOf
 returns c = simp (c .mark-at .ensures)
 
 pub remove-spec : {M : Type 1} → statement M
-remove-spec = tie.close (tie.spec mark-at-requires returns)
+remove-spec = tie.close (tie.spec (λ c κs. search needs) returns)

@@ -15,9 +15,6 @@ returns c = too-long _ (c .if1 .taken)
 returns-2 : tie.Need-returns-2
 returns-2 c = odd _ (c .before .if1 .left) (c .if2 .taken)
 
-decode-requires : tie.Need-decode-requires
-decode-requires c κs = search needs
-
 returns-3 : tie.Need-returns-3
 returns-3 c =
     let d = c .before in
@@ -31,12 +28,6 @@ returns-4 c =
     wrong-sum _ (d .before .before .if1 .left) (d .before .if2 .left) (sym (e .good) ∙ t .if3 .taken)
     (λ h. c .if4 .taken (e .sum (t .if3 .taken) ∙ h))
 
-array-read-op : tie.Need-array-read-op
-array-read-op c = search needs
-
-length-of-requires : tie.Need-length-of-requires
-length-of-requires c κs = search needs
-
 returns-5 : tie.Need-returns-5
 returns-5 c =
     let b = c .before .before in
@@ -47,9 +38,6 @@ returns-5 c =
     wrong-length _ (d .before .before .if1 .left) (d .before .if2 .left) (sym (e .good) ∙ t .if3 .taken)
     (sym (e .sum (t .if3 .taken)) ∙ b .before .if4 .left)
     (λ h. c .if5 .taken (h ∙ sym length))
-
-asked-by-requires : tie.Need-asked-by-requires
-asked-by-requires c κs = search needs
 
 returns-6 : tie.Need-returns-6
 returns-6 c =
@@ -72,11 +60,11 @@ request-spec =
     (tie.spec
     returns
     returns-2
-    decode-requires
+    (λ c κs. search needs)  -- decode-requires
     returns-3
     returns-4
-    array-read-op
-    length-of-requires
+    (λ c. search needs)  -- array-read-op
+    (λ c κs. search needs)  -- length-of-requires
     returns-5
-    asked-by-requires
+    (λ c κs. search needs)  -- asked-by-requires
     returns-6)

@@ -6,18 +6,15 @@ use Rattle.frames.proofs.Writing.{answered}
 use Rattle.frames.proofs.write.done.Statement.{statement}
 use Rattle.frames.proofs.write.done.Tie as tie
 
-begin-requires : tie.Need-begin-requires
-begin-requires c κs = search needs
-
-end-requires : tie.Need-end-requires
-end-requires c κs = search needs
-
-same-length : tie.Need-same-length
-same-length c = search needs
-
 returns : tie.Need-returns
 unfolding contentOf
 returns c = answered _ refl (c .before .before .before .before .before .before .begin .ensures) (c .before .before .end .ensures)
 
 pub done-spec : {M : Type 1} → statement M
-done-spec = tie.close (tie.spec begin-requires end-requires same-length returns)
+done-spec =
+    tie.close
+    (tie.spec
+    (λ c κs. search needs)  -- begin-requires
+    (λ c κs. search needs)  -- end-requires
+    (λ c. search needs)  -- same-length
+    returns)

@@ -15,18 +15,6 @@ use Rattle.frames.proofs.write.inserted.Tie as tie
 two-frees : (c : tie.Start) → length (c .args .frees) ≡ 2
 two-frees c = c .good .1 .1 .1 .0 .1 .0 .1
 
-begin-requires : tie.Need-begin-requires
-begin-requires c κs = search needs
-
-put-mark-requires : tie.Need-put-mark-requires
-put-mark-requires c κs = search needs
-
-put-mark-requires-2 : tie.Need-put-mark-requires-2
-put-mark-requires-2 c κs = search needs
-
-put-marks-requires : tie.Need-put-marks-requires
-put-marks-requires c κs = search needs
-
 end-requires : tie.Need-end-requires
 end-requires c κs =
     let o = c .before .before .before in
@@ -48,9 +36,6 @@ end-requires c κs =
       length-taken markBytes 7 (λ x. refl) (s .args .frees) (s .args .count) (omega (arith, two-frees s)),
     )
 
-same-length : tie.Need-same-length
-same-length c = search needs
-
 returns : tie.Need-returns
 unfolding contentOf
 returns c =
@@ -71,10 +56,10 @@ pub inserted-spec : {M : Type 1} → statement M
 inserted-spec =
     tie.close
     (tie.spec
-    begin-requires
-    put-mark-requires
-    put-mark-requires-2
-    put-marks-requires
+    (λ c κs. search needs)  -- begin-requires
+    (λ c κs. search needs)  -- put-mark-requires
+    (λ c κs. search needs)  -- put-mark-requires-2
+    (λ c κs. search needs)  -- put-marks-requires
     end-requires
-    same-length
+    (λ c. search needs)  -- same-length
     returns)

@@ -14,12 +14,6 @@ use Rattle.frames.proofs.write.offered.Tie as tie
 four-offers : (c : tie.Start) → length (c .args .offers .list) ≡ 4
 four-offers c = sym (length-map (c .args .offers .list) _) ∙ c .good .1 .0 .1 .1 .0 .1 .0 .1
 
-begin-requires : tie.Need-begin-requires
-begin-requires c κs = search needs
-
-put-offers-requires : tie.Need-put-offers-requires
-put-offers-requires c κs = search needs
-
 end-requires : tie.Need-end-requires
 end-requires c κs =
     let o = c .before .before .before in
@@ -34,9 +28,6 @@ end-requires c κs =
       same-room (o .put-offers .ensures),
       length-taken offerBytes 2 (λ x. refl) (s .args .offers .list) (s .args .offers .count) (omega (arith, four-offers s)),
     )
-
-same-length : tie.Need-same-length
-same-length c = search needs
 
 returns : tie.Need-returns
 unfolding contentOf
@@ -53,4 +44,10 @@ returns c =
 
 pub offered-spec : {M : Type 1} → statement M
 offered-spec =
-    tie.close (tie.spec begin-requires put-offers-requires end-requires same-length returns)
+    tie.close
+    (tie.spec
+    (λ c κs. search needs)  -- begin-requires
+    (λ c κs. search needs)  -- put-offers-requires
+    end-requires
+    (λ c. search needs)  -- same-length
+    returns)

@@ -6,18 +6,6 @@ use Rattle.frames.proofs.Writing.{answered, and-then}
 use Rattle.frames.proofs.write.opened.Statement.{statement}
 use Rattle.frames.proofs.write.opened.Tie as tie
 
-begin-requires : tie.Need-begin-requires
-begin-requires c κs = search needs
-
-put-mark-requires : tie.Need-put-mark-requires
-put-mark-requires c κs = search needs
-
-end-requires : tie.Need-end-requires
-end-requires c κs = search needs
-
-same-length : tie.Need-same-length
-same-length c = search needs
-
 returns : tie.Need-returns
 unfolding contentOf
 returns c =
@@ -27,4 +15,10 @@ returns c =
 
 pub opened-spec : {M : Type 1} → statement M
 opened-spec =
-    tie.close (tie.spec begin-requires put-mark-requires end-requires same-length returns)
+    tie.close
+    (tie.spec
+    (λ c κs. search needs)  -- begin-requires
+    (λ c κs. search needs)  -- put-mark-requires
+    (λ c κs. search needs)  -- end-requires
+    (λ c. search needs)  -- same-length
+    returns)

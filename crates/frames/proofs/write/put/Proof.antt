@@ -6,29 +6,8 @@ use Rattle.frames.proofs.Writing.{put-one}
 use Rattle.frames.proofs.write.put.Statement.{statement}
 use Rattle.frames.proofs.write.put.Tie as tie
 
-letter-requires : tie.Need-letter-requires
-letter-requires c κs = search needs
-
-slice-write-out : tie.Need-slice-write-out
-slice-write-out c = search needs
-
-letter-requires-2 : tie.Need-letter-requires-2
-letter-requires-2 c κs = search needs
-
-add-out : tie.Need-add-out
-add-out c = search needs
-
 slice-write-out-2 : tie.Need-slice-write-out-2
 slice-write-out-2 c = simp length-set (omega arith)
-
-add-t8 : tie.Need-add-t8
-add-t8 c = search needs
-
-wrapping-add-u8-requires : tie.Need-wrapping-add-u8-requires
-wrapping-add-u8-requires c κs = search needs
-
-same-length : tie.Need-same-length
-same-length c = search needs
 
 returns : tie.Need-returns
 returns c = put-one _ _ _ _ _ _ (c .before .before .letter .ensures) (c .before .letter2 .ensures) (c .wrapping-add-u8 .ensures)
@@ -37,12 +16,12 @@ pub put-spec : {M : Type 1} → statement M
 put-spec =
     tie.close
     (tie.spec
-    letter-requires
-    slice-write-out
-    letter-requires-2
-    add-out
+    (λ c κs. search needs)  -- letter-requires
+    (λ c. search needs)  -- slice-write-out
+    (λ c κs. search needs)  -- letter-requires-2
+    (λ c. search needs)  -- add-out
     slice-write-out-2
-    add-t8
-    wrapping-add-u8-requires
-    same-length
+    (λ c. search needs)  -- add-t8
+    (λ c κs. search needs)  -- wrapping-add-u8-requires
+    (λ c. search needs)  -- same-length
     returns)

@@ -4,21 +4,6 @@ use Rattle.frames.proofs.Writing.{and-then}
 use Rattle.frames.proofs.write.put_eight.Statement.{statement}
 use Rattle.frames.proofs.write.put_eight.Tie as tie
 
-cast-put-four : tie.Need-cast-put-four
-cast-put-four c = search needs
-
-put-four-requires : tie.Need-put-four-requires
-put-four-requires c κs = search needs
-
-cast-put-four-2 : tie.Need-cast-put-four-2
-cast-put-four-2 c = search needs
-
-put-four-requires-2 : tie.Need-put-four-requires-2
-put-four-requires-2 c κs = search needs
-
-same-length : tie.Need-same-length
-same-length c = search needs
-
 returns : tie.Need-returns
 returns c = and-then (c .before .before .before .before .before .before .put-four .ensures) (c .before .before .put-four2 .ensures)
 
@@ -26,9 +11,9 @@ pub put-eight-spec : {M : Type 1} → statement M
 put-eight-spec =
     tie.close
     (tie.spec
-    cast-put-four
-    put-four-requires
-    cast-put-four-2
-    put-four-requires-2
-    same-length
+    (λ c. search needs)  -- cast-put-four
+    (λ c κs. search needs)  -- put-four-requires
+    (λ c. search needs)  -- cast-put-four-2
+    (λ c κs. search needs)  -- put-four-requires-2
+    (λ c. search needs)  -- same-length
     returns)

@@ -4,25 +4,16 @@ use Rattle.frames.proofs.Writing.{and-then}
 use Rattle.frames.proofs.write.put_four.Statement.{statement}
 use Rattle.frames.proofs.write.put_four.Tie as tie
 
-cast-put-two : tie.Need-cast-put-two
-cast-put-two c = search needs
-
-put-two-requires : tie.Need-put-two-requires
-put-two-requires c κs = search needs
-
-cast-put-two-2 : tie.Need-cast-put-two-2
-cast-put-two-2 c = search needs
-
-put-two-requires-2 : tie.Need-put-two-requires-2
-put-two-requires-2 c κs = search needs
-
-same-length : tie.Need-same-length
-same-length c = search needs
-
 returns : tie.Need-returns
 returns c = and-then (c .before .before .before .before .before .before .put-two .ensures) (c .before .before .put-two2 .ensures)
 
 pub put-four-spec : {M : Type 1} → statement M
 put-four-spec =
     tie.close
-    (tie.spec cast-put-two put-two-requires cast-put-two-2 put-two-requires-2 same-length returns)
+    (tie.spec
+    (λ c. search needs)  -- cast-put-two
+    (λ c κs. search needs)  -- put-two-requires
+    (λ c. search needs)  -- cast-put-two-2
+    (λ c κs. search needs)  -- put-two-requires-2
+    (λ c. search needs)  -- same-length
+    returns)

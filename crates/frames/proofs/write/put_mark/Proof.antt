@@ -4,21 +4,6 @@ use Rattle.frames.proofs.Writing.{and-then}
 use Rattle.frames.proofs.write.put_mark.Statement.{statement}
 use Rattle.frames.proofs.write.put_mark.Tie as tie
 
-put-two-requires : tie.Need-put-two-requires
-put-two-requires c κs = search needs
-
-cast-put : tie.Need-cast-put
-cast-put c = search needs
-
-put-requires : tie.Need-put-requires
-put-requires c κs = search needs
-
-put-four-requires : tie.Need-put-four-requires
-put-four-requires c κs = search needs
-
-same-length : tie.Need-same-length
-same-length c = search needs
-
 returns : tie.Need-returns
 returns c =
     let place = c .before .before .before .before .before .before in
@@ -28,4 +13,10 @@ returns c =
 pub put-mark-spec : {M : Type 1} → statement M
 put-mark-spec =
     tie.close
-    (tie.spec put-two-requires cast-put put-requires put-four-requires same-length returns)
+    (tie.spec
+    (λ c κs. search needs)  -- put-two-requires
+    (λ c. search needs)  -- cast-put
+    (λ c κs. search needs)  -- put-requires
+    (λ c κs. search needs)  -- put-four-requires
+    (λ c. search needs)  -- same-length
+    returns)

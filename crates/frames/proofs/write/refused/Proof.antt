@@ -8,18 +8,6 @@ use Rattle.frames.proofs.Writing.{answered}
 use Rattle.frames.proofs.write.refused.Statement.{statement}
 use Rattle.frames.proofs.write.refused.Tie as tie
 
-number-requires : tie.Need-number-requires
-number-requires c κs = search needs
-
-begin-requires : tie.Need-begin-requires
-begin-requires c κs = search needs
-
-end-requires : tie.Need-end-requires
-end-requires c κs = search needs
-
-same-length : tie.Need-same-length
-same-length c = search needs
-
 returns : tie.Need-returns
 unfolding contentOf
 returns c =
@@ -28,4 +16,11 @@ returns c =
     (b .begin .ensures) (c .before .before .end .ensures)
 
 pub refused-spec : {M : Type 1} → statement M
-refused-spec = tie.close (tie.spec number-requires begin-requires end-requires same-length returns)
+refused-spec =
+    tie.close
+    (tie.spec
+    (λ c κs. search needs)  -- number-requires
+    (λ c κs. search needs)  -- begin-requires
+    (λ c κs. search needs)  -- end-requires
+    (λ c. search needs)  -- same-length
+    returns)

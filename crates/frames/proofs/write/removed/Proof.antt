@@ -13,15 +13,6 @@ use Rattle.frames.proofs.Writing.{answered, and-then, length-taken, sam
 use Rattle.frames.proofs.write.removed.Statement.{statement}
 use Rattle.frames.proofs.write.removed.Tie as tie
 
-begin-requires : tie.Need-begin-requires
-begin-requires c κs = search needs
-
-put-mark-requires : tie.Need-put-mark-requires
-put-mark-requires c κs = search needs
-
-put-numbers-requires : tie.Need-put-numbers-requires
-put-numbers-requires c κs = search needs
-
 end-requires : tie.Need-end-requires
 end-requires c κs =
     let o = c .before .before .before in
@@ -39,9 +30,6 @@ end-requires c κs =
       same-room (o .put-numbers .ensures),
       length-taken two 2 (λ x. refl) (s .args .numbers .now) (s .args .count) (omega arith),
     )
-
-same-length : tie.Need-same-length
-same-length c = search needs
 
 returns : tie.Need-returns
 unfolding contentOf
@@ -62,9 +50,9 @@ pub removed-spec : {M : Type 1} → statement M
 removed-spec =
     tie.close
     (tie.spec
-    begin-requires
-    put-mark-requires
-    put-numbers-requires
+    (λ c κs. search needs)  -- begin-requires
+    (λ c κs. search needs)  -- put-mark-requires
+    (λ c κs. search needs)  -- put-numbers-requires
     end-requires
-    same-length
+    (λ c. search needs)  -- same-length
     returns)

@@ -6,27 +6,6 @@ use Rattle.frames.proofs.Writing.{answered, and-then}
 use Rattle.frames.proofs.write.reported.Statement.{statement}
 use Rattle.frames.proofs.write.reported.Tie as tie
 
-begin-requires : tie.Need-begin-requires
-begin-requires c κs = search needs
-
-put-eight-requires : tie.Need-put-eight-requires
-put-eight-requires c κs = search needs
-
-cast-put : tie.Need-cast-put
-cast-put c = search needs
-
-put-requires : tie.Need-put-requires
-put-requires c κs = search needs
-
-put-eight-requires-2 : tie.Need-put-eight-requires-2
-put-eight-requires-2 c κs = search needs
-
-end-requires : tie.Need-end-requires
-end-requires c κs = search needs
-
-same-length : tie.Need-same-length
-same-length c = search needs
-
 returns : tie.Need-returns
 unfolding contentOf
 returns c =
@@ -42,11 +21,11 @@ pub reported-spec : {M : Type 1} → statement M
 reported-spec =
     tie.close
     (tie.spec
-    begin-requires
-    put-eight-requires
-    cast-put
-    put-requires
-    put-eight-requires-2
-    end-requires
-    same-length
+    (λ c κs. search needs)  -- begin-requires
+    (λ c κs. search needs)  -- put-eight-requires
+    (λ c. search needs)  -- cast-put
+    (λ c κs. search needs)  -- put-requires
+    (λ c κs. search needs)  -- put-eight-requires-2
+    (λ c κs. search needs)  -- end-requires
+    (λ c. search needs)  -- same-length
     returns)

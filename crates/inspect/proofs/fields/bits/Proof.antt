@@ -16,11 +16,10 @@ equal-to-itself (fin s m e) h = tt
 float-to-bits-result : tie.Need-float-to-bits-result
 float-to-bits-result c = equal-to-itself (c .before .args .usage) (subst T (sym (c .if1 .taken)) tt)
 
-returns : tie.Need-returns
-returns c = search needs
-
-returns-2 : tie.Need-returns-2
-returns-2 c = search needs
-
 pub bits-spec : {M : Type 1} → statement M
-bits-spec = tie.close (tie.spec float-to-bits-result returns returns-2)
+bits-spec =
+    tie.close
+    (tie.spec
+    float-to-bits-result
+    (λ c. search needs)  -- returns
+    (λ c. search needs))  -- returns-2

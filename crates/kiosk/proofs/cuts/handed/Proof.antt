@@ -5,21 +5,6 @@ use Rattle.kiosk.proofs.Handing.{hands-out}
 use Rattle.kiosk.proofs.cuts.handed.Statement.{statement}
 use Rattle.kiosk.proofs.cuts.handed.Tie as tie
 
-layout-of-requires : tie.Need-layout-of-requires
-layout-of-requires c κs = search needs
-
-slice-aggregate-cuts : tie.Need-slice-aggregate-cuts
-slice-aggregate-cuts c = search needs
-
-cuts-requires : tie.Need-cuts-requires
-cuts-requires c κs = search needs
-
-enum-known-count : tie.Need-enum-known-count
-enum-known-count c = search needs
-
-enum-known--why : tie.Need-enum-known--why
-enum-known--why c = search needs
-
 returns : tie.Need-returns
 returns c =
     let k = c .before .before .before .before in
@@ -39,4 +24,11 @@ returns-2 c =
 pub handed-spec : {M : Type 1} → statement M
 handed-spec =
     tie.close
-    (tie.spec layout-of-requires slice-aggregate-cuts cuts-requires enum-known-count enum-known--why returns returns-2)
+    (tie.spec
+    (λ c κs. search needs)  -- layout-of-requires
+    (λ c. search needs)  -- slice-aggregate-cuts
+    (λ c κs. search needs)  -- cuts-requires
+    (λ c. search needs)  -- enum-known-count
+    (λ c. search needs)  -- enum-known--why
+    returns
+    returns-2)

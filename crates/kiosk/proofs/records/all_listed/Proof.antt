@@ -27,15 +27,6 @@ abbrev μ-loop : tie.MeasureT-loop
 loop-holds : tie.Need-loop-holds Inv-loop μ-loop
 loop-holds c = (omega arith, every-none (listedAt (c .args .t1)))
 
-mul-given : tie.Need-mul-given Inv-loop μ-loop
-mul-given c = search needs
-
-array-copy-out-given : tie.Need-array-copy-out-given Inv-loop μ-loop
-array-copy-out-given c = search needs
-
-listed-requires : tie.Need-listed-requires Inv-loop μ-loop
-listed-requires c κs = search needs
-
 returns : tie.Need-returns Inv-loop μ-loop
 unfolding allListedB
 returns c =
@@ -45,12 +36,6 @@ returns c =
     let len : length t ≡ limit = s .good .0 .1 .0 .1 in
     let z : listedAt t (l .i) ≡ false = sym (c .before .listed .ensures) ∙ not-true _ (c .if1 .taken) in
     sym (every-fails (listedAt t) (length t) (l .i) (omega arith) z)
-
-add-i : tie.Need-add-i Inv-loop μ-loop
-add-i c = search needs
-
-loop-less : tie.Need-loop-less Inv-loop μ-loop
-loop-less c = search needs
 
 loop-again : tie.Need-loop-again Inv-loop μ-loop
 loop-again c =
@@ -76,11 +61,11 @@ all-listed-spec =
     Inv-loop
     μ-loop
     loop-holds
-    mul-given
-    array-copy-out-given
-    listed-requires
+    (λ c. search needs)  -- mul-given
+    (λ c. search needs)  -- array-copy-out-given
+    (λ c κs. search needs)  -- listed-requires
     returns
-    add-i
-    loop-less
+    (λ c. search needs)  -- add-i
+    (λ c. search needs)  -- loop-less
     loop-again
     returns-2)

@@ -5,12 +5,9 @@ use Rattle.kiosk.specs.Records.{fieldsOf}
 use Rattle.kiosk.proofs.records.fields_of.Statement.{statement}
 use Rattle.kiosk.proofs.records.fields_of.Tie as tie
 
-nodes-of-requires : tie.Need-nodes-of-requires
-nodes-of-requires c κs = search needs
-
 returns : tie.Need-returns
 unfolding fieldsOf
 returns c = rw (c .before .before .nodes-of .ensures) refl
 
 pub fields-of-spec : {M : Type 1} → statement M
-fields-of-spec = tie.close (tie.spec nodes-of-requires returns)
+fields-of-spec = tie.close (tie.spec (λ c κs. search needs) returns)

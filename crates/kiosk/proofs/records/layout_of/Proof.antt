@@ -6,15 +6,6 @@ use Rattle.kiosk.specs.Records.{allListedB, layoutOf}
 use Rattle.kiosk.proofs.records.layout_of.Statement.{statement}
 use Rattle.kiosk.proofs.records.layout_of.Tie as tie
 
-all-listed-requires : tie.Need-all-listed-requires
-all-listed-requires c κs = search needs
-
-fields-of-requires : tie.Need-fields-of-requires
-fields-of-requires c κs = search needs
-
-zero-requires : tie.Need-zero-requires
-zero-requires c κs = search needs
-
 returns : tie.Need-returns
 unfolding layoutOf
 returns c =
@@ -30,4 +21,11 @@ returns-2 c =
     rw h (c .zero .ensures)
 
 pub layout-of-spec : {M : Type 1} → statement M
-layout-of-spec = tie.close (tie.spec all-listed-requires fields-of-requires zero-requires returns returns-2)
+layout-of-spec =
+    tie.close
+    (tie.spec
+    (λ c κs. search needs)  -- all-listed-requires
+    (λ c κs. search needs)  -- fields-of-requires
+    (λ c κs. search needs)  -- zero-requires
+    returns
+    returns-2)

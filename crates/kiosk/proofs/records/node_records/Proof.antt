@@ -17,32 +17,8 @@ Inv-loop nodes records₀ i₀ records i = (i ≤ limit) × (records ≡ filled 
 abbrev μ-loop : tie.MeasureT-loop
 μ-loop nodes records₀ i₀ records i = limit - i
 
-no-records-requires : tie.Need-no-records-requires Inv-loop μ-loop
-no-records-requires c κs = search needs
-
 loop-holds : tie.Need-loop-holds Inv-loop μ-loop
 loop-holds c = (omega arith, c .no-records .ensures)
-
-mul-n : tie.Need-mul-n Inv-loop μ-loop
-mul-n c = search needs
-
-array-copy-out-n : tie.Need-array-copy-out-n Inv-loop μ-loop
-array-copy-out-n c = search needs
-
-node-record-requires : tie.Need-node-record-requires Inv-loop μ-loop
-node-record-requires c κs = search needs
-
-mul-records : tie.Need-mul-records Inv-loop μ-loop
-mul-records c = search needs
-
-array-set-from-records : tie.Need-array-set-from-records Inv-loop μ-loop
-array-set-from-records c = search needs
-
-add-i : tie.Need-add-i Inv-loop μ-loop
-add-i c = search needs
-
-loop-less : tie.Need-loop-less Inv-loop μ-loop
-loop-less c = search needs
 
 loop-again : tie.Need-loop-again Inv-loop μ-loop
 loop-again c =
@@ -67,14 +43,14 @@ node-records-spec =
     (tie.spec
     Inv-loop
     μ-loop
-    no-records-requires
+    (λ c κs. search needs)  -- no-records-requires
     loop-holds
-    mul-n
-    array-copy-out-n
-    node-record-requires
-    mul-records
-    array-set-from-records
-    add-i
-    loop-less
+    (λ c. search needs)  -- mul-n
+    (λ c. search needs)  -- array-copy-out-n
+    (λ c κs. search needs)  -- node-record-requires
+    (λ c. search needs)  -- mul-records
+    (λ c. search needs)  -- array-set-from-records
+    (λ c. search needs)  -- add-i
+    (λ c. search needs)  -- loop-less
     loop-again
     returns)

@@ -17,32 +17,8 @@ Inv-loop records nodes₀ i₀ nodes i = (i ≤ limit) × (nodes ≡ filled (rep
 abbrev μ-loop : tie.MeasureT-loop
 μ-loop records nodes₀ i₀ nodes i = limit - i
 
-empty-table-requires : tie.Need-empty-table-requires Inv-loop μ-loop
-empty-table-requires c κs = search needs
-
 loop-holds : tie.Need-loop-holds Inv-loop μ-loop
 loop-holds c = (omega arith, c .empty-table .ensures)
-
-mul-given : tie.Need-mul-given Inv-loop μ-loop
-mul-given c = search needs
-
-array-copy-out-given : tie.Need-array-copy-out-given Inv-loop μ-loop
-array-copy-out-given c = search needs
-
-node-of-requires : tie.Need-node-of-requires Inv-loop μ-loop
-node-of-requires c κs = search needs
-
-mul-nodes : tie.Need-mul-nodes Inv-loop μ-loop
-mul-nodes c = search needs
-
-array-set-from-nodes : tie.Need-array-set-from-nodes Inv-loop μ-loop
-array-set-from-nodes c = search needs
-
-add-i : tie.Need-add-i Inv-loop μ-loop
-add-i c = search needs
-
-loop-less : tie.Need-loop-less Inv-loop μ-loop
-loop-less c = search needs
 
 loop-again : tie.Need-loop-again Inv-loop μ-loop
 loop-again c =
@@ -67,14 +43,14 @@ nodes-of-spec =
     (tie.spec
     Inv-loop
     μ-loop
-    empty-table-requires
+    (λ c κs. search needs)  -- empty-table-requires
     loop-holds
-    mul-given
-    array-copy-out-given
-    node-of-requires
-    mul-nodes
-    array-set-from-nodes
-    add-i
-    loop-less
+    (λ c. search needs)  -- mul-given
+    (λ c. search needs)  -- array-copy-out-given
+    (λ c κs. search needs)  -- node-of-requires
+    (λ c. search needs)  -- mul-nodes
+    (λ c. search needs)  -- array-set-from-nodes
+    (λ c. search needs)  -- add-i
+    (λ c. search needs)  -- loop-less
     loop-again
     returns)

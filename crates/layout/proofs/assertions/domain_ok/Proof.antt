@@ -5,14 +5,8 @@ use Rattle.sound.proofs.Chain.{pass-by, pass-le, stop-by, stop-gt}
 use Rattle.layout.proofs.assertions.domain_ok.Statement.{statement}
 use Rattle.layout.proofs.assertions.domain_ok.Tie as tie
 
-side-ok-requires : tie.Need-side-ok-requires
-side-ok-requires c κs = search needs
-
 returns : tie.Need-returns
 returns c = stop-by _ (c .before .side-ok .ensures) (c .if1 .left)
-
-side-ok-requires-2 : tie.Need-side-ok-requires-2
-side-ok-requires-2 c κs = search needs
 
 returns-2 : tie.Need-returns-2
 returns-2 c =
@@ -38,4 +32,11 @@ returns-4 c =
 
 pub domain-ok-spec : {M : Type 1} → statement M
 domain-ok-spec =
-    tie.close (tie.spec side-ok-requires returns side-ok-requires-2 returns-2 returns-3 returns-4)
+    tie.close
+    (tie.spec
+    (λ c κs. search needs)  -- side-ok-requires
+    returns
+    (λ c κs. search needs)  -- side-ok-requires-2
+    returns-2
+    returns-3
+    returns-4)

@@ -5,14 +5,8 @@ use Rattle.sound.proofs.Chain.{pass-by, stop-by}
 use Rattle.layout.proofs.assertions.frame_ok.Statement.{statement}
 use Rattle.layout.proofs.assertions.frame_ok.Tie as tie
 
-domain-ok-requires : tie.Need-domain-ok-requires
-domain-ok-requires c κs = search needs
-
 returns : tie.Need-returns
 returns c = stop-by _ (c .before .domain-ok .ensures) (c .if1 .left)
-
-top-ok-requires : tie.Need-top-ok-requires
-top-ok-requires c κs = search needs
 
 returns-2 : tie.Need-returns-2
 returns-2 c =
@@ -27,4 +21,11 @@ returns-3 c =
     (stop-by _ (c .before .top-ok .ensures) (c .if2 .left))
 
 pub frame-ok-spec : {M : Type 1} → statement M
-frame-ok-spec = tie.close (tie.spec domain-ok-requires returns top-ok-requires returns-2 returns-3)
+frame-ok-spec =
+    tie.close
+    (tie.spec
+    (λ c κs. search needs)  -- domain-ok-requires
+    returns
+    (λ c κs. search needs)  -- top-ok-requires
+    returns-2
+    returns-3)

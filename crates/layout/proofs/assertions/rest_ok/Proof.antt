@@ -25,12 +25,6 @@ returns-2 c =
     pass-by (c1 .before .all-differ .ensures) (c1 .if1 .taken)
     (stop-by _ (c .before .is-sorted .ensures) (c .if2 .left))
 
-zero-tail-requires : tie.Need-zero-tail-requires
-zero-tail-requires c κs = search needs
-
-zero-tail-requires-2 : tie.Need-zero-tail-requires-2
-zero-tail-requires-2 c κs = search needs
-
 returns-3 : tie.Need-returns-3
 returns-3 c =
     let c3 = c .before in
@@ -57,7 +51,7 @@ rest-ok-spec =
     returns
     is-sorted-requires
     returns-2
-    zero-tail-requires
-    zero-tail-requires-2
+    (λ c κs. search needs)  -- zero-tail-requires
+    (λ c κs. search needs)  -- zero-tail-requires-2
     returns-3
     returns-4)

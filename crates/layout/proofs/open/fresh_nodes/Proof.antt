@@ -7,18 +7,6 @@ use Rattle.layout.specs.Open.{freshNodes}
 use Rattle.layout.proofs.open.fresh_nodes.Statement.{statement}
 use Rattle.layout.proofs.open.fresh_nodes.Tie as tie
 
-zero-node-requires : tie.Need-zero-node-requires
-zero-node-requires c κs = search needs
-
-rotate-requires : tie.Need-rotate-requires
-rotate-requires c κs = search needs
-
-array-set-from-nodes : tie.Need-array-set-from-nodes
-array-set-from-nodes c = search needs
-
-array-set-from-nodes-2 : tie.Need-array-set-from-nodes-2
-array-set-from-nodes-2 c = search needs
-
 returns : tie.Need-returns
 unfolding freshNodes append topOnly
 returns c = rw (← c .rotate .ensures, c .before .zero-node .ensures) refl
@@ -27,8 +15,8 @@ pub fresh-nodes-spec : {M : Type 1} → statement M
 fresh-nodes-spec =
     tie.close
     (tie.spec
-    zero-node-requires
-    rotate-requires
-    array-set-from-nodes
-    array-set-from-nodes-2
+    (λ c κs. search needs)  -- zero-node-requires
+    (λ c κs. search needs)  -- rotate-requires
+    (λ c. search needs)  -- array-set-from-nodes
+    (λ c. search needs)  -- array-set-from-nodes-2
     returns)

@@ -20,9 +20,6 @@ Inv-loop list count flag₀ i₀ flag i =
 abbrev μ-loop : tie.MeasureT-loop
 μ-loop list count flag₀ i₀ flag i = count - i
 
-refused-requires : tie.Need-refused-requires Inv-loop μ-loop
-refused-requires c κs = search needs
-
 returns : tie.Need-returns Inv-loop μ-loop
 returns c =
     let a = c .before .before .args in
@@ -33,18 +30,6 @@ loop-holds c =
     let t = c .before .args .list .now in
     (omega arith, every-none (newAt limit t), flagged-none limit t)
 
-mul-wide : tie.Need-mul-wide Inv-loop μ-loop
-mul-wide c = search needs
-
-element-copy-out-wide : tie.Need-element-copy-out-wide Inv-loop μ-loop
-element-copy-out-wide c = search needs
-
-wide-requires : tie.Need-wide-requires Inv-loop μ-loop
-wide-requires c κs = search needs
-
-refused-requires-2 : tie.Need-refused-requires-2 Inv-loop μ-loop
-refused-requires-2 c κs = search needs
-
 returns-2 : tie.Need-returns-2 Inv-loop μ-loop
 returns-2 c =
     let a = c .before .before .before .before .before .before .before .args in
@@ -53,12 +38,6 @@ returns-2 c =
     let w = c .before .before .wide in
     let e = past-bound limit t (l .i) (rw (w .ensures) at (c .before .if2 .taken)) in
     c .refused2 .ensures ∙ refused t (a .count) (not-new limit t (a .count) (l .i) (omega arith) e)
-
-array-read-if3 : tie.Need-array-read-if3 Inv-loop μ-loop
-array-read-if3 c = search needs
-
-refused-requires-3 : tie.Need-refused-requires-3 Inv-loop μ-loop
-refused-requires-3 c κs = search needs
 
 returns-3 : tie.Need-returns-3 Inv-loop μ-loop
 returns-3 c =
@@ -69,15 +48,6 @@ returns-3 c =
     let h = rw (w .ensures) at (c .before .before .if2 .left) in
     let e = flag-stands limit t (l .flag) (l .i) (l .inv .2) h (rw (w .ensures) at (c .before .if3 .taken)) in
     c .refused3 .ensures ∙ refused t (a .count) (not-new limit t (a .count) (l .i) (omega arith) e)
-
-array-write-flag : tie.Need-array-write-flag Inv-loop μ-loop
-array-write-flag c = search needs
-
-add-i : tie.Need-add-i Inv-loop μ-loop
-add-i c = search needs
-
-loop-less : tie.Need-loop-less Inv-loop μ-loop
-loop-less c = search needs
 
 loop-again : tie.Need-loop-again Inv-loop μ-loop
 loop-again c =
@@ -106,19 +76,19 @@ flags-of-spec =
     (tie.spec
     Inv-loop
     μ-loop
-    refused-requires
+    (λ c κs. search needs)  -- refused-requires
     returns
     loop-holds
-    mul-wide
-    element-copy-out-wide
-    wide-requires
-    refused-requires-2
+    (λ c. search needs)  -- mul-wide
+    (λ c. search needs)  -- element-copy-out-wide
+    (λ c κs. search needs)  -- wide-requires
+    (λ c κs. search needs)  -- refused-requires-2
     returns-2
-    array-read-if3
-    refused-requires-3
+    (λ c. search needs)  -- array-read-if3
+    (λ c κs. search needs)  -- refused-requires-3
     returns-3
-    array-write-flag
-    add-i
-    loop-less
+    (λ c. search needs)  -- array-write-flag
+    (λ c. search needs)  -- add-i
+    (λ c. search needs)  -- loop-less
     loop-again
     returns-4)

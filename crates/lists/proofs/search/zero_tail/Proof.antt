@@ -23,12 +23,6 @@ loop-holds c =
     let z = zeroAt (c .args .list .now) (c .args .count) in
     (omega arith, every-all z (c .args .count) (λ i h. rw (lt-ltb i (c .args .count) h) refl))
 
-mul-if1 : tie.Need-mul-if1 Inv-loop μ-loop
-mul-if1 c = search needs
-
-element-copy-out-if1 : tie.Need-element-copy-out-if1 Inv-loop μ-loop
-element-copy-out-if1 c = search needs
-
 returns : tie.Need-returns Inv-loop μ-loop
 unfolding zeroTail
 returns c =
@@ -37,12 +31,6 @@ returns c =
     let z = zeroAt (a .list .now) (a .count) in
     let e : z (l .i) ≡ false = rw (le-ltb (l .i) (a .count) (l .inv .0), ne-eqb (getD (a .list .now) (l .i) 0) 0 (c .if1 .taken)) refl in
     sym (every-fails z limit (l .i) (omega arith) e)
-
-add-i : tie.Need-add-i Inv-loop μ-loop
-add-i c = search needs
-
-loop-less : tie.Need-loop-less Inv-loop μ-loop
-loop-less c = search needs
 
 loop-again : tie.Need-loop-again Inv-loop μ-loop
 loop-again c =
@@ -66,10 +54,10 @@ zero-tail-spec =
     Inv-loop
     μ-loop
     loop-holds
-    mul-if1
-    element-copy-out-if1
+    (λ c. search needs)  -- mul-if1
+    (λ c. search needs)  -- element-copy-out-if1
     returns
-    add-i
-    loop-less
+    (λ c. search needs)  -- add-i
+    (λ c. search needs)  -- loop-less
     loop-again
     returns-2)

@@ -29,21 +29,6 @@ abbrev μ-all : tie.MeasureT-all
 all-holds : tie.Need-all-holds Inv-loop μ-loop Inv-all μ-all
 all-holds c = (omega arith, refl, done-none (c .before .before .args .s .now))
 
-add-mark : tie.Need-add-mark Inv-loop μ-loop Inv-all μ-all
-add-mark c = search needs
-
-cast-mark : tie.Need-cast-mark Inv-loop μ-loop Inv-all μ-all
-cast-mark c = search needs
-
-mul-wide : tie.Need-mul-wide Inv-loop μ-loop Inv-all μ-all
-mul-wide c = search needs
-
-array-read-wide : tie.Need-array-read-wide Inv-loop μ-loop Inv-all μ-all
-array-read-wide c = search needs
-
-wide-requires : tie.Need-wide-requires Inv-loop μ-loop Inv-all μ-all
-wide-requires c κs = search needs
-
 -- where the walk of a class begins
 first-leads : (c : tie.After-wide Inv-loop μ-loop Inv-all μ-all) →
     Leads (c .before .before .before .before .before .args .s .now) (c .before .before .all .h) limit (c .wide .result)
@@ -57,39 +42,6 @@ loop-holds c =
     let o = c .before .before .all in
     let l = first-leads c in
     (l .most, o .inv .1, visited-on _ (o .h) l (visited-none _ (o .h) (o .inv .2)), l .holds)
-
-sub-p : tie.Need-sub-p Inv-loop μ-loop Inv-all μ-all
-sub-p c = search needs
-
-mul-a : tie.Need-mul-a Inv-loop μ-loop Inv-all μ-all
-mul-a c = search needs
-
-element-copy-out-a : tie.Need-element-copy-out-a Inv-loop μ-loop Inv-all μ-all
-element-copy-out-a c = search needs
-
-cast-r : tie.Need-cast-r Inv-loop μ-loop Inv-all μ-all
-cast-r c = search needs
-
-mul-if2 : tie.Need-mul-if2 Inv-loop μ-loop Inv-all μ-all
-mul-if2 c = search needs
-
-array-read-if2 : tie.Need-array-read-if2 Inv-loop μ-loop Inv-all μ-all
-array-read-if2 c = search needs
-
-mul-stamp : tie.Need-mul-stamp Inv-loop μ-loop Inv-all μ-all
-mul-stamp c = search needs
-
-array-write-stamp : tie.Need-array-write-stamp Inv-loop μ-loop Inv-all μ-all
-array-write-stamp c = search needs
-
-mul-wide-2 : tie.Need-mul-wide-2 Inv-loop μ-loop Inv-all μ-all
-mul-wide-2 c = search needs
-
-array-read-wide-2 : tie.Need-array-read-wide-2 Inv-loop μ-loop Inv-all μ-all
-array-read-wide-2 c = search needs
-
-wide-requires-2 : tie.Need-wide-requires-2 Inv-loop μ-loop Inv-all μ-all
-wide-requires-2 c κs = search needs
 
 -- and where it goes on
 next-leads : (c : tie.After-wide2 Inv-loop μ-loop Inv-all μ-all) →
@@ -125,12 +77,6 @@ loop-again c =
     in
     (omega (arith, n .most), l .inv .1, visited-on t (o .h) n here, n .holds)
 
-add-h : tie.Need-add-h Inv-loop μ-loop Inv-all μ-all
-add-h c = search needs
-
-all-less : tie.Need-all-less Inv-loop μ-loop Inv-all μ-all
-all-less c = search needs
-
 all-again : tie.Need-all-again Inv-loop μ-loop Inv-all μ-all
 all-again c =
     let l = c .before .loop in
@@ -163,27 +109,27 @@ chains-differ-spec =
     Inv-all
     μ-all
     all-holds
-    add-mark
-    cast-mark
-    mul-wide
-    array-read-wide
-    wide-requires
+    (λ c. search needs)  -- add-mark
+    (λ c. search needs)  -- cast-mark
+    (λ c. search needs)  -- mul-wide
+    (λ c. search needs)  -- array-read-wide
+    (λ c κs. search needs)  -- wide-requires
     loop-holds
-    sub-p
-    mul-a
-    element-copy-out-a
-    cast-r
-    mul-if2
-    array-read-if2
-    mul-stamp
-    array-write-stamp
-    mul-wide-2
-    array-read-wide-2
-    wide-requires-2
+    (λ c. search needs)  -- sub-p
+    (λ c. search needs)  -- mul-a
+    (λ c. search needs)  -- element-copy-out-a
+    (λ c. search needs)  -- cast-r
+    (λ c. search needs)  -- mul-if2
+    (λ c. search needs)  -- array-read-if2
+    (λ c. search needs)  -- mul-stamp
+    (λ c. search needs)  -- array-write-stamp
+    (λ c. search needs)  -- mul-wide-2
+    (λ c. search needs)  -- array-read-wide-2
+    (λ c κs. search needs)  -- wide-requires-2
     loop-less
     loop-again
-    add-h
-    all-less
+    (λ c. search needs)  -- add-h
+    (λ c. search needs)  -- all-less
     all-again
     returns
     returns-2)

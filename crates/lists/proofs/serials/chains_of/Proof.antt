@@ -17,12 +17,6 @@ abbrev μ-loop : tie.MeasureT-loop
 loop-holds : tie.Need-loop-holds Inv-loop μ-loop
 loop-holds c = (omega arith, chaining-none (c .args .s .now))
 
-mul-a : tie.Need-mul-a Inv-loop μ-loop
-mul-a c = search needs
-
-element-copy-out-a : tie.Need-element-copy-out-a Inv-loop μ-loop
-element-copy-out-a c = search needs
-
 -- the serial at hand is low
 low : (c : tie.After-a Inv-loop μ-loop) → getD (c .before .before .before .args .s .now) (c .before .before .loop .i) 0 < 1048576
 low c = c .before .before .before .pre (c .before .before .loop .i) (c .before .loop-test .taken)
@@ -36,26 +30,11 @@ mul-link c = let h = low c in search needs
 array-read-link : tie.Need-array-read-link Inv-loop μ-loop
 array-read-link c = omega (arith, low c)
 
-mul-link-2 : tie.Need-mul-link-2 Inv-loop μ-loop
-mul-link-2 c = search needs
-
-array-write-link : tie.Need-array-write-link Inv-loop μ-loop
-array-write-link c = search needs
-
-add-i : tie.Need-add-i Inv-loop μ-loop
-add-i c = search needs
-
-cast-head : tie.Need-cast-head Inv-loop μ-loop
-cast-head c = search needs
-
 mul-head : tie.Need-mul-head Inv-loop μ-loop
 mul-head c = let h = low c in search needs
 
 array-write-head : tie.Need-array-write-head Inv-loop μ-loop
 array-write-head c = omega (arith, low c)
-
-loop-less : tie.Need-loop-less Inv-loop μ-loop
-loop-less c = search needs
 
 loop-again : tie.Need-loop-again Inv-loop μ-loop
 loop-again c =
@@ -76,17 +55,17 @@ chains-of-spec =
     Inv-loop
     μ-loop
     loop-holds
-    mul-a
-    element-copy-out-a
+    (λ c. search needs)  -- mul-a
+    (λ c. search needs)  -- element-copy-out-a
     cast-h
     mul-link
     array-read-link
-    mul-link-2
-    array-write-link
-    add-i
-    cast-head
+    (λ c. search needs)  -- mul-link-2
+    (λ c. search needs)  -- array-write-link
+    (λ c. search needs)  -- add-i
+    (λ c. search needs)  -- cast-head
     mul-head
     array-write-head
-    loop-less
+    (λ c. search needs)  -- loop-less
     loop-again
     returns)

@@ -22,18 +22,6 @@ abbrev μ-loop : tie.MeasureT-loop
 loop-holds : tie.Need-loop-holds Inv-loop μ-loop
 loop-holds c = let t = c .args .s .now in (omega arith, every-none (unlikeBelow t), passed-none t)
 
-mul-a : tie.Need-mul-a Inv-loop μ-loop
-mul-a c = search needs
-
-element-copy-out-a : tie.Need-element-copy-out-a Inv-loop μ-loop
-element-copy-out-a c = search needs
-
-cast-r : tie.Need-cast-r Inv-loop μ-loop
-cast-r c = search needs
-
-array-read-if2 : tie.Need-array-read-if2 Inv-loop μ-loop
-array-read-if2 c = search needs
-
 returns : tie.Need-returns Inv-loop μ-loop
 unfolding residuesDiffer
 returns c =
@@ -41,15 +29,6 @@ returns c =
     let t = c .before .before .before .before .before .args .s .now in
     let b = below-flagged t (l .i) (l .inv .2) (c .before .if1 .taken) (c .if2 .taken) in
     sym (every-fails (unlikeBelow t) limit (l .i) (omega arith) b)
-
-array-write-flag : tie.Need-array-write-flag Inv-loop μ-loop
-array-write-flag c = search needs
-
-add-i : tie.Need-add-i Inv-loop μ-loop
-add-i c = search needs
-
-loop-less : tie.Need-loop-less Inv-loop μ-loop
-loop-less c = search needs
 
 loop-again : tie.Need-loop-again Inv-loop μ-loop
 loop-again c =
@@ -75,13 +54,13 @@ residues-differ-spec =
     Inv-loop
     μ-loop
     loop-holds
-    mul-a
-    element-copy-out-a
-    cast-r
-    array-read-if2
+    (λ c. search needs)  -- mul-a
+    (λ c. search needs)  -- element-copy-out-a
+    (λ c. search needs)  -- cast-r
+    (λ c. search needs)  -- array-read-if2
     returns
-    array-write-flag
-    add-i
-    loop-less
+    (λ c. search needs)  -- array-write-flag
+    (λ c. search needs)  -- add-i
+    (λ c. search needs)  -- loop-less
     loop-again
     returns-2)

@@ -10,9 +10,6 @@ use Rattle.looks.proofs.Figured.{answered, refused, free-small, free-ar
 use Rattle.looks.proofs.figures.free_area.Statement.{statement}
 use Rattle.looks.proofs.figures.free_area.Tie as tie
 
-sound-requires : tie.Need-sound-requires
-sound-requires c κs = search needs
-
 returns : tie.Need-returns
 unfolding freeAreaOf
 returns c = refused _ (c .before .sound .ensures) (c .if1 .left)
@@ -22,9 +19,6 @@ sound-here : (c : tie.Then1) → SoundLayout (c .before .before .args .layout)
 sound-here c =
     let s = c .before .before in
     sound-by (s .args .layout) (s .good) (c .before .sound .ensures) (c .if1 .taken)
-
-columns-of-requires : tie.Need-columns-of-requires
-columns-of-requires c κs = search needs
 
 free-sum-requires : tie.Need-free-sum-requires
 free-sum-requires c κs =
@@ -43,4 +37,10 @@ returns-2 c =
 
 pub free-area-spec : {M : Type 1} → statement M
 free-area-spec =
-    tie.close (tie.spec sound-requires returns columns-of-requires free-sum-requires returns-2)
+    tie.close
+    (tie.spec
+    (λ c κs. search needs)  -- sound-requires
+    returns
+    (λ c κs. search needs)  -- columns-of-requires
+    free-sum-requires
+    returns-2)

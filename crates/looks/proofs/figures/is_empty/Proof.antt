@@ -8,9 +8,6 @@ use Rattle.looks.proofs.Figured.{answered, refused, never-empty}
 use Rattle.looks.proofs.figures.is_empty.Statement.{statement}
 use Rattle.looks.proofs.figures.is_empty.Tie as tie
 
-sound-requires : tie.Need-sound-requires
-sound-requires c κs = search needs
-
 returns : tie.Need-returns
 unfolding isEmptyOf
 returns c =
@@ -23,4 +20,4 @@ unfolding isEmptyOf
 returns-2 c = refused _ (c .before .sound .ensures) (c .if1 .left)
 
 pub is-empty-spec : {M : Type 1} → statement M
-is-empty-spec = tie.close (tie.spec sound-requires returns returns-2)
+is-empty-spec = tie.close (tie.spec (λ c κs. search needs) returns returns-2)

@@ -8,9 +8,6 @@ use Rattle.looks.proofs.Figured.{answered, refused}
 use Rattle.looks.proofs.figures.nodes_held.Statement.{statement}
 use Rattle.looks.proofs.figures.nodes_held.Tie as tie
 
-sound-requires : tie.Need-sound-requires
-sound-requires c κs = search needs
-
 returns : tie.Need-returns
 unfolding nodesHeldOf
 returns c =
@@ -23,4 +20,4 @@ unfolding nodesHeldOf
 returns-2 c = refused _ (c .before .sound .ensures) (c .if1 .left)
 
 pub nodes-held-spec : {M : Type 1} → statement M
-nodes-held-spec = tie.close (tie.spec sound-requires returns returns-2)
+nodes-held-spec = tie.close (tie.spec (λ c κs. search needs) returns returns-2)

@@ -12,9 +12,6 @@ use Rattle.looks.proofs.Figured.{answered, refused, in-float}
 use Rattle.looks.proofs.figures.sheet_usage.Statement.{statement}
 use Rattle.looks.proofs.figures.sheet_usage.Tie as tie
 
-sound-requires : tie.Need-sound-requires
-sound-requires c κs = search needs
-
 returns : tie.Need-returns
 unfolding sheetUsageOf
 returns c = refused _ (c .before .sound .ensures) (c .if1 .left)
@@ -24,9 +21,6 @@ sound-here : (c : tie.Then1) → SoundLayout (c .before .before .args .layout)
 sound-here c =
     let s = c .before .before in
     sound-by (s .args .layout) (s .good) (c .before .sound .ensures) (c .if1 .taken)
-
-area-requires : tie.Need-area-requires
-area-requires c κs = search needs
 
 -- neither area loses anything when it is cast
 small-here : (c : tie.After-area) → (c .before .before .before .before .args .layout .used ≤ 2 ^ 53) × (c .area .result ≤ 2 ^ 53)
@@ -52,4 +46,10 @@ returns-2 c =
 pub sheet-usage-spec : {M : Type 1} → statement M
 sheet-usage-spec =
     tie.close
-    (tie.spec sound-requires returns area-requires int-to-float-t7 int-to-float-t8 returns-2)
+    (tie.spec
+    (λ c κs. search needs)  -- sound-requires
+    returns
+    (λ c κs. search needs)  -- area-requires
+    int-to-float-t7
+    int-to-float-t8
+    returns-2)

@@ -10,9 +10,6 @@ use Rattle.looks.proofs.Figured.{answered, refused, areas-small, usage-
 use Rattle.looks.proofs.figures.tree_usage.Statement.{statement}
 use Rattle.looks.proofs.figures.tree_usage.Tie as tie
 
-sound-requires : tie.Need-sound-requires
-sound-requires c κs = search needs
-
 returns : tie.Need-returns
 unfolding treeUsageOf
 returns c = refused _ (c .before .sound .ensures) (c .if1 .left)
@@ -22,12 +19,6 @@ sound-here : (c : tie.Then1) → SoundLayout (c .before .before .args .layout)
 sound-here c =
     let s = c .before .before in
     sound-by (s .args .layout) (s .good) (c .before .sound .ensures) (c .if1 .taken)
-
-columns-of-requires : tie.Need-columns-of-requires
-columns-of-requires c κs = search needs
-
-cast-held : tie.Need-cast-held
-cast-held c = search needs
 
 usage-of-requires : tie.Need-usage-of-requires
 usage-of-requires c κs =
@@ -46,4 +37,10 @@ returns-2 c =
 pub tree-usage-spec : {M : Type 1} → statement M
 tree-usage-spec =
     tie.close
-    (tie.spec sound-requires returns columns-of-requires cast-held usage-of-requires returns-2)
+    (tie.spec
+    (λ c κs. search needs)  -- sound-requires
+    returns
+    (λ c κs. search needs)  -- columns-of-requires
+    (λ c. search needs)  -- cast-held
+    usage-of-requires
+    returns-2)

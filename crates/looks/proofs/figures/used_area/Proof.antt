@@ -8,9 +8,6 @@ use Rattle.looks.proofs.Figured.{answered, refused}
 use Rattle.looks.proofs.figures.used_area.Statement.{statement}
 use Rattle.looks.proofs.figures.used_area.Tie as tie
 
-sound-requires : tie.Need-sound-requires
-sound-requires c κs = search needs
-
 returns : tie.Need-returns
 unfolding usedAreaOf
 returns c =
@@ -23,4 +20,4 @@ unfolding usedAreaOf
 returns-2 c = refused _ (c .before .sound .ensures) (c .if1 .left)
 
 pub used-area-spec : {M : Type 1} → statement M
-used-area-spec = tie.close (tie.spec sound-requires returns returns-2)
+used-area-spec = tie.close (tie.spec (λ c κs. search needs) returns returns-2)

@@ -19,9 +19,6 @@ low c =
     let placed = s .pre (sym (c1 .before .sound .ensures) ∙ c1 .if1 .taken) in
     (omega (arith, placed .0, c .if2 .left), placed .1 (s .args .position) (c .if2 .left))
 
-sound-requires : tie.Need-sound-requires
-sound-requires c κs = search needs
-
 returns : tie.Need-returns
 returns c = ended-by _ (c .before .sound .ensures) (c .if1 .left) refl
 
@@ -29,9 +26,6 @@ returns-2 : tie.Need-returns-2
 returns-2 c =
     let c1 = c .before in
     onward-by _ (c1 .before .sound .ensures) (c1 .if1 .taken) (ended _ (le-ltb _ _ (c .if2 .taken)) refl)
-
-mul-mark-of : tie.Need-mul-mark-of
-mul-mark-of c = search needs
 
 array-read-mark-of : tie.Need-array-read-mark-of
 array-read-mark-of c = low c .0
@@ -49,10 +43,10 @@ pub mark-at-spec : {M : Type 1} → statement M
 mark-at-spec =
     tie.close
     (tie.spec
-    sound-requires
+    (λ c κs. search needs)  -- sound-requires
     returns
     returns-2
-    mul-mark-of
+    (λ c. search needs)  -- mul-mark-of
     array-read-mark-of
     mark-of-requires
     returns-3)

@@ -6,15 +6,6 @@ use Rattle.sound.proofs.Chain.{pass-by, stop-by}
 use Rattle.looks.proofs.room.fits_in.Statement.{statement}
 use Rattle.looks.proofs.room.fits_in.Tie as tie
 
-allows-requires : tie.Need-allows-requires
-allows-requires c κs = search needs
-
-size-in-requires : tie.Need-size-in-requires
-size-in-requires c κs = search needs
-
-insertion-possible-requires : tie.Need-insertion-possible-requires
-insertion-possible-requires c κs = search needs
-
 returns : tie.Need-returns
 returns c =
     let c1 = c .before .before in
@@ -27,4 +18,9 @@ returns-2 c = stop-by _ (c .before .allows .ensures) (c .if1 .left)
 pub fits-in-spec : {M : Type 1} → statement M
 fits-in-spec =
     tie.close
-    (tie.spec allows-requires size-in-requires insertion-possible-requires returns returns-2)
+    (tie.spec
+    (λ c κs. search needs)  -- allows-requires
+    (λ c κs. search needs)  -- size-in-requires
+    (λ c κs. search needs)  -- insertion-possible-requires
+    returns
+    returns-2)

@@ -5,12 +5,6 @@ use Rattle.layout.proofs.Ways.{either, or-else}
 use Rattle.looks.proofs.room.fits_some.Statement.{statement}
 use Rattle.looks.proofs.room.fits_some.Tie as tie
 
-fits-in-requires : tie.Need-fits-in-requires
-fits-in-requires c κs = search needs
-
-fits-in-requires-2 : tie.Need-fits-in-requires-2
-fits-in-requires-2 c κs = search needs
-
 returns : tie.Need-returns
 returns c = sym (either _ (sym (c .before .fits-in .ensures) ∙ c .if1 .taken))
 
@@ -18,4 +12,10 @@ returns-2 : tie.Need-returns-2
 returns-2 c = let c1 = c .before in sym (or-else (sym (c1 .before .fits-in .ensures) ∙ c1 .if1 .left) (sym (c .fits-in2 .ensures)))
 
 pub fits-some-spec : {M : Type 1} → statement M
-fits-some-spec = tie.close (tie.spec fits-in-requires fits-in-requires-2 returns returns-2)
+fits-some-spec =
+    tie.close
+    (tie.spec
+    (λ c κs. search needs)  -- fits-in-requires
+    (λ c κs. search needs)  -- fits-in-requires-2
+    returns
+    returns-2)

@@ -16,21 +16,6 @@ as-sought : {r : OffersAnswer} {x y t : Sought} (l : Layout) (p : PartType) → 
     → r ≡ offeredFor l p y
 as-sought l p f e h = h ∙ ap (offeredFor l p) (sym e ∙ f)
 
-free-piece-requires : tie.Need-free-piece-requires
-free-piece-requires c κs = search needs
-
-enum-known-refusal : tie.Need-enum-known-refusal
-enum-known-refusal c = search needs
-
-refused-offers-requires : tie.Need-refused-offers-requires
-refused-offers-requires c κs = search needs
-
-enum-known-d : tie.Need-enum-known-d
-enum-known-d c = search needs
-
-offers-requires : tie.Need-offers-requires
-offers-requires c κs = search needs
-
 returns : tie.Need-returns
 unfolding offersCall
 returns c =
@@ -51,4 +36,11 @@ returns-2 c =
 pub offers-spec : {M : Type 1} → statement M
 offers-spec =
     tie.close
-    (tie.spec free-piece-requires enum-known-refusal refused-offers-requires enum-known-d offers-requires returns returns-2)
+    (tie.spec
+    (λ c κs. search needs)  -- free-piece-requires
+    (λ c. search needs)  -- enum-known-refusal
+    (λ c κs. search needs)  -- refused-offers-requires
+    (λ c. search needs)  -- enum-known-d
+    (λ c κs. search needs)  -- offers-requires
+    returns
+    returns-2)

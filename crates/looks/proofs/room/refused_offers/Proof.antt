@@ -6,11 +6,8 @@ use Rattle.layout.specs.declared.replies.Outcome.the-variants as outcomes
 use Rattle.looks.proofs.room.refused_offers.Statement.{statement}
 use Rattle.looks.proofs.room.refused_offers.Tie as tie
 
-none-requires : tie.Need-none-requires
-none-requires c κs = search needs
-
 returns : tie.Need-returns
 returns c = ap (λ (o : OfferList). record { outcome = outcomes.Refused (c .before .args .refusal); offers = o }) (c .none .ensures)
 
 pub refused-offers-spec : {M : Type 1} → statement M
-refused-offers-spec = tie.close (tie.spec none-requires returns)
+refused-offers-spec = tie.close (tie.spec (λ c κs. search needs) returns)

@@ -24,15 +24,9 @@ low c =
     let s = c1 .before .before in
     free-low (s .args .t1) (typed-sized (s .args .t1) _ (s .good .0)) (sym (c1 .before .sound .ensures) ∙ c1 .if1 .taken) .1 0 (some c)
 
-sound-requires : tie.Need-sound-requires
-sound-requires c κs = search needs
-
 returns : tie.Need-returns
 unfolding lightOf
 returns c = ended-by _ (c .before .sound .ensures) (c .if1 .left) refl
-
-part-ok-requires : tie.Need-part-ok-requires
-part-ok-requires c κs = search needs
 
 returns-2 : tie.Need-returns-2
 unfolding lightOf
@@ -49,20 +43,11 @@ returns-3 c =
     onward-by _ (c1 .before .sound .ensures) (c1 .if1 .taken)
     (onward-by _ (c2 .before .part-ok .ensures) (c2 .if2 .taken) (ap lights.Says (stop-ge _ none)))
 
-element-copy-out-at : tie.Need-element-copy-out-at
-element-copy-out-at c = search needs
-
-cast-at : tie.Need-cast-at
-cast-at c = search needs
-
 mul-n : tie.Need-mul-n
 mul-n c = let h = low (c .before) in search needs
 
 element-copy-out-n : tie.Need-element-copy-out-n
 element-copy-out-n c = low (c .before)
-
-fits-some-requires : tie.Need-fits-some-requires
-fits-some-requires c κs = search needs
 
 returns-4 : tie.Need-returns-4
 unfolding lightOf
@@ -77,14 +62,14 @@ pub room-light-spec : {M : Type 1} → statement M
 room-light-spec =
     tie.close
     (tie.spec
-    sound-requires
+    (λ c κs. search needs)  -- sound-requires
     returns
-    part-ok-requires
+    (λ c κs. search needs)  -- part-ok-requires
     returns-2
     returns-3
-    element-copy-out-at
-    cast-at
+    (λ c. search needs)  -- element-copy-out-at
+    (λ c. search needs)  -- cast-at
     mul-n
     element-copy-out-n
-    fits-some-requires
+    (λ c κs. search needs)  -- fits-some-requires
     returns-4)

@@ -21,16 +21,10 @@ checked c = sym (c .before .sound .ensures) ∙ c .if1 .taken
 stands : (c : tie.Then1) → SoundLayout (c .before .before .before .args .layout)
 stands c = let s = c .before .before .before in sound-says (s .args .layout) (typed-sized (s .args .layout) _ (s .good .0)) (checked c)
 
-sound-requires : tie.Need-sound-requires
-sound-requires c κs = search needs
-
 returns : tie.Need-returns
 returns c =
     let a = c .before .before .before .args in
     not-sound (a .layout) (heldNumbers (a .layout)) (a .out .now) (sym (c .before .sound .ensures) ∙ c .if1 .left)
-
-every-place-requires : tie.Need-every-place-requires
-every-place-requires c κs = search needs
 
 count-numbers-requires : tie.Need-count-numbers-requires
 count-numbers-requires c κs = (omega arith, every-placed (c .before .every-place .ensures))
@@ -63,9 +57,6 @@ cast-t16 c =
     let c1 = c2 .before .before .before .before .before in
     omega (arith, count-is (c2 .before), numbers-room (c1 .before .before .before .args .layout) (stands c1))
 
-same-length : tie.Need-same-length
-same-length c = search needs
-
 returns-3 : tie.Need-returns-3
 returns-3 c =
     let c2 = c .before .before .before .before .before in
@@ -81,12 +72,12 @@ pub part-numbers-spec : {M : Type 1} → statement M
 part-numbers-spec =
     tie.close
     (tie.spec
-    sound-requires
+    (λ c κs. search needs)  -- sound-requires
     returns
-    every-place-requires
+    (λ c κs. search needs)  -- every-place-requires
     count-numbers-requires
     returns-2
     put-numbers-requires
     cast-t16
-    same-length
+    (λ c. search needs)  -- same-length
     returns-3)

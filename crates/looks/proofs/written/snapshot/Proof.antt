@@ -21,19 +21,10 @@ checked c = sym (c .before .sound .ensures) ∙ c .if1 .taken
 stands : (c : tie.Then1) → SoundLayout (c .before .before .before .args .layout)
 stands c = let s = c .before .before .before in sound-says (s .args .layout) (typed-sized (s .args .layout) _ (s .good .0)) (checked c)
 
-sound-requires : tie.Need-sound-requires
-sound-requires c κs = search needs
-
 returns : tie.Need-returns
 returns c =
     let a = c .before .before .before .args in
     not-sound (a .layout) (snapshotBytes (a .layout)) (a .out .now) (sym (c .before .sound .ensures) ∙ c .if1 .left)
-
-cast-held : tie.Need-cast-held
-cast-held c = search needs
-
-mul-bytes : tie.Need-mul-bytes
-mul-bytes c = search needs
 
 returns-2 : tie.Need-returns-2
 returns-2 c =
@@ -41,9 +32,6 @@ returns-2 c =
     let a = c1 .before .before .before .args in
     too-short (a .layout) (snapshotBytes (a .layout)) (a .out .now) (checked c1)
     (omega (arith, bytes-length (a .layout) (stands c1), c .if2 .taken))
-
-columns-of-requires : tie.Need-columns-of-requires
-columns-of-requires c κs = search needs
 
 -- the columns are taken, and the lent buffer is long enough
 abbrev columned : tie.After-put-subtree-arg9 → tie.After-columns-of
@@ -65,9 +53,6 @@ cast-t23 c =
     let c1 = long-enough (columned (c .before .before .before)) .before .before in
     omega (arith, held-room (c1 .before .before .before .args .layout) (stands c1))
 
-same-length : tie.Need-same-length
-same-length c = search needs
-
 returns-3 : tie.Need-returns-3
 returns-3 c =
     let c4 = c .before .before in
@@ -84,13 +69,13 @@ pub snapshot-spec : {M : Type 1} → statement M
 snapshot-spec =
     tie.close
     (tie.spec
-    sound-requires
+    (λ c κs. search needs)  -- sound-requires
     returns
-    cast-held
-    mul-bytes
+    (λ c. search needs)  -- cast-held
+    (λ c. search needs)  -- mul-bytes
     returns-2
-    columns-of-requires
+    (λ c κs. search needs)  -- columns-of-requires
     put-subtree-requires
     cast-t23
-    same-length
+    (λ c. search needs)  -- same-length
     returns-3)

@@ -6,30 +6,6 @@ use Rattle.piece.proofs.Sizes.{other-twice}
 use Rattle.piece.proofs.insertion_blueprint.across_then_along.Statement.{statement}
 use Rattle.piece.proofs.insertion_blueprint.across_then_along.Tie as tie
 
-rotate-requires : tie.Need-rotate-requires
-rotate-requires c κs = search needs
-
-rest-requires : tie.Need-rest-requires
-rest-requires c κs = search needs
-
-rest-requires-2 : tie.Need-rest-requires-2
-rest-requires-2 c κs = search needs
-
-node-requires : tie.Need-node-requires
-node-requires c κs = search needs
-
-node-requires-2 : tie.Need-node-requires-2
-node-requires-2 c κs = search needs
-
-node-requires-3 : tie.Need-node-requires-3
-node-requires-3 c κs = search needs
-
-node-requires-4 : tie.Need-node-requires-4
-node-requires-4 c κs = search needs
-
-node-requires-5 : tie.Need-node-requires-5
-node-requires-5 c κs = search needs
-
 returns : tie.Need-returns
 unfolding laidOut held table
 returns c =
@@ -49,12 +25,12 @@ pub across-then-along-spec : {M : Type 1} → statement M
 across-then-along-spec =
     tie.close
     (tie.spec
-    rotate-requires
-    rest-requires
-    rest-requires-2
-    node-requires
-    node-requires-2
-    node-requires-3
-    node-requires-4
-    node-requires-5
+    (λ c κs. search needs)  -- rotate-requires
+    (λ c κs. search needs)  -- rest-requires
+    (λ c κs. search needs)  -- rest-requires-2
+    (λ c κs. search needs)  -- node-requires
+    (λ c κs. search needs)  -- node-requires-2
+    (λ c κs. search needs)  -- node-requires-3
+    (λ c κs. search needs)  -- node-requires-4
+    (λ c κs. search needs)  -- node-requires-5
     returns)

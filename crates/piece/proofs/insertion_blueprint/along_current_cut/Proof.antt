@@ -4,18 +4,6 @@ use Rattle.piece.specs.Insertion.{laidOut, held, table}
 use Rattle.piece.proofs.insertion_blueprint.along_current_cut.Statement.{statement}
 use Rattle.piece.proofs.insertion_blueprint.along_current_cut.Tie as tie
 
-no-node-requires : tie.Need-no-node-requires
-no-node-requires c κs = search needs
-
-rest-requires : tie.Need-rest-requires
-rest-requires c κs = search needs
-
-node-requires : tie.Need-node-requires
-node-requires c κs = search needs
-
-node-requires-2 : tie.Need-node-requires-2
-node-requires-2 c κs = search needs
-
 returns : tie.Need-returns
 unfolding laidOut held table
 returns c =
@@ -28,4 +16,10 @@ returns c =
 
 pub along-current-cut-spec : {M : Type 1} → statement M
 along-current-cut-spec =
-    tie.close (tie.spec no-node-requires rest-requires node-requires node-requires-2 returns)
+    tie.close
+    (tie.spec
+    (λ c κs. search needs)  -- no-node-requires
+    (λ c κs. search needs)  -- rest-requires
+    (λ c κs. search needs)  -- node-requires
+    (λ c κs. search needs)  -- node-requires-2
+    returns)

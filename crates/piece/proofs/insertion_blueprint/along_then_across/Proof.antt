@@ -4,30 +4,6 @@ use Rattle.piece.specs.Insertion.{laidOut, held, table}
 use Rattle.piece.proofs.insertion_blueprint.along_then_across.Statement.{statement}
 use Rattle.piece.proofs.insertion_blueprint.along_then_across.Tie as tie
 
-no-node-requires : tie.Need-no-node-requires
-no-node-requires c κs = search needs
-
-rotate-requires : tie.Need-rotate-requires
-rotate-requires c κs = search needs
-
-rest-requires : tie.Need-rest-requires
-rest-requires c κs = search needs
-
-rest-requires-2 : tie.Need-rest-requires-2
-rest-requires-2 c κs = search needs
-
-node-requires : tie.Need-node-requires
-node-requires c κs = search needs
-
-node-requires-2 : tie.Need-node-requires-2
-node-requires-2 c κs = search needs
-
-node-requires-3 : tie.Need-node-requires-3
-node-requires-3 c κs = search needs
-
-node-requires-4 : tie.Need-node-requires-4
-node-requires-4 c κs = search needs
-
 returns : tie.Need-returns
 unfolding laidOut held table
 returns c =
@@ -46,12 +22,12 @@ pub along-then-across-spec : {M : Type 1} → statement M
 along-then-across-spec =
     tie.close
     (tie.spec
-    no-node-requires
-    rotate-requires
-    rest-requires
-    rest-requires-2
-    node-requires
-    node-requires-2
-    node-requires-3
-    node-requires-4
+    (λ c κs. search needs)  -- no-node-requires
+    (λ c κs. search needs)  -- rotate-requires
+    (λ c κs. search needs)  -- rest-requires
+    (λ c κs. search needs)  -- rest-requires-2
+    (λ c κs. search needs)  -- node-requires
+    (λ c κs. search needs)  -- node-requires-2
+    (λ c κs. search needs)  -- node-requires-3
+    (λ c κs. search needs)  -- node-requires-4
     returns)

@@ -3,11 +3,8 @@ use borrow.Author.Needs.{needs}
 use Rattle.piece.proofs.insertion_blueprint.node.Statement.{statement}
 use Rattle.piece.proofs.insertion_blueprint.node.Tie as tie
 
-laid-requires : tie.Need-laid-requires
-laid-requires c κs = search needs
-
 returns : tie.Need-returns
 returns c = cc
 
 pub node-spec : {M : Type 1} → statement M
-node-spec = tie.close (tie.spec laid-requires returns)
+node-spec = tie.close (tie.spec (λ c κs. search needs) returns)

@@ -4,36 +4,6 @@ use Rattle.piece.specs.Insertion.{blueprintOf, blockOf, laidOut}
 use Rattle.piece.proofs.insertion_blueprint.nodes.Statement.{statement}
 use Rattle.piece.proofs.insertion_blueprint.nodes.Tie as tie
 
-laid-requires : tie.Need-laid-requires
-laid-requires c κs = search needs
-
-laid-requires-2 : tie.Need-laid-requires-2
-laid-requires-2 c κs = search needs
-
-enum-told : tie.Need-enum-told
-enum-told c = search needs
-
-along-current-cut-requires : tie.Need-along-current-cut-requires
-along-current-cut-requires c κs = search needs
-
-enum-told-2 : tie.Need-enum-told-2
-enum-told-2 c = search needs
-
-across-current-cut-requires : tie.Need-across-current-cut-requires
-across-current-cut-requires c κs = search needs
-
-enum-told-3 : tie.Need-enum-told-3
-enum-told-3 c = search needs
-
-along-then-across-requires : tie.Need-along-then-across-requires
-along-then-across-requires c κs = search needs
-
-enum-told-4 : tie.Need-enum-told-4
-enum-told-4 c = search needs
-
-across-then-along-requires : tie.Need-across-then-along-requires
-across-then-along-requires c κs = search needs
-
 returns : tie.Need-returns
 unfolding blueprintOf blockOf laidOut
 returns c = cc
@@ -54,16 +24,16 @@ pub nodes-spec : {M : Type 1} → statement M
 nodes-spec =
     tie.close
     (tie.spec
-    laid-requires
-    laid-requires-2
-    enum-told
-    along-current-cut-requires
-    enum-told-2
-    across-current-cut-requires
-    enum-told-3
-    along-then-across-requires
-    enum-told-4
-    across-then-along-requires
+    (λ c κs. search needs)  -- laid-requires
+    (λ c κs. search needs)  -- laid-requires-2
+    (λ c. search needs)  -- enum-told
+    (λ c κs. search needs)  -- along-current-cut-requires
+    (λ c. search needs)  -- enum-told-2
+    (λ c κs. search needs)  -- across-current-cut-requires
+    (λ c. search needs)  -- enum-told-3
+    (λ c κs. search needs)  -- along-then-across-requires
+    (λ c. search needs)  -- enum-told-4
+    (λ c κs. search needs)  -- across-then-along-requires
     returns
     returns-2
     returns-3

@@ -6,9 +6,6 @@ use Rattle.piece.proofs.Offered.{offers-in-few, one-rotation, two-rotat
 use Rattle.piece.proofs.insertion_option.offers.Statement.{statement}
 use Rattle.piece.proofs.insertion_option.offers.Tie as tie
 
-none-requires : tie.Need-none-requires
-none-requires c κs = search needs
-
 with-rotation-requires : tie.Need-with-rotation-requires
 with-rotation-requires c κs = rw (c .none .ensures) zero-le
 
@@ -30,4 +27,4 @@ returns c =
 
 pub offers-spec : {M : Type 1} → statement M
 offers-spec =
-    tie.close (tie.spec none-requires with-rotation-requires with-rotation-requires-2 returns)
+    tie.close (tie.spec (λ c κs. search needs) with-rotation-requires with-rotation-requires-2 returns)

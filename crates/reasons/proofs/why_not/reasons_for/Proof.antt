@@ -3,14 +3,13 @@ use borrow.Author.Needs.{needs}
 use Rattle.reasons.proofs.why_not.reasons_for.Statement.{statement}
 use Rattle.reasons.proofs.why_not.reasons_for.Tie as tie
 
-reason-in-requires : tie.Need-reason-in-requires
-reason-in-requires c κs = search needs
-
-reason-in-requires-2 : tie.Need-reason-in-requires-2
-reason-in-requires-2 c κs = search needs
-
 returns : tie.Need-returns
 returns c = cc
 
 pub reasons-for-spec : {M : Type 1} → statement M
-reasons-for-spec = tie.close (tie.spec reason-in-requires reason-in-requires-2 returns)
+reasons-for-spec =
+    tie.close
+    (tie.spec
+    (λ c κs. search needs)  -- reason-in-requires
+    (λ c κs. search needs)  -- reason-in-requires-2
+    returns)

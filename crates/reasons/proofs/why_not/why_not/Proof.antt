@@ -14,21 +14,6 @@ as-sought : {r : WhyAnswer} {x y t : Sought} (l : Layout) (p : PartType) → t �
     → r ≡ whyFor l p y
 as-sought l p f e h = h ∙ ap (whyFor l p) (sym e ∙ f)
 
-free-piece-requires : tie.Need-free-piece-requires
-free-piece-requires c κs = search needs
-
-enum-known-refusal : tie.Need-enum-known-refusal
-enum-known-refusal c = search needs
-
-refused-why-requires : tie.Need-refused-why-requires
-refused-why-requires c κs = search needs
-
-enum-known-d : tie.Need-enum-known-d
-enum-known-d c = search needs
-
-reasons-for-requires : tie.Need-reasons-for-requires
-reasons-for-requires c κs = search needs
-
 returns : tie.Need-returns
 unfolding whyCall
 returns c =
@@ -48,4 +33,11 @@ returns-2 c =
 pub why-not-spec : {M : Type 1} → statement M
 why-not-spec =
     tie.close
-    (tie.spec free-piece-requires enum-known-refusal refused-why-requires enum-known-d reasons-for-requires returns returns-2)
+    (tie.spec
+    (λ c κs. search needs)  -- free-piece-requires
+    (λ c. search needs)  -- enum-known-refusal
+    (λ c κs. search needs)  -- refused-why-requires
+    (λ c. search needs)  -- enum-known-d
+    (λ c κs. search needs)  -- reasons-for-requires
+    returns
+    returns-2)

@@ -8,15 +8,6 @@ use Rattle.lists.specs.Lists.{limit}
 use Rattle.register.proofs.listing.area_at.Statement.{statement}
 use Rattle.register.proofs.listing.area_at.Tie as tie
 
-wide-requires : tie.Need-wide-requires
-wide-requires c κs = search needs
-
-mul-result : tie.Need-mul-result
-mul-result c = search needs
-
-element-copy-out-result : tie.Need-element-copy-out-result
-element-copy-out-result c = search needs
-
 returns : tie.Need-returns
 returns c =
     let w = c .before .before .wide in
@@ -30,4 +21,10 @@ returns-2 c =
 
 pub area-at-spec : {M : Type 1} → statement M
 area-at-spec =
-    tie.close (tie.spec wide-requires mul-result element-copy-out-result returns returns-2)
+    tie.close
+    (tie.spec
+    (λ c κs. search needs)  -- wide-requires
+    (λ c. search needs)  -- mul-result
+    (λ c. search needs)  -- element-copy-out-result
+    returns
+    returns-2)

@@ -5,20 +5,11 @@ use Rattle.register.proofs.Lookup.{spot-found, spot-missing}
 use Rattle.register.proofs.spots.spot_in.Statement.{statement}
 use Rattle.register.proofs.spots.spot_in.Tie as tie
 
-wide-requires : tie.Need-wide-requires
-wide-requires c κs = search needs
-
 returns : tie.Need-returns
 returns c =
     let s = c .before .before in
     let h = rw (c .before .wide .ensures) at (c .if1 .taken) in
     spot-missing (s .pre .1) (s .args .place) (λ b d e. omega arith)
-
-mul-at : tie.Need-mul-at
-mul-at c = search needs
-
-element-copy-out-at : tie.Need-element-copy-out-at
-element-copy-out-at c = search needs
 
 returns-2 : tie.Need-returns-2
 returns-2 c =
@@ -26,12 +17,6 @@ returns-2 c =
     let s = w .before in
     let h = rw (w .wide .ensures) at (c .if2 .taken) in
     spot-missing (s .pre .1) (s .args .place) (λ b d e. omega arith)
-
-mul-if3 : tie.Need-mul-if3
-mul-if3 c = search needs
-
-element-copy-out-if3 : tie.Need-element-copy-out-if3
-element-copy-out-if3 c = search needs
 
 returns-3 : tie.Need-returns-3
 returns-3 c =
@@ -52,12 +37,12 @@ pub spot-in-spec : {M : Type 1} → statement M
 spot-in-spec =
     tie.close
     (tie.spec
-    wide-requires
+    (λ c κs. search needs)  -- wide-requires
     returns
-    mul-at
-    element-copy-out-at
+    (λ c. search needs)  -- mul-at
+    (λ c. search needs)  -- element-copy-out-at
     returns-2
-    mul-if3
-    element-copy-out-if3
+    (λ c. search needs)  -- mul-if3
+    (λ c. search needs)  -- element-copy-out-if3
     returns-3
     returns-4)

@@ -16,27 +16,6 @@ abbrev μ-loop : tie.MeasureT-loop
 loop-holds : tie.Need-loop-holds Inv-loop μ-loop
 loop-holds c = (omega arith, spotting-none (c .args .list .now) (c .args .count))
 
-sub-j : tie.Need-sub-j Inv-loop μ-loop
-sub-j c = search needs
-
-mul-wide : tie.Need-mul-wide Inv-loop μ-loop
-mul-wide c = search needs
-
-element-copy-out-wide : tie.Need-element-copy-out-wide Inv-loop μ-loop
-element-copy-out-wide c = search needs
-
-wide-requires : tie.Need-wide-requires Inv-loop μ-loop
-wide-requires c κs = search needs
-
-mul-spots : tie.Need-mul-spots Inv-loop μ-loop
-mul-spots c = search needs
-
-array-write-spots : tie.Need-array-write-spots Inv-loop μ-loop
-array-write-spots c = search needs
-
-loop-less : tie.Need-loop-less Inv-loop μ-loop
-loop-less c = search needs
-
 loop-again : tie.Need-loop-again Inv-loop μ-loop
 loop-again c =
     let l = c .before .before .before .before .loop in
@@ -44,9 +23,6 @@ loop-again c =
     let w = c .before .wide in
     let low = rw (w .ensures) at (c .if1 .taken) in
     (omega arith, rw (w .ensures) (spotting-more (a .list .now) (a .count) (l .i - 1) (omega arith) (omega arith) (l .inv .1) low))
-
-loop-less-2 : tie.Need-loop-less-2 Inv-loop μ-loop
-loop-less-2 c = search needs
 
 loop-again-2 : tie.Need-loop-again-2 Inv-loop μ-loop
 loop-again-2 c =
@@ -67,14 +43,14 @@ spots-of-spec =
     Inv-loop
     μ-loop
     loop-holds
-    sub-j
-    mul-wide
-    element-copy-out-wide
-    wide-requires
-    mul-spots
-    array-write-spots
-    loop-less
+    (λ c. search needs)  -- sub-j
+    (λ c. search needs)  -- mul-wide
+    (λ c. search needs)  -- element-copy-out-wide
+    (λ c κs. search needs)  -- wide-requires
+    (λ c. search needs)  -- mul-spots
+    (λ c. search needs)  -- array-write-spots
+    (λ c. search needs)  -- loop-less
     loop-again
-    loop-less-2
+    (λ c. search needs)  -- loop-less-2
     loop-again-2
     returns)

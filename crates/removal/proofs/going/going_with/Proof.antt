@@ -5,27 +5,12 @@ use borrow.Author.Needs.{needs}
 use Rattle.removal.proofs.going.going_with.Statement.{statement}
 use Rattle.removal.proofs.going.going_with.Tie as tie
 
-columns-of-requires : tie.Need-columns-of-requires
-columns-of-requires c κs = search needs
-
-mul-n : tie.Need-mul-n
-mul-n c = search needs
-
-array-copy-out-n : tie.Need-array-copy-out-n
-array-copy-out-n c = search needs
-
-slice-aggregate-order-out : tie.Need-slice-aggregate-order-out
-slice-aggregate-order-out c = search needs
-
 order-out-requires : tie.Need-order-out-requires
 order-out-requires c κs =
     let s = c .before .before .before .before .before .before .before in
     let e = c .before .before .before .before .before .before .columns-of .ensures in
     let a = s .args in
     (s .pre .0, omega (arith, walk-fits (a .t1) (a .x) (a .held) e, s .pre .3))
-
-slice-aggregate-put-free-last : tie.Need-slice-aggregate-put-free-last
-slice-aggregate-put-free-last c = search needs
 
 put-free-last-requires : tie.Need-put-free-last-requires
 put-free-last-requires c κs =
@@ -57,11 +42,11 @@ pub going-with-spec : {M : Type 1} → statement M
 going-with-spec =
     tie.close
     (tie.spec
-    columns-of-requires
-    mul-n
-    array-copy-out-n
-    slice-aggregate-order-out
+    (λ c κs. search needs)  -- columns-of-requires
+    (λ c. search needs)  -- mul-n
+    (λ c. search needs)  -- array-copy-out-n
+    (λ c. search needs)  -- slice-aggregate-order-out
     order-out-requires
-    slice-aggregate-put-free-last
+    (λ c. search needs)  -- slice-aggregate-put-free-last
     put-free-last-requires
     returns)

@@ -20,12 +20,6 @@ loop-holds : tie.Need-loop-holds Inv-loop μ-loop
 unfolding entries
 loop-holds c = (omega arith, refl)
 
-mul-c : tie.Need-mul-c Inv-loop μ-loop
-mul-c c = search needs
-
-array-read-c : tie.Need-array-read-c Inv-loop μ-loop
-array-read-c c = search needs
-
 array-copy-out-node : tie.Need-array-copy-out-node Inv-loop μ-loop
 array-copy-out-node c = c .before .before .before .pre .1 (c .before .loop .i) (c .loop-test .taken)
 
@@ -35,21 +29,12 @@ cast-p c = omega (arith, array-copy-out-node c)
 mul-node : tie.Need-mul-node Inv-loop μ-loop
 mul-node c = omega (arith, array-copy-out-node c)
 
-part-area-requires : tie.Need-part-area-requires Inv-loop μ-loop
-part-area-requires c κs = search needs
-
 add-sum : tie.Need-add-sum Inv-loop μ-loop
 add-sum c =
     let l = c .before .before .before .loop in
     let s = c .before .before .before .before .before in
     let a = s .args in
     omega (arith, c .part-area .ensures, l .inv .1, area-most (a .t1) (a .g .order) (a .g .count) (l .i) (omega arith), s .pre .2)
-
-add-i : tie.Need-add-i Inv-loop μ-loop
-add-i c = search needs
-
-loop-less : tie.Need-loop-less Inv-loop μ-loop
-loop-less c = search needs
 
 loop-again : tie.Need-loop-again Inv-loop μ-loop
 loop-again c =
@@ -71,14 +56,14 @@ area-along-spec =
     Inv-loop
     μ-loop
     loop-holds
-    mul-c
-    array-read-c
+    (λ c. search needs)  -- mul-c
+    (λ c. search needs)  -- array-read-c
     cast-p
     mul-node
     array-copy-out-node
-    part-area-requires
+    (λ c κs. search needs)  -- part-area-requires
     add-sum
-    add-i
-    loop-less
+    (λ c. search needs)  -- add-i
+    (λ c. search needs)  -- loop-less
     loop-again
     returns)

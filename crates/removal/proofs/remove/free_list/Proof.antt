@@ -11,12 +11,6 @@ use Rattle.tree.specs.ListSteps.{cutAll}
 use Rattle.removal.proofs.remove.free_list.Statement.{statement}
 use Rattle.removal.proofs.remove.free_list.Tie as tie
 
-cut-all-requires : tie.Need-cut-all-requires
-cut-all-requires c κs = search needs
-
-areas-of-requires : tie.Need-areas-of-requires
-areas-of-requires c κs = search needs
-
 put-requires : tie.Need-put-requires
 put-requires c κs =
     let c1 = c .before .before in
@@ -36,4 +30,10 @@ returns c =
     ∙ rw (c2 .areas-of .ensures, areas-are (a .nodes) (s .good .1 .1 .0 .1 .0 .1), entries-are xs (c1 .cut-all .ensures)) refl
 
 pub free-list-spec : {M : Type 1} → statement M
-free-list-spec = tie.close (tie.spec cut-all-requires areas-of-requires put-requires returns)
+free-list-spec =
+    tie.close
+    (tie.spec
+    (λ c κs. search needs)  -- cut-all-requires
+    (λ c κs. search needs)  -- areas-of-requires
+    put-requires
+    returns)

@@ -7,20 +7,11 @@ use borrow.Author.Needs.{needs}
 use Rattle.removal.proofs.remove.join.Statement.{statement}
 use Rattle.removal.proofs.remove.join.Tie as tie
 
-laid-requires : tie.Need-laid-requires
-laid-requires c κs = search needs
-
-laid-requires-2 : tie.Need-laid-requires-2
-laid-requires-2 c κs = search needs
-
 add-t9 : tie.Need-add-t9
 add-t9 c =
     let s = c .before .before .before .before .before .before in
     let h = join-fits (s .args .d) (s .args .e) (s .pre .0) (s .pre .1) in
     rw (c .before .before .before .laid .ensures, c .before .before .laid2 .ensures) (omega arith)
-
-laid-requires-3 : tie.Need-laid-requires-3
-laid-requires-3 c κs = search needs
 
 returns : tie.Need-returns
 unfolding joined
@@ -29,4 +20,11 @@ returns c =
     c .laid3 .ensures ∙ rw (c2 .before .laid .ensures, c2 .laid2 .ensures) refl
 
 pub join-spec : {M : Type 1} → statement M
-join-spec = tie.close (tie.spec laid-requires laid-requires-2 add-t9 laid-requires-3 returns)
+join-spec =
+    tie.close
+    (tie.spec
+    (λ c κs. search needs)  -- laid-requires
+    (λ c κs. search needs)  -- laid-requires-2
+    add-t9
+    (λ c κs. search needs)  -- laid-requires-3
+    returns)

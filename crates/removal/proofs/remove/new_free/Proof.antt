@@ -4,14 +4,13 @@ use borrow.Author.Needs.{needs}
 use Rattle.removal.proofs.remove.new_free.Statement.{statement}
 use Rattle.removal.proofs.remove.new_free.Tie as tie
 
-board-with-requires : tie.Need-board-with-requires
-board-with-requires c κs = search needs
-
-add-t6 : tie.Need-add-t6
-add-t6 c = search needs
-
 returns : tie.Need-returns
 returns c = rw (c .board-with .ensures) refl
 
 pub new-free-spec : {M : Type 1} → statement M
-new-free-spec = tie.close (tie.spec board-with-requires add-t6 returns)
+new-free-spec =
+    tie.close
+    (tie.spec
+    (λ c κs. search needs)  -- board-with-requires
+    (λ c. search needs)  -- add-t6
+    returns)

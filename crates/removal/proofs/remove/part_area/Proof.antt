@@ -4,28 +4,17 @@ use borrow.Author.Needs.{needs}
 use Rattle.removal.proofs.remove.part_area.Statement.{statement}
 use Rattle.removal.proofs.remove.part_area.Tie as tie
 
-area-requires : tie.Need-area-requires
-area-requires c κs = search needs
-
-enum-told : tie.Need-enum-told
-enum-told c = search needs
-
-enum-told-2 : tie.Need-enum-told-2
-enum-told-2 c = search needs
-
-enum-told-3 : tie.Need-enum-told-3
-enum-told-3 c = search needs
-
-returns : tie.Need-returns
-returns c = search needs
-
 returns-2 : tie.Need-returns-2
 returns-2 c = c .before .before .area .ensures ∙ rw (c .enum-told2 .given .1) refl
-
-returns-3 : tie.Need-returns-3
-returns-3 c = search needs
 
 pub part-area-spec : {M : Type 1} → statement M
 part-area-spec =
     tie.close
-    (tie.spec area-requires enum-told enum-told-2 enum-told-3 returns returns-2 returns-3)
+    (tie.spec
+    (λ c κs. search needs)  -- area-requires
+    (λ c. search needs)  -- enum-told
+    (λ c. search needs)  -- enum-told-2
+    (λ c. search needs)  -- enum-told-3
+    (λ c. search needs)  -- returns
+    returns-2
+    (λ c. search needs))  -- returns-3

@@ -21,9 +21,6 @@ left c = let a = c .before .before .before .args in strikeAll (entriesOf (a .rem
 room : (c : tie.After-strike-all) → length (left c) < limit
 room c = c .before .before .before .pre .2
 
-strike-all-requires : tie.Need-strike-all-requires
-strike-all-requires c κs = search needs
-
 strike-requires : tie.Need-strike-requires
 strike-requires c κs =
     let c1 = c .before .before in
@@ -54,7 +51,7 @@ pub removable-list-spec : {M : Type 1} → statement M
 removable-list-spec =
     tie.close
     (tie.spec
-    strike-all-requires
+    (λ c κs. search needs)  -- strike-all-requires
     strike-requires
     push-requires
     returns

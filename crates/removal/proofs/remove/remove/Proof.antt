@@ -14,54 +14,15 @@ start c = c .before .before .before .before .before .before
 asked : (c : tie.After-struct-known) → let a = start c .args in Clearable (a .n) (places (a .g)) (a .x) (a .last)
 asked c = start c .pre .1
 
-mul-gone : tie.Need-mul-gone
-mul-gone c = search needs
-
-array-copy-out-gone : tie.Need-array-copy-out-gone
-array-copy-out-gone c = search needs
-
-cast-qi : tie.Need-cast-qi
-cast-qi c = search needs
-
-mul-above : tie.Need-mul-above
-mul-above c = search needs
-
-array-copy-out-above : tie.Need-array-copy-out-above
-array-copy-out-above c = search needs
-
-cast-li : tie.Need-cast-li
-cast-li c = search needs
-
-mul-end : tie.Need-mul-end
-mul-end c = search needs
-
-array-copy-out-end : tie.Need-array-copy-out-end
-array-copy-out-end c = search needs
-
 new-free-requires : tie.Need-new-free-requires
 unfolding newFree freeLastDatum
 new-free-requires c κs = let p = asked (c .before) in (p .wide, p .tall, p .spent)
-
-unlink-all-requires : tie.Need-unlink-all-requires
-unlink-all-requires c κs = search needs
-
-mul-parent : tie.Need-mul-parent
-mul-parent c = search needs
-
-array-copy-out-parent : tie.Need-array-copy-out-parent
-array-copy-out-parent c = search needs
-
-unheld-requires : tie.Need-unheld-requires
-unheld-requires c κs = search needs
 
 append-requires : tie.Need-append-requires
 append-requires c κs =
     let c2 = c .before .before in
     let p = asked (c2 .before .before .before) in
     (p .hung, rw (c .unheld .ensures, c2 .unlink-all .ensures) (p .some))
-
-free-list-requires : tie.Need-free-list-requires
-free-list-requires c κs = search needs
 
 removable-list-requires : tie.Need-removable-list-requires
 removable-list-requires c κs =
@@ -88,20 +49,20 @@ pub remove-spec : {M : Type 1} → statement M
 remove-spec =
     tie.close
     (tie.spec
-    mul-gone
-    array-copy-out-gone
-    cast-qi
-    mul-above
-    array-copy-out-above
-    cast-li
-    mul-end
-    array-copy-out-end
+    (λ c. search needs)  -- mul-gone
+    (λ c. search needs)  -- array-copy-out-gone
+    (λ c. search needs)  -- cast-qi
+    (λ c. search needs)  -- mul-above
+    (λ c. search needs)  -- array-copy-out-above
+    (λ c. search needs)  -- cast-li
+    (λ c. search needs)  -- mul-end
+    (λ c. search needs)  -- array-copy-out-end
     new-free-requires
-    unlink-all-requires
-    mul-parent
-    array-copy-out-parent
-    unheld-requires
+    (λ c κs. search needs)  -- unlink-all-requires
+    (λ c. search needs)  -- mul-parent
+    (λ c. search needs)  -- array-copy-out-parent
+    (λ c κs. search needs)  -- unheld-requires
     append-requires
-    free-list-requires
+    (λ c κs. search needs)  -- free-list-requires
     removable-list-requires
     returns)

@@ -31,18 +31,9 @@ turn c =
     let a = s .args in
     rw (l .inv .1) (goes-at limit (a .nodes) (a .g .order) (a .g .count) (l .k) (c .loop-test .taken) (s .pre .1))
 
-no-node-requires : tie.Need-no-node-requires Inv-loop μ-loop
-no-node-requires c κs = search needs
-
 loop-holds : tie.Need-loop-holds Inv-loop μ-loop
 unfolding entries
 loop-holds c = (omega arith, refl)
-
-mul-x : tie.Need-mul-x Inv-loop μ-loop
-mul-x c = search needs
-
-array-read-x : tie.Need-array-read-x Inv-loop μ-loop
-array-read-x c = search needs
 
 cast-xi : tie.Need-cast-xi Inv-loop μ-loop
 cast-xi c = let h = turn c in search needs
@@ -62,32 +53,11 @@ mul-up c = let h = turn (c .before .before .before) in search needs
 array-copy-out-up : tie.Need-array-copy-out-up Inv-loop μ-loop
 array-copy-out-up c = let h = turn (c .before .before .before) in search needs
 
-with-first-requires : tie.Need-with-first-requires Inv-loop μ-loop
-with-first-requires c κs = search needs
-
 mul-t : tie.Need-mul-t Inv-loop μ-loop
 mul-t c = let h = turn (c .before .before .before .before .before) in search needs
 
 array-set-from-t : tie.Need-array-set-from-t Inv-loop μ-loop
 array-set-from-t c = let h = turn (c .before .before .before .before .before) in search needs
-
-cast-i : tie.Need-cast-i Inv-loop μ-loop
-cast-i c = search needs
-
-mul-before : tie.Need-mul-before Inv-loop μ-loop
-mul-before c = search needs
-
-array-copy-out-before : tie.Need-array-copy-out-before Inv-loop μ-loop
-array-copy-out-before c = search needs
-
-with-next-requires : tie.Need-with-next-requires Inv-loop μ-loop
-with-next-requires c κs = search needs
-
-mul-t-2 : tie.Need-mul-t-2 Inv-loop μ-loop
-mul-t-2 c = search needs
-
-array-set-from-t-2 : tie.Need-array-set-from-t-2 Inv-loop μ-loop
-array-set-from-t-2 c = search needs
 
 mul-up-2 : tie.Need-mul-up-2 Inv-loop μ-loop
 mul-up-2 c = let h = turn (c .before .before .before .before) in search needs
@@ -95,44 +65,17 @@ mul-up-2 c = let h = turn (c .before .before .before .before) in search needs
 array-copy-out-up-2 : tie.Need-array-copy-out-up-2 Inv-loop μ-loop
 array-copy-out-up-2 c = let h = turn (c .before .before .before .before) in search needs
 
-with-last-requires : tie.Need-with-last-requires Inv-loop μ-loop
-with-last-requires c κs = search needs
-
 mul-t-3 : tie.Need-mul-t-3 Inv-loop μ-loop
 mul-t-3 c = let h = turn (c .before .before .before .before .before .before) in search needs
 
 array-set-from-t-3 : tie.Need-array-set-from-t-3 Inv-loop μ-loop
 array-set-from-t-3 c = let h = turn (c .before .before .before .before .before .before) in search needs
 
-cast-i-2 : tie.Need-cast-i-2 Inv-loop μ-loop
-cast-i-2 c = search needs
-
-mul-behind : tie.Need-mul-behind Inv-loop μ-loop
-mul-behind c = search needs
-
-array-copy-out-behind : tie.Need-array-copy-out-behind Inv-loop μ-loop
-array-copy-out-behind c = search needs
-
-with-prev-requires : tie.Need-with-prev-requires Inv-loop μ-loop
-with-prev-requires c κs = search needs
-
-mul-t-4 : tie.Need-mul-t-4 Inv-loop μ-loop
-mul-t-4 c = search needs
-
-array-set-from-t-4 : tie.Need-array-set-from-t-4 Inv-loop μ-loop
-array-set-from-t-4 c = search needs
-
 mul-t-5 : tie.Need-mul-t-5 Inv-loop μ-loop
 mul-t-5 c = let h = turn (c .before .before .before .before) in search needs
 
 array-set-from-t-5 : tie.Need-array-set-from-t-5 Inv-loop μ-loop
 array-set-from-t-5 c = let h = turn (c .before .before .before .before) in search needs
-
-add-k : tie.Need-add-k Inv-loop μ-loop
-add-k c = search needs
-
-loop-less : tie.Need-loop-less Inv-loop μ-loop
-loop-less c = search needs
 
 loop-again : tie.Need-loop-again Inv-loop μ-loop
 loop-again c =
@@ -170,39 +113,39 @@ unlink-all-spec =
     (tie.spec
     Inv-loop
     μ-loop
-    no-node-requires
+    (λ c κs. search needs)  -- no-node-requires
     loop-holds
-    mul-x
-    array-read-x
+    (λ c. search needs)  -- mul-x
+    (λ c. search needs)  -- array-read-x
     cast-xi
     mul-n
     array-copy-out-n
     cast-qi
     mul-up
     array-copy-out-up
-    with-first-requires
+    (λ c κs. search needs)  -- with-first-requires
     mul-t
     array-set-from-t
-    cast-i
-    mul-before
-    array-copy-out-before
-    with-next-requires
-    mul-t-2
-    array-set-from-t-2
+    (λ c. search needs)  -- cast-i
+    (λ c. search needs)  -- mul-before
+    (λ c. search needs)  -- array-copy-out-before
+    (λ c κs. search needs)  -- with-next-requires
+    (λ c. search needs)  -- mul-t-2
+    (λ c. search needs)  -- array-set-from-t-2
     mul-up-2
     array-copy-out-up-2
-    with-last-requires
+    (λ c κs. search needs)  -- with-last-requires
     mul-t-3
     array-set-from-t-3
-    cast-i-2
-    mul-behind
-    array-copy-out-behind
-    with-prev-requires
-    mul-t-4
-    array-set-from-t-4
+    (λ c. search needs)  -- cast-i-2
+    (λ c. search needs)  -- mul-behind
+    (λ c. search needs)  -- array-copy-out-behind
+    (λ c κs. search needs)  -- with-prev-requires
+    (λ c. search needs)  -- mul-t-4
+    (λ c. search needs)  -- array-set-from-t-4
     mul-t-5
     array-set-from-t-5
-    add-k
-    loop-less
+    (λ c. search needs)  -- add-k
+    (λ c. search needs)  -- loop-less
     loop-again
     returns)

@@ -8,37 +8,16 @@ use Rattle.saw.proofs.CutBytes.{cut-stored}
 use Rattle.saw.proofs.cut.put_cut.Statement.{statement}
 use Rattle.saw.proofs.cut.put_cut.Tie as tie
 
-put-two-requires : tie.Need-put-two-requires
-put-two-requires c κs = search needs
-
-cut-no-requires : tie.Need-cut-no-requires
-cut-no-requires c κs = search needs
-
-add-out : tie.Need-add-out
-add-out c = search needs
-
-slice-write-out : tie.Need-slice-write-out
-slice-write-out c = search needs
-
-add-put-four : tie.Need-add-put-four
-add-put-four c = search needs
-
 put-four-requires : tie.Need-put-four-requires
 put-four-requires c κs =
     let e = simp length-sets at (ap length (c .before .before .before .before .put-two .ensures)) in
     simp length-set (omega arith)
-
-add-out-2 : tie.Need-add-out-2
-add-out-2 c = search needs
 
 slice-write-out-2 : tie.Need-slice-write-out-2
 slice-write-out-2 c =
     let e = simp length-sets at (ap length (c .before .before .before .before .before .before .before .put-two .ensures)) in
     let f = simp (length-sets, length-set) at (ap length (c .before .before .put-four .ensures)) in
     omega arith
-
-add-out-3 : tie.Need-add-out-3
-add-out-3 c = search needs
 
 slice-write-out-3 : tie.Need-slice-write-out-3
 slice-write-out-3 c =
@@ -61,15 +40,15 @@ pub put-cut-spec : {M : Type 1} → statement M
 put-cut-spec =
     tie.close
     (tie.spec
-    put-two-requires
-    cut-no-requires
-    add-out
-    slice-write-out
-    add-put-four
+    (λ c κs. search needs)  -- put-two-requires
+    (λ c κs. search needs)  -- cut-no-requires
+    (λ c. search needs)  -- add-out
+    (λ c. search needs)  -- slice-write-out
+    (λ c. search needs)  -- add-put-four
     put-four-requires
-    add-out-2
+    (λ c. search needs)  -- add-out-2
     slice-write-out-2
-    add-out-3
+    (λ c. search needs)  -- add-out-3
     slice-write-out-3
     same-length
     returns)

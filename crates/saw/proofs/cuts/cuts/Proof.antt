@@ -61,25 +61,10 @@ stored-length c =
     ∙ length-sets (zeros (9 * limit)) 0 (bytesOf (cutsIn (the-layout (c .before)) (the-columns (c .before))))
     ∙ length-replicate {A = ℕ} (9 * limit) 0
 
-sound-requires : tie.Need-sound-requires
-sound-requires c κs = search needs
-
 returns : tie.Need-returns
 returns c =
     let a = c .before .before .before .args in
     not-sound (a .layout) (sawBytes (a .layout)) (a .out .now) (sym (c .before .sound .ensures) ∙ c .if1 .left)
-
-cast-held : tie.Need-cast-held
-cast-held c = search needs
-
-array-copy-out-top : tie.Need-array-copy-out-top
-array-copy-out-top c = search needs
-
-columns-of-requires : tie.Need-columns-of-requires
-columns-of-requires c κs = search needs
-
-slice-aggregate-list-cuts : tie.Need-slice-aggregate-list-cuts
-slice-aggregate-list-cuts c = search needs
 
 list-cuts-requires : tie.Need-list-cuts-requires
 list-cuts-requires c κs = let h = room c in (h, omega (arith, h))
@@ -93,9 +78,6 @@ returns-2 c =
     let a = past (l .before) .before .before .before .args in
     too-short (a .layout) (sawBytes (a .layout)) (a .out .now) (checked (past (l .before))) (omega (arith, bytes-are l, c .if2 .taken))
 
-slice-aggregate-copy-first : tie.Need-slice-aggregate-copy-first
-slice-aggregate-copy-first c = search needs
-
 copy-first-requires : tie.Need-copy-first-requires
 copy-first-requires c κs =
     let e = c .before .before in
@@ -104,9 +86,6 @@ copy-first-requires c κs =
 
 cast-t39 : tie.Need-cast-t39
 cast-t39 c = omega (arith, few (c .before .before .before .before .before .before .before))
-
-same-length : tie.Need-same-length
-same-length c = search needs
 
 returns-3 : tie.Need-returns-3
 returns-3 c =
@@ -124,17 +103,17 @@ pub cuts-spec : {M : Type 1} → statement M
 cuts-spec =
     tie.close
     (tie.spec
-    sound-requires
+    (λ c κs. search needs)  -- sound-requires
     returns
-    cast-held
-    array-copy-out-top
-    columns-of-requires
-    slice-aggregate-list-cuts
+    (λ c. search needs)  -- cast-held
+    (λ c. search needs)  -- array-copy-out-top
+    (λ c κs. search needs)  -- columns-of-requires
+    (λ c. search needs)  -- slice-aggregate-list-cuts
     list-cuts-requires
     mul-bytes
     returns-2
-    slice-aggregate-copy-first
+    (λ c. search needs)  -- slice-aggregate-copy-first
     copy-first-requires
     cast-t39
-    same-length
+    (λ c. search needs)  -- same-length
     returns-3)

@@ -31,33 +31,21 @@ cuts-by s way =
     let a = s .args in
     listed limit (a .first .now) (a .next .now) (a .kind .now) (a .width .now) (a .height .now) way (a .left) 0 (a .c)
 
-enum-told : tie.Need-enum-told
-enum-told c = search needs
-
 list-horizontal-requires : tie.Need-list-horizontal-requires
 list-horizontal-requires c κs =
     let s = c .before .before .before .before in
     asks (cuts-by s) (s .args .way) Horizontal (c .before .enum-told .given .1) (s .args .out .now) (s .pre)
-
-enum-told-2 : tie.Need-enum-told-2
-enum-told-2 c = search needs
 
 list-vertical-requires : tie.Need-list-vertical-requires
 list-vertical-requires c κs =
     let s = c .before .before .before .before in
     asks (cuts-by s) (s .args .way) Vertical (c .before .enum-told2 .given .1) (s .args .out .now) (s .pre)
 
-same-length : tie.Need-same-length
-same-length c = search needs
-
 returns : tie.Need-returns
 returns c =
     let h = c .before .before in
     let s = h .before .before .before .before .before in
     does (cuts-by s) (s .args .way) Horizontal (h .before .before .enum-told .given .1) (s .args .out .now) _ _ (h .list-horizontal .ensures)
-
-same-length-2 : tie.Need-same-length-2
-same-length-2 c = search needs
 
 returns-2 : tie.Need-returns-2
 returns-2 c =
@@ -69,11 +57,11 @@ pub list-cuts-spec : {M : Type 1} → statement M
 list-cuts-spec =
     tie.close
     (tie.spec
-    enum-told
+    (λ c. search needs)  -- enum-told
     list-horizontal-requires
-    enum-told-2
+    (λ c. search needs)  -- enum-told-2
     list-vertical-requires
-    same-length
+    (λ c. search needs)  -- same-length
     returns
-    same-length-2
+    (λ c. search needs)  -- same-length-2
     returns-2)

@@ -6,12 +6,6 @@ use Rattle.lists.specs.Lists.{limit}
 use Rattle.saw.proofs.routines.kind_left.Statement.{statement}
 use Rattle.saw.proofs.routines.kind_left.Tie as tie
 
-rest-of-requires : tie.Need-rest-of-requires
-rest-of-requires c κs = search needs
-
-element-copy-out-result : tie.Need-element-copy-out-result
-element-copy-out-result c = search needs
-
 returns : tie.Need-returns
 returns c = rw (← (c .before .before .rest-of .ensures), le-leb limit _ (c .before .if1 .taken)) refl
 
@@ -19,4 +13,10 @@ returns-2 : tie.Need-returns-2
 returns-2 c = rw (← (c .before .rest-of .ensures), lt-leb limit _ (c .if1 .left)) refl
 
 pub kind-left-spec : {M : Type 1} → statement M
-kind-left-spec = tie.close (tie.spec rest-of-requires element-copy-out-result returns returns-2)
+kind-left-spec =
+    tie.close
+    (tie.spec
+    (λ c κs. search needs)  -- rest-of-requires
+    (λ c. search needs)  -- element-copy-out-result
+    returns
+    returns-2)

@@ -4,39 +4,6 @@ use borrow.Author.Needs.{needs}
 use Rattle.session.proofs.Session.asked.Statement.{statement}
 use Rattle.session.proofs.Session.asked.Tie as tie
 
-scope-of-requires : tie.Need-scope-of-requires
-scope-of-requires c κs = search needs
-
-enum-told : tie.Need-enum-told
-enum-told c = search needs
-
-replied-requires : tie.Need-replied-requires
-replied-requires c κs = search needs
-
-told-requires : tie.Need-told-requires
-told-requires c κs = search needs
-
-enum-told-2 : tie.Need-enum-told-2
-enum-told-2 c = search needs
-
-keep-requires : tie.Need-keep-requires
-keep-requires c κs = search needs
-
-says-requires : tie.Need-says-requires
-says-requires c κs = search needs
-
-says-requires-2 : tie.Need-says-requires-2
-says-requires-2 c κs = search needs
-
-enum-told-3 : tie.Need-enum-told-3
-enum-told-3 c = search needs
-
-restore-requires : tie.Need-restore-requires
-restore-requires c κs = search needs
-
-told-requires-2 : tie.Need-told-requires-2
-told-requires-2 c κs = search needs
-
 returns : tie.Need-returns
 returns c =
     let k = c .before .before in
@@ -73,17 +40,17 @@ pub asked-spec : {M : Type 1} → statement M
 asked-spec =
     tie.close
     (tie.spec
-    scope-of-requires
-    enum-told
-    replied-requires
-    told-requires
-    enum-told-2
-    keep-requires
-    says-requires
-    says-requires-2
-    enum-told-3
-    restore-requires
-    told-requires-2
+    (λ c κs. search needs)  -- scope-of-requires
+    (λ c. search needs)  -- enum-told
+    (λ c κs. search needs)  -- replied-requires
+    (λ c κs. search needs)  -- told-requires
+    (λ c. search needs)  -- enum-told-2
+    (λ c κs. search needs)  -- keep-requires
+    (λ c κs. search needs)  -- says-requires
+    (λ c κs. search needs)  -- says-requires-2
+    (λ c. search needs)  -- enum-told-3
+    (λ c κs. search needs)  -- restore-requires
+    (λ c κs. search needs)  -- told-requires-2
     returns
     returns-2
     returns-3

@@ -4,14 +4,13 @@ use borrow.Author.Needs.{needs}
 use Rattle.session.proofs.Session.malformed.Statement.{statement}
 use Rattle.session.proofs.Session.malformed.Tie as tie
 
-malformed-requires : tie.Need-malformed-requires
-malformed-requires c κs = search needs
-
-says-requires : tie.Need-says-requires
-says-requires c κs = search needs
-
 returns : tie.Need-returns
 returns c = rw (c .says .ensures) (malformed-steps (c .before .malformed .ensures))
 
 pub malformed-spec : {M : Type 1} → statement M
-malformed-spec = tie.close (tie.spec malformed-requires says-requires returns)
+malformed-spec =
+    tie.close
+    (tie.spec
+    (λ c κs. search needs)  -- malformed-requires
+    (λ c κs. search needs)  -- says-requires
+    returns)

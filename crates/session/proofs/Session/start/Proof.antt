@@ -4,11 +4,8 @@ use mathlib.Core.Path.{refl}
 use Rattle.session.proofs.Session.start.Statement.{statement}
 use Rattle.session.proofs.Session.start.Tie as tie
 
-zero-requires : tie.Need-zero-requires
-zero-requires c κs = search needs
-
 returns : tie.Need-returns
 returns c = rw (c .zero .ensures) refl
 
 pub start-spec : {M : Type 1} → statement M
-start-spec = tie.close (tie.spec zero-requires returns)
+start-spec = tie.close (tie.spec (λ c κs. search needs) returns)

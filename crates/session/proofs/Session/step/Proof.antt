@@ -5,14 +5,13 @@ use borrow.Author.Needs.{needs}
 use Rattle.session.proofs.Session.step.Statement.{statement}
 use Rattle.session.proofs.Session.step.Tie as tie
 
-request-requires : tie.Need-request-requires
-request-requires c κs = search needs
-
-asked-requires : tie.Need-asked-requires
-asked-requires c κs = search needs
-
 returns : tie.Need-returns
 returns c = asks (sym (c .before .request .ensures)) (c .asked .ensures)
 
 pub step-spec : {M : Type 1} → statement M
-step-spec = tie.close (tie.spec request-requires asked-requires returns)
+step-spec =
+    tie.close
+    (tie.spec
+    (λ c κs. search needs)  -- request-requires
+    (λ c κs. search needs)  -- asked-requires
+    returns)

@@ -13,12 +13,6 @@ use Rattle.session.proofs.desk.answer.Tie as tie
 sixty-four : (c : tie.Start) → length (c .args .pending .bytes) ≡ 64
 sixty-four c = pending-sized (c .args .pending) _ (c .good .1 .0)
 
-slice-aggregate-step : tie.Need-slice-aggregate-step
-slice-aggregate-step c = search needs
-
-step-requires : tie.Need-step-requires
-step-requires c κs = search needs
-
 returns : tie.Need-returns
 returns c =
     let s = c .before .before .before .before in
@@ -33,20 +27,14 @@ slice-aggregate-step-2 c =
     let s = c .before .before .before in
     sym (length-take-le (s .args .pending .count) (s .args .pending .bytes) (omega (arith, sixty-four s)))
 
-step-requires-2 : tie.Need-step-requires-2
-step-requires-2 c κs = search needs
-
-returns-2 : tie.Need-returns-2
-returns-2 c = search needs
-
 pub answer-spec : {M : Type 1} → statement M
 answer-spec =
     tie.close
     (tie.spec
-    slice-aggregate-step
-    step-requires
+    (λ c. search needs)  -- slice-aggregate-step
+    (λ c κs. search needs)  -- step-requires
     returns
     array-share-prefix-bytes
     slice-aggregate-step-2
-    step-requires-2
-    returns-2)
+    (λ c κs. search needs)  -- step-requires-2
+    (λ c. search needs))  -- returns-2

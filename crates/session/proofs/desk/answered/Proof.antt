@@ -4,11 +4,8 @@ use borrow.Author.Needs.{needs}
 use Rattle.session.proofs.desk.answered.Statement.{statement}
 use Rattle.session.proofs.desk.answered.Tie as tie
 
-none-requires : tie.Need-none-requires
-none-requires c κs = search needs
-
 returns : tie.Need-returns
 returns c = rw (c .none .ensures) refl
 
 pub answered-spec : {M : Type 1} → statement M
-answered-spec = tie.close (tie.spec none-requires returns)
+answered-spec = tie.close (tie.spec (λ c κs. search needs) returns)

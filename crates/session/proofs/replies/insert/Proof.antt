@@ -6,23 +6,11 @@ use borrow.Author.Needs.{needs}
 use Rattle.session.proofs.replies.insert.Statement.{statement}
 use Rattle.session.proofs.replies.insert.Tie as tie
 
-insert-requires : tie.Need-insert-requires
-insert-requires c κs = search needs
-
-enum-told : tie.Need-enum-told
-enum-told c = search needs
-
 inserted-requires : tie.Need-inserted-requires
 inserted-requires c κs =
     let i = c .before .before .before .before in
     let a = i .before .args in
     insert-says (a .layout) (a .mark) (a .part) (a .rotation) (a .shape) _ (i .insert .ensures) (c .enum-told .given .1)
-
-enum-known-outcome : tie.Need-enum-known-outcome
-enum-known-outcome c = search needs
-
-refused-requires : tie.Need-refused-requires
-refused-requires c κs = search needs
 
 returns : tie.Need-returns
 returns c =
@@ -42,10 +30,10 @@ pub insert-spec : {M : Type 1} → statement M
 insert-spec =
     tie.close
     (tie.spec
-    insert-requires
-    enum-told
+    (λ c κs. search needs)  -- insert-requires
+    (λ c. search needs)  -- enum-told
     inserted-requires
-    enum-known-outcome
-    refused-requires
+    (λ c. search needs)  -- enum-known-outcome
+    (λ c κs. search needs)  -- refused-requires
     returns
     returns-2)

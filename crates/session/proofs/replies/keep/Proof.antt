@@ -4,15 +4,6 @@ use borrow.Author.Needs.{needs}
 use Rattle.session.proofs.replies.keep.Statement.{statement}
 use Rattle.session.proofs.replies.keep.Tie as tie
 
-sound-requires : tie.Need-sound-requires
-sound-requires c κs = search needs
-
-done-requires : tie.Need-done-requires
-done-requires c κs = search needs
-
-refused-requires : tie.Need-refused-requires
-refused-requires c κs = search needs
-
 returns : tie.Need-returns
 returns c =
     let t = c .before in
@@ -26,4 +17,11 @@ returns-2 c =
     keep-gives (k .before .args .layout) (k .sound .ensures) (t .if1 .left) (c .refused .ensures)
 
 pub keep-spec : {M : Type 1} → statement M
-keep-spec = tie.close (tie.spec sound-requires done-requires refused-requires returns returns-2)
+keep-spec =
+    tie.close
+    (tie.spec
+    (λ c κs. search needs)  -- sound-requires
+    (λ c κs. search needs)  -- done-requires
+    (λ c κs. search needs)  -- refused-requires
+    returns
+    returns-2)

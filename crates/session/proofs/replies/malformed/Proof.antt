@@ -5,11 +5,8 @@ use borrow.Author.Needs.{needs}
 use Rattle.session.proofs.replies.malformed.Statement.{statement}
 use Rattle.session.proofs.replies.malformed.Tie as tie
 
-malformed-requires : tie.Need-malformed-requires
-malformed-requires c κs = search needs
-
 returns : tie.Need-returns
 returns c = malformed-gives _ refl (c .malformed .ensures)
 
 pub malformed-spec : {M : Type 1} → statement M
-malformed-spec = tie.close (tie.spec malformed-requires returns)
+malformed-spec = tie.close (tie.spec (λ c κs. search needs) returns)

@@ -5,23 +5,11 @@ use borrow.Author.Needs.{needs}
 use Rattle.session.proofs.replies.offers.Statement.{statement}
 use Rattle.session.proofs.replies.offers.Tie as tie
 
-offers-requires : tie.Need-offers-requires
-offers-requires c κs = search needs
-
-enum-told : tie.Need-enum-told
-enum-told c = search needs
-
 offered-requires : tie.Need-offered-requires
 offered-requires c κs =
     let o = c .before .before .before in
     let a = o .before .args in
     rw (o .offers .ensures) (offers-four (a .layout) (a .mark) (a .part))
-
-enum-known-outcome : tie.Need-enum-known-outcome
-enum-known-outcome c = search needs
-
-refused-requires : tie.Need-refused-requires
-refused-requires c κs = search needs
 
 returns : tie.Need-returns
 returns c =
@@ -41,10 +29,10 @@ pub offers-spec : {M : Type 1} → statement M
 offers-spec =
     tie.close
     (tie.spec
-    offers-requires
-    enum-told
+    (λ c κs. search needs)  -- offers-requires
+    (λ c. search needs)  -- enum-told
     offered-requires
-    enum-known-outcome
-    refused-requires
+    (λ c. search needs)  -- enum-known-outcome
+    (λ c κs. search needs)  -- refused-requires
     returns
     returns-2)

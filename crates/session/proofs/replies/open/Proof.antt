@@ -5,21 +5,6 @@ use borrow.Author.Needs.{needs}
 use Rattle.session.proofs.replies.open.Statement.{statement}
 use Rattle.session.proofs.replies.open.Tie as tie
 
-open-requires : tie.Need-open-requires
-open-requires c κs = search needs
-
-enum-known-outcome : tie.Need-enum-known-outcome
-enum-known-outcome c = search needs
-
-opened-requires : tie.Need-opened-requires
-opened-requires c κs = search needs
-
-enum-known-outcome-2 : tie.Need-enum-known-outcome-2
-enum-known-outcome-2 c = search needs
-
-refused-requires : tie.Need-refused-requires
-refused-requires c κs = search needs
-
 returns : tie.Need-returns
 returns c =
     let k = c .before .before in
@@ -40,10 +25,10 @@ pub open-spec : {M : Type 1} → statement M
 open-spec =
     tie.close
     (tie.spec
-    open-requires
-    enum-known-outcome
-    opened-requires
-    enum-known-outcome-2
-    refused-requires
+    (λ c κs. search needs)  -- open-requires
+    (λ c. search needs)  -- enum-known-outcome
+    (λ c κs. search needs)  -- opened-requires
+    (λ c. search needs)  -- enum-known-outcome-2
+    (λ c κs. search needs)  -- refused-requires
     returns
     returns-2)

@@ -24,32 +24,11 @@ taken-out c =
     remove-says (s .args .layout) (s .args .mark) limit _ (typed-sized (s .args .layout) _ (s .good .0)) (d .remove .ensures .0)
     (c .before .enum-told .given .1)
 
-slice-aggregate-remove : tie.Need-slice-aggregate-remove
-slice-aggregate-remove c = search needs
-
-remove-requires : tie.Need-remove-requires
-remove-requires c κs = search needs
-
-cast-many : tie.Need-cast-many
-cast-many c = search needs
-
-enum-told : tie.Need-enum-told
-enum-told c = search needs
-
-slice-aggregate-removed : tie.Need-slice-aggregate-removed
-slice-aggregate-removed c = search needs
-
 removed-requires : tie.Need-removed-requires
 removed-requires c κs =
     let d = removal c in
     let t = taken-out c in
     (omega (arith, t .count, t .few), omega (arith, t .count, t .few, d .remove .kept))
-
-enum-known-outcome : tie.Need-enum-known-outcome
-enum-known-outcome c = search needs
-
-refused-requires : tie.Need-refused-requires
-refused-requires c κs = search needs
 
 returns : tie.Need-returns
 returns c =
@@ -70,13 +49,13 @@ pub remove-spec : {M : Type 1} → statement M
 remove-spec =
     tie.close
     (tie.spec
-    slice-aggregate-remove
-    remove-requires
-    cast-many
-    enum-told
-    slice-aggregate-removed
+    (λ c. search needs)  -- slice-aggregate-remove
+    (λ c κs. search needs)  -- remove-requires
+    (λ c. search needs)  -- cast-many
+    (λ c. search needs)  -- enum-told
+    (λ c. search needs)  -- slice-aggregate-removed
     removed-requires
-    enum-known-outcome
-    refused-requires
+    (λ c. search needs)  -- enum-known-outcome
+    (λ c κs. search needs)  -- refused-requires
     returns
     returns-2)

@@ -4,54 +4,6 @@ use borrow.Author.Needs.{needs}
 use Rattle.session.proofs.replies.replied.Statement.{statement}
 use Rattle.session.proofs.replies.replied.Tie as tie
 
-enum-known-request : tie.Need-enum-known-request
-enum-known-request c = search needs
-
-open-requires : tie.Need-open-requires
-open-requires c κs = search needs
-
-enum-known-request-2 : tie.Need-enum-known-request-2
-enum-known-request-2 c = search needs
-
-offers-requires : tie.Need-offers-requires
-offers-requires c κs = search needs
-
-enum-known-request-3 : tie.Need-enum-known-request-3
-enum-known-request-3 c = search needs
-
-insert-requires : tie.Need-insert-requires
-insert-requires c κs = search needs
-
-enum-known-request-4 : tie.Need-enum-known-request-4
-enum-known-request-4 c = search needs
-
-remove-requires : tie.Need-remove-requires
-remove-requires c κs = search needs
-
-enum-told : tie.Need-enum-told
-enum-told c = search needs
-
-malformed-requires : tie.Need-malformed-requires
-malformed-requires c κs = search needs
-
-enum-told-2 : tie.Need-enum-told-2
-enum-told-2 c = search needs
-
-malformed-requires-2 : tie.Need-malformed-requires-2
-malformed-requires-2 c κs = search needs
-
-enum-told-3 : tie.Need-enum-told-3
-enum-told-3 c = search needs
-
-report-requires : tie.Need-report-requires
-report-requires c κs = search needs
-
-enum-told-4 : tie.Need-enum-told-4
-enum-told-4 c = search needs
-
-malformed-requires-3 : tie.Need-malformed-requires-3
-malformed-requires-3 c κs = search needs
-
 returns : tie.Need-returns
 returns c = hears (c .before .before .request .given .1) (c .«open» .ensures)
 
@@ -80,22 +32,22 @@ pub replied-spec : {M : Type 1} → statement M
 replied-spec =
     tie.close
     (tie.spec
-    enum-known-request
-    open-requires
-    enum-known-request-2
-    offers-requires
-    enum-known-request-3
-    insert-requires
-    enum-known-request-4
-    remove-requires
-    enum-told
-    malformed-requires
-    enum-told-2
-    malformed-requires-2
-    enum-told-3
-    report-requires
-    enum-told-4
-    malformed-requires-3
+    (λ c. search needs)  -- enum-known-request
+    (λ c κs. search needs)  -- open-requires
+    (λ c. search needs)  -- enum-known-request-2
+    (λ c κs. search needs)  -- offers-requires
+    (λ c. search needs)  -- enum-known-request-3
+    (λ c κs. search needs)  -- insert-requires
+    (λ c. search needs)  -- enum-known-request-4
+    (λ c κs. search needs)  -- remove-requires
+    (λ c. search needs)  -- enum-told
+    (λ c κs. search needs)  -- malformed-requires
+    (λ c. search needs)  -- enum-told-2
+    (λ c κs. search needs)  -- malformed-requires-2
+    (λ c. search needs)  -- enum-told-3
+    (λ c κs. search needs)  -- report-requires
+    (λ c. search needs)  -- enum-told-4
+    (λ c κs. search needs)  -- malformed-requires-3
     returns
     returns-2
     returns-3

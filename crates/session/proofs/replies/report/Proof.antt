@@ -6,27 +6,12 @@ use borrow.Author.Needs.{needs}
 use Rattle.session.proofs.replies.report.Statement.{statement}
 use Rattle.session.proofs.replies.report.Tie as tie
 
-sheet-usage-requires : tie.Need-sheet-usage-requires
-sheet-usage-requires c κs = search needs
-
-enum-known-usage : tie.Need-enum-known-usage
-enum-known-usage c = search needs
-
 float-to-bits-reported : tie.Need-float-to-bits-reported
 float-to-bits-reported c =
     let k = c .before in
     let u = k .before .before in
     let s = u .before in
     usage-bits (s .args .layout) (u .sheet-usage .ensures) (typed-sized (s .args .layout) _ (s .good .0)) (k .usage .given .1)
-
-reported-requires : tie.Need-reported-requires
-reported-requires c κs = search needs
-
-enum-known-refusal : tie.Need-enum-known-refusal
-enum-known-refusal c = search needs
-
-refused-requires : tie.Need-refused-requires
-refused-requires c κs = search needs
 
 returns : tie.Need-returns
 returns c =
@@ -45,11 +30,11 @@ pub report-spec : {M : Type 1} → statement M
 report-spec =
     tie.close
     (tie.spec
-    sheet-usage-requires
-    enum-known-usage
+    (λ c κs. search needs)  -- sheet-usage-requires
+    (λ c. search needs)  -- enum-known-usage
     float-to-bits-reported
-    reported-requires
-    enum-known-refusal
-    refused-requires
+    (λ c κs. search needs)  -- reported-requires
+    (λ c. search needs)  -- enum-known-refusal
+    (λ c κs. search needs)  -- refused-requires
     returns
     returns-2)

@@ -5,21 +5,6 @@ use borrow.Author.Needs.{needs}
 use Rattle.session.proofs.replies.restore.Statement.{statement}
 use Rattle.session.proofs.replies.restore.Tie as tie
 
-restore-requires : tie.Need-restore-requires
-restore-requires c κs = search needs
-
-enum-told : tie.Need-enum-told
-enum-told c = search needs
-
-done-requires : tie.Need-done-requires
-done-requires c κs = search needs
-
-enum-known-outcome : tie.Need-enum-known-outcome
-enum-known-outcome c = search needs
-
-refused-requires : tie.Need-refused-requires
-refused-requires c κs = search needs
-
 returns : tie.Need-returns
 returns c =
     let k = c .before in
@@ -38,10 +23,10 @@ pub restore-spec : {M : Type 1} → statement M
 restore-spec =
     tie.close
     (tie.spec
-    restore-requires
-    enum-told
-    done-requires
-    enum-known-outcome
-    refused-requires
+    (λ c κs. search needs)  -- restore-requires
+    (λ c. search needs)  -- enum-told
+    (λ c κs. search needs)  -- done-requires
+    (λ c. search needs)  -- enum-known-outcome
+    (λ c κs. search needs)  -- refused-requires
     returns
     returns-2)

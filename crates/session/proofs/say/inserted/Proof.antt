@@ -8,12 +8,6 @@ use Rattle.session.proofs.Spoken.{said, each-most}
 use Rattle.session.proofs.say.inserted.Statement.{statement}
 use Rattle.session.proofs.say.inserted.Tie as tie
 
-slice-aggregate-inserted : tie.Need-slice-aggregate-inserted
-slice-aggregate-inserted c = search needs
-
-inserted-requires : tie.Need-inserted-requires
-inserted-requires c κs = search needs
-
 returns : tie.Need-returns
 unfolding contentOf
 returns c =
@@ -22,4 +16,9 @@ returns c =
     said _ (omega (arith, s .pre, each-most markBytes 7 (λ x. refl) (n .frees) (n .count))) (c .before .inserted .ensures)
 
 pub inserted-spec : {M : Type 1} → statement M
-inserted-spec = tie.close (tie.spec slice-aggregate-inserted inserted-requires returns)
+inserted-spec =
+    tie.close
+    (tie.spec
+    (λ c. search needs)  -- slice-aggregate-inserted
+    (λ c κs. search needs)  -- inserted-requires
+    returns)

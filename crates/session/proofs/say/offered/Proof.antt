@@ -7,12 +7,6 @@ use Rattle.session.proofs.Spoken.{said, each-most}
 use Rattle.session.proofs.say.offered.Statement.{statement}
 use Rattle.session.proofs.say.offered.Tie as tie
 
-slice-aggregate-offered : tie.Need-slice-aggregate-offered
-slice-aggregate-offered c = search needs
-
-offered-requires : tie.Need-offered-requires
-offered-requires c κs = search needs
-
 returns : tie.Need-returns
 unfolding contentOf
 returns c =
@@ -21,4 +15,9 @@ returns c =
     said _ (omega (arith, s .pre, each-most offerBytes 2 (λ x. refl) (o .list) (o .count))) (c .before .offered .ensures)
 
 pub offered-spec : {M : Type 1} → statement M
-offered-spec = tie.close (tie.spec slice-aggregate-offered offered-requires returns)
+offered-spec =
+    tie.close
+    (tie.spec
+    (λ c. search needs)  -- slice-aggregate-offered
+    (λ c κs. search needs)  -- offered-requires
+    returns)

@@ -6,15 +6,14 @@ use Rattle.session.proofs.Spoken.{said}
 use Rattle.session.proofs.say.opened.Statement.{statement}
 use Rattle.session.proofs.say.opened.Tie as tie
 
-slice-aggregate-opened : tie.Need-slice-aggregate-opened
-slice-aggregate-opened c = search needs
-
-opened-requires : tie.Need-opened-requires
-opened-requires c κs = search needs
-
 returns : tie.Need-returns
 unfolding contentOf
 returns c = said _ (omega arith) (c .before .opened .ensures)
 
 pub opened-spec : {M : Type 1} → statement M
-opened-spec = tie.close (tie.spec slice-aggregate-opened opened-requires returns)
+opened-spec =
+    tie.close
+    (tie.spec
+    (λ c. search needs)  -- slice-aggregate-opened
+    (λ c κs. search needs)  -- opened-requires
+    returns)

@@ -6,15 +6,14 @@ use Rattle.session.proofs.Spoken.{said}
 use Rattle.session.proofs.say.refused.Statement.{statement}
 use Rattle.session.proofs.say.refused.Tie as tie
 
-slice-aggregate-refused : tie.Need-slice-aggregate-refused
-slice-aggregate-refused c = search needs
-
-refused-requires : tie.Need-refused-requires
-refused-requires c κs = search needs
-
 returns : tie.Need-returns
 unfolding contentOf
 returns c = said _ (omega arith) (c .before .refused .ensures)
 
 pub refused-spec : {M : Type 1} → statement M
-refused-spec = tie.close (tie.spec slice-aggregate-refused refused-requires returns)
+refused-spec =
+    tie.close
+    (tie.spec
+    (λ c. search needs)  -- slice-aggregate-refused
+    (λ c κs. search needs)  -- refused-requires
+    returns)

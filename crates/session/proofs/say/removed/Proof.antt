@@ -8,12 +8,6 @@ use Rattle.session.proofs.Spoken.{said, each-most}
 use Rattle.session.proofs.say.removed.Statement.{statement}
 use Rattle.session.proofs.say.removed.Tie as tie
 
-slice-aggregate-removed : tie.Need-slice-aggregate-removed
-slice-aggregate-removed c = search needs
-
-removed-requires : tie.Need-removed-requires
-removed-requires c κs = search needs
-
 returns : tie.Need-returns
 unfolding contentOf
 returns c =
@@ -22,4 +16,9 @@ returns c =
     said _ (omega (arith, s .pre, each-most two 2 (λ x. refl) (a .numbers .now) (a .many))) (c .before .removed .ensures)
 
 pub removed-spec : {M : Type 1} → statement M
-removed-spec = tie.close (tie.spec slice-aggregate-removed removed-requires returns)
+removed-spec =
+    tie.close
+    (tie.spec
+    (λ c. search needs)  -- slice-aggregate-removed
+    (λ c κs. search needs)  -- removed-requires
+    returns)

@@ -34,56 +34,11 @@ loop-holds c =
     let a = c .args in
     (omega arith, refl, refl, counting-none limit (a .t1) (a .last) (a .used) (a .free .now) (a .removable .now) (a .hung .now))
 
-mul-n : tie.Need-mul-n Inv-loop μ-loop
-mul-n c = search needs
-
-array-copy-out-n : tie.Need-array-copy-out-n Inv-loop μ-loop
-array-copy-out-n c = search needs
-
-mul-serial : tie.Need-mul-serial Inv-loop μ-loop
-mul-serial c = search needs
-
-element-write-serial : tie.Need-element-write-serial Inv-loop μ-loop
-element-write-serial c = search needs
-
-area-requires : tie.Need-area-requires Inv-loop μ-loop
-area-requires c κs = search needs
-
-mul-area : tie.Need-mul-area Inv-loop μ-loop
-mul-area c = search needs
-
-element-write-area : tie.Need-element-write-area Inv-loop μ-loop
-element-write-area c = search needs
-
-element-copy-out-node-ok : tie.Need-element-copy-out-node-ok Inv-loop μ-loop
-element-copy-out-node-ok c = search needs
-
-element-copy-out-node-ok-2 : tie.Need-element-copy-out-node-ok-2 Inv-loop μ-loop
-element-copy-out-node-ok-2 c = search needs
-
-element-copy-out-node-ok-3 : tie.Need-element-copy-out-node-ok-3 Inv-loop μ-loop
-element-copy-out-node-ok-3 c = search needs
-
-node-ok-requires : tie.Need-node-ok-requires Inv-loop μ-loop
-node-ok-requires c κs = search needs
-
-used-by-requires : tie.Need-used-by-requires Inv-loop μ-loop
-used-by-requires c κs = search needs
-
-held-one-requires : tie.Need-held-one-requires Inv-loop μ-loop
-held-one-requires c κs = search needs
-
 add-count : tie.Need-add-count Inv-loop μ-loop
 add-count c =
     let at-loop = c .before .before .before .before .before .before .before .before .before .before .before .before .before in
     let t = at-loop .before .args .t1 in
     omega (arith, at-loop .loop .inv .3 .counted, held-next t (at-loop .loop .i), held-most (serialsOf t) (at-loop .loop .i + 1), c .held-one .ensures)
-
-add-i : tie.Need-add-i Inv-loop μ-loop
-add-i c = search needs
-
-loop-less : tie.Need-loop-less Inv-loop μ-loop
-loop-less c = search needs
 
 loop-again : tie.Need-loop-again Inv-loop μ-loop
 loop-again c =
@@ -162,22 +117,22 @@ census-ok-spec =
     Inv-loop
     μ-loop
     loop-holds
-    mul-n
-    array-copy-out-n
-    mul-serial
-    element-write-serial
-    area-requires
-    mul-area
-    element-write-area
-    element-copy-out-node-ok
-    element-copy-out-node-ok-2
-    element-copy-out-node-ok-3
-    node-ok-requires
-    used-by-requires
-    held-one-requires
+    (λ c. search needs)  -- mul-n
+    (λ c. search needs)  -- array-copy-out-n
+    (λ c. search needs)  -- mul-serial
+    (λ c. search needs)  -- element-write-serial
+    (λ c κs. search needs)  -- area-requires
+    (λ c. search needs)  -- mul-area
+    (λ c. search needs)  -- element-write-area
+    (λ c. search needs)  -- element-copy-out-node-ok
+    (λ c. search needs)  -- element-copy-out-node-ok-2
+    (λ c. search needs)  -- element-copy-out-node-ok-3
+    (λ c κs. search needs)  -- node-ok-requires
+    (λ c κs. search needs)  -- used-by-requires
+    (λ c κs. search needs)  -- held-one-requires
     add-count
-    add-i
-    loop-less
+    (λ c. search needs)  -- add-i
+    (λ c. search needs)  -- loop-less
     loop-again
     returns
     returns-2)

@@ -5,9 +5,6 @@ use borrow.Author.Tests.{eq-eqb, ne-eqb}
 use Rattle.sound.proofs.census.flags_ok.Statement.{statement}
 use Rattle.sound.proofs.census.flags_ok.Tie as tie
 
-kind-number-requires : tie.Need-kind-number-requires
-kind-number-requires c κs = search needs
-
 returns : tie.Need-returns
 returns c = rw (eq-eqb _ _ (c .before .if1 .taken), eq-eqb _ _ (c .if2 .taken)) refl
 
@@ -53,4 +50,4 @@ returns-6 c =
 pub flags-ok-spec : {M : Type 1} → statement M
 flags-ok-spec =
     tie.close
-    (tie.spec kind-number-requires returns returns-2 returns-3 returns-4 returns-5 returns-6)
+    (tie.spec (λ c κs. search needs) returns returns-2 returns-3 returns-4 returns-5 returns-6)

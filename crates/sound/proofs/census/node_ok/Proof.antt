@@ -5,9 +5,6 @@ use Rattle.sound.specs.Census.{nodeB}
 use Rattle.sound.proofs.census.node_ok.Statement.{statement}
 use Rattle.sound.proofs.census.node_ok.Tie as tie
 
-place-ok-requires : tie.Need-place-ok-requires
-place-ok-requires c κs = search needs
-
 returns : tie.Need-returns
 unfolding nodeB
 returns c = stop-by _ (c .before .place-ok .ensures) (c .if1 .left)
@@ -17,12 +14,6 @@ unfolding nodeB
 returns-2 c =
     let c1 = c .before .before in
     pass-by (c1 .before .place-ok .ensures) (c1 .if1 .taken) (stop-gt _ (c .if2 .taken))
-
-hangs-ok-requires : tie.Need-hangs-ok-requires
-hangs-ok-requires c κs = search needs
-
-flags-ok-requires : tie.Need-flags-ok-requires
-flags-ok-requires c κs = search needs
 
 returns-3 : tie.Need-returns-3
 unfolding nodeB
@@ -48,10 +39,10 @@ pub node-ok-spec : {M : Type 1} → statement M
 node-ok-spec =
     tie.close
     (tie.spec
-    place-ok-requires
+    (λ c κs. search needs)  -- place-ok-requires
     returns
     returns-2
-    hangs-ok-requires
-    flags-ok-requires
+    (λ c κs. search needs)  -- hangs-ok-requires
+    (λ c κs. search needs)  -- flags-ok-requires
     returns-3
     returns-4)

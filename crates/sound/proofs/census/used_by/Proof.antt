@@ -5,12 +5,6 @@ use borrow.Author.Tests.{eq-eqb, ne-eqb}
 use Rattle.sound.proofs.census.used_by.Statement.{statement}
 use Rattle.sound.proofs.census.used_by.Tie as tie
 
-kind-number-requires : tie.Need-kind-number-requires
-kind-number-requires c κs = search needs
-
-area-requires : tie.Need-area-requires
-area-requires c κs = search needs
-
 returns : tie.Need-returns
 returns c =
     let k = c .before .before in
@@ -20,4 +14,10 @@ returns-2 : tie.Need-returns-2
 returns-2 c = rw (ne-eqb _ _ (λ e. c .if1 .left (c .before .kind-number .ensures ∙ e))) refl
 
 pub used-by-spec : {M : Type 1} → statement M
-used-by-spec = tie.close (tie.spec kind-number-requires area-requires returns returns-2)
+used-by-spec =
+    tie.close
+    (tie.spec
+    (λ c κs. search needs)  -- kind-number-requires
+    (λ c κs. search needs)  -- area-requires
+    returns
+    returns-2)

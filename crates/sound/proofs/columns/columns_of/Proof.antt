@@ -25,51 +25,6 @@ abbrev μ-loop : tie.MeasureT-loop
 loop-holds : tie.Need-loop-holds Inv-loop μ-loop
 loop-holds c = (omega arith, refl, refl, refl, refl, refl)
 
-mul-n : tie.Need-mul-n Inv-loop μ-loop
-mul-n c = search needs
-
-array-copy-out-n : tie.Need-array-copy-out-n Inv-loop μ-loop
-array-copy-out-n c = search needs
-
-area-requires : tie.Need-area-requires Inv-loop μ-loop
-area-requires c κs = search needs
-
-mul-area : tie.Need-mul-area Inv-loop μ-loop
-mul-area c = search needs
-
-array-write-area : tie.Need-array-write-area Inv-loop μ-loop
-array-write-area c = search needs
-
-mul-serial : tie.Need-mul-serial Inv-loop μ-loop
-mul-serial c = search needs
-
-array-write-serial : tie.Need-array-write-serial Inv-loop μ-loop
-array-write-serial c = search needs
-
-mul-first : tie.Need-mul-first Inv-loop μ-loop
-mul-first c = search needs
-
-array-write-first : tie.Need-array-write-first Inv-loop μ-loop
-array-write-first c = search needs
-
-mul-next : tie.Need-mul-next Inv-loop μ-loop
-mul-next c = search needs
-
-array-write-next : tie.Need-array-write-next Inv-loop μ-loop
-array-write-next c = search needs
-
-kind-number-requires : tie.Need-kind-number-requires Inv-loop μ-loop
-kind-number-requires c κs = search needs
-
-array-write-kind : tie.Need-array-write-kind Inv-loop μ-loop
-array-write-kind c = search needs
-
-add-i : tie.Need-add-i Inv-loop μ-loop
-add-i c = search needs
-
-loop-less : tie.Need-loop-less Inv-loop μ-loop
-loop-less c = search needs
-
 loop-again : tie.Need-loop-again Inv-loop μ-loop
 loop-again c =
     let l = c .before .before .before .before .before .before .loop in
@@ -105,20 +60,20 @@ columns-of-spec =
     Inv-loop
     μ-loop
     loop-holds
-    mul-n
-    array-copy-out-n
-    area-requires
-    mul-area
-    array-write-area
-    mul-serial
-    array-write-serial
-    mul-first
-    array-write-first
-    mul-next
-    array-write-next
-    kind-number-requires
-    array-write-kind
-    add-i
-    loop-less
+    (λ c. search needs)  -- mul-n
+    (λ c. search needs)  -- array-copy-out-n
+    (λ c κs. search needs)  -- area-requires
+    (λ c. search needs)  -- mul-area
+    (λ c. search needs)  -- array-write-area
+    (λ c. search needs)  -- mul-serial
+    (λ c. search needs)  -- array-write-serial
+    (λ c. search needs)  -- mul-first
+    (λ c. search needs)  -- array-write-first
+    (λ c. search needs)  -- mul-next
+    (λ c. search needs)  -- array-write-next
+    (λ c κs. search needs)  -- kind-number-requires
+    (λ c. search needs)  -- array-write-kind
+    (λ c. search needs)  -- add-i
+    (λ c. search needs)  -- loop-less
     loop-again
     returns)

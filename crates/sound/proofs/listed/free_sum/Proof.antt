@@ -19,15 +19,6 @@ abbrev μ-loop : tie.MeasureT-loop
 loop-holds : tie.Need-loop-holds Inv-loop μ-loop
 loop-holds c = (omega arith, sym (area-none 0 (c .args .kind .now) (c .args .area .now)))
 
-element-copy-out-if1 : tie.Need-element-copy-out-if1 Inv-loop μ-loop
-element-copy-out-if1 c = search needs
-
-mul-sum : tie.Need-mul-sum Inv-loop μ-loop
-mul-sum c = search needs
-
-element-copy-out-sum : tie.Need-element-copy-out-sum Inv-loop μ-loop
-element-copy-out-sum c = search needs
-
 add-sum : tie.Need-add-sum Inv-loop μ-loop
 add-sum c =
     let l = c .before .before .before .before .loop in
@@ -35,12 +26,6 @@ add-sum c =
     let k = s .args .kind .now in
     let a = s .args .area .now in
     omega (arith, s .pre, area-grows 0 k a limit (l .i + 1) (omega arith), area-here 0 k a (l .i) (c .before .if1 .taken))
-
-add-i : tie.Need-add-i Inv-loop μ-loop
-add-i c = search needs
-
-loop-less : tie.Need-loop-less Inv-loop μ-loop
-loop-less c = search needs
 
 loop-again : tie.Need-loop-again Inv-loop μ-loop
 loop-again c =
@@ -67,11 +52,11 @@ free-sum-spec =
     Inv-loop
     μ-loop
     loop-holds
-    element-copy-out-if1
-    mul-sum
-    element-copy-out-sum
+    (λ c. search needs)  -- element-copy-out-if1
+    (λ c. search needs)  -- mul-sum
+    (λ c. search needs)  -- element-copy-out-sum
     add-sum
-    add-i
-    loop-less
+    (λ c. search needs)  -- add-i
+    (λ c. search needs)  -- loop-less
     loop-again
     returns)

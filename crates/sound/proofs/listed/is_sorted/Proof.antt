@@ -21,24 +21,6 @@ abbrev μ-loop : tie.MeasureT-loop
 loop-holds : tie.Need-loop-holds Inv-loop μ-loop
 loop-holds c = (omega arith, every-none (orderedAt (c .args .area .now) (c .args .serial .now) (c .args .list .now) (c .args .count)))
 
-add-loop : tie.Need-add-loop Inv-loop μ-loop
-add-loop c = search needs
-
-mul-is-before : tie.Need-mul-is-before Inv-loop μ-loop
-mul-is-before c = search needs
-
-element-copy-out-is-before : tie.Need-element-copy-out-is-before Inv-loop μ-loop
-element-copy-out-is-before c = search needs
-
-add-is-before : tie.Need-add-is-before Inv-loop μ-loop
-add-is-before c = search needs
-
-mul-is-before-2 : tie.Need-mul-is-before-2 Inv-loop μ-loop
-mul-is-before-2 c = search needs
-
-element-copy-out-is-before-2 : tie.Need-element-copy-out-is-before-2 Inv-loop μ-loop
-element-copy-out-is-before-2 c = search needs
-
 is-before-requires : tie.Need-is-before-requires Inv-loop μ-loop
 is-before-requires c κs =
     let k = c .before .before .before .loop .k in
@@ -55,12 +37,6 @@ returns c =
     let here = ordered-bad (a .area .now) (a .serial .now) (a .list .now) (a .count) k (b .result) (omega arith) (b .ensures)
     (not-true (b .result) (c .if1 .taken)) in
     sym (every-fails f (a .count) k (omega arith) here)
-
-add-k : tie.Need-add-k Inv-loop μ-loop
-add-k c = search needs
-
-loop-less : tie.Need-loop-less Inv-loop μ-loop
-loop-less c = search needs
 
 loop-again : tie.Need-loop-again Inv-loop μ-loop
 loop-again c =
@@ -85,15 +61,15 @@ is-sorted-spec =
     Inv-loop
     μ-loop
     loop-holds
-    add-loop
-    mul-is-before
-    element-copy-out-is-before
-    add-is-before
-    mul-is-before-2
-    element-copy-out-is-before-2
+    (λ c. search needs)  -- add-loop
+    (λ c. search needs)  -- mul-is-before
+    (λ c. search needs)  -- element-copy-out-is-before
+    (λ c. search needs)  -- add-is-before
+    (λ c. search needs)  -- mul-is-before-2
+    (λ c. search needs)  -- element-copy-out-is-before-2
     is-before-requires
     returns
-    add-k
-    loop-less
+    (λ c. search needs)  -- add-k
+    (λ c. search needs)  -- loop-less
     loop-again
     returns-2)

@@ -4,12 +4,6 @@ use Rattle.sound.proofs.Chain.{pass-by, stop-by}
 use Rattle.sound.proofs.places.is_zero.Statement.{statement}
 use Rattle.sound.proofs.places.is_zero.Tie as tie
 
-zero-datum-requires : tie.Need-zero-datum-requires
-zero-datum-requires c κs = search needs
-
-zero-links-requires : tie.Need-zero-links-requires
-zero-links-requires c κs = search needs
-
 returns : tie.Need-returns
 returns c = pass-by (c .before .before .zero-datum .ensures) (c .before .if1 .taken) (c .zero-links .ensures)
 
@@ -17,4 +11,10 @@ returns-2 : tie.Need-returns-2
 returns-2 c = stop-by _ (c .before .zero-datum .ensures) (c .if1 .left)
 
 pub is-zero-spec : {M : Type 1} → statement M
-is-zero-spec = tie.close (tie.spec zero-datum-requires zero-links-requires returns returns-2)
+is-zero-spec =
+    tie.close
+    (tie.spec
+    (λ c κs. search needs)  -- zero-datum-requires
+    (λ c κs. search needs)  -- zero-links-requires
+    returns
+    returns-2)

@@ -6,27 +6,6 @@ use Rattle.sound.proofs.Chain.{pass-by, pass-eq, pass-le, pass-lt, stop
 use Rattle.sound.proofs.places.kind_ok.Statement.{statement}
 use Rattle.sound.proofs.places.kind_ok.Tie as tie
 
-enum-told : tie.Need-enum-told
-enum-told c = search needs
-
-is-leaf-requires : tie.Need-is-leaf-requires
-is-leaf-requires c κs = search needs
-
-enum-told-2 : tie.Need-enum-told-2
-enum-told-2 c = search needs
-
-is-leaf-requires-2 : tie.Need-is-leaf-requires-2
-is-leaf-requires-2 c κs = search needs
-
-is-sided-requires : tie.Need-is-sided-requires
-is-sided-requires c κs = search needs
-
-enum-told-3 : tie.Need-enum-told-3
-enum-told-3 c = search needs
-
-is-sided-requires-2 : tie.Need-is-sided-requires-2
-is-sided-requires-2 c κs = search needs
-
 returns : tie.Need-returns
 returns c =
     let k = c .before .before .before .before in
@@ -75,13 +54,13 @@ pub kind-ok-spec : {M : Type 1} → statement M
 kind-ok-spec =
     tie.close
     (tie.spec
-    enum-told
-    is-leaf-requires
-    enum-told-2
-    is-leaf-requires-2
-    is-sided-requires
-    enum-told-3
-    is-sided-requires-2
+    (λ c. search needs)  -- enum-told
+    (λ c κs. search needs)  -- is-leaf-requires
+    (λ c. search needs)  -- enum-told-2
+    (λ c κs. search needs)  -- is-leaf-requires-2
+    (λ c κs. search needs)  -- is-sided-requires
+    (λ c. search needs)  -- enum-told-3
+    (λ c κs. search needs)  -- is-sided-requires-2
     returns
     returns-2
     returns-3

@@ -5,12 +5,6 @@ use Rattle.sound.proofs.Chain.{when-eq, when-ne}
 use Rattle.sound.proofs.places.place_ok.Statement.{statement}
 use Rattle.sound.proofs.places.place_ok.Tie as tie
 
-is-zero-requires : tie.Need-is-zero-requires
-is-zero-requires c κs = search needs
-
-kind-ok-requires : tie.Need-kind-ok-requires
-kind-ok-requires c κs = search needs
-
 returns : tie.Need-returns
 unfolding placeB
 returns c = when-eq _ (c .before .if1 .taken) (c .is-zero .ensures)
@@ -20,4 +14,10 @@ unfolding placeB
 returns-2 c = when-ne _ (c .before .if1 .left) (c .kind-ok .ensures)
 
 pub place-ok-spec : {M : Type 1} → statement M
-place-ok-spec = tie.close (tie.spec is-zero-requires kind-ok-requires returns returns-2)
+place-ok-spec =
+    tie.close
+    (tie.spec
+    (λ c κs. search needs)  -- is-zero-requires
+    (λ c κs. search needs)  -- kind-ok-requires
+    returns
+    returns-2)

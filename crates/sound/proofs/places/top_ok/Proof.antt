@@ -14,9 +14,6 @@ returns-2 : tie.Need-returns-2
 unfolding topB
 returns-2 c = pass-ne (c .before .before .if1 .left) (stop-ne _ (c .if2 .taken))
 
-is-structure-requires : tie.Need-is-structure-requires
-is-structure-requires c κs = search needs
-
 returns-3 : tie.Need-returns-3
 unfolding topB
 returns-3 c =
@@ -107,7 +104,7 @@ top-ok-spec =
     (tie.spec
     returns
     returns-2
-    is-structure-requires
+    (λ c κs. search needs)  -- is-structure-requires
     returns-3
     returns-4
     returns-5

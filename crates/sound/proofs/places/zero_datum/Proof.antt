@@ -46,12 +46,6 @@ returns-5 c =
     (pass-eq (c4 .if4 .left)
     (stop-ne _ (c .if5 .taken)))))
 
-is-free-requires : tie.Need-is-free-requires
-is-free-requires c κs = search needs
-
-is-horizontal-requires : tie.Need-is-horizontal-requires
-is-horizontal-requires c κs = search needs
-
 returns-6 : tie.Need-returns-6
 unfolding zeroDatumB
 returns-6 c =
@@ -93,7 +87,7 @@ zero-datum-spec =
     returns-3
     returns-4
     returns-5
-    is-free-requires
-    is-horizontal-requires
+    (λ c κs. search needs)  -- is-free-requires
+    (λ c κs. search needs)  -- is-horizontal-requires
     returns-6
     returns-7)

@@ -23,15 +23,6 @@ returns-3 c =
     (pass-eq (c2 .if2 .left)
     (stop-ne _ (c .if3 .taken)))
 
-cast-level : tie.Need-cast-level
-cast-level c = search needs
-
-cast-above : tie.Need-cast-above
-cast-above c = search needs
-
-add-if4 : tie.Need-add-if4
-add-if4 c = search needs
-
 returns-4 : tie.Need-returns-4
 unfolding childB
 returns-4 c =
@@ -56,12 +47,6 @@ returns-5 c =
     (pass-eq (c4 .if4 .left)
     (stop-gt _ (c .if5 .taken)))))
 
-rotate-requires : tie.Need-rotate-requires
-rotate-requires c κs = search needs
-
-same-cut-requires : tie.Need-same-cut-requires
-same-cut-requires c κs = search needs
-
 returns-6 : tie.Need-returns-6
 unfolding childB
 returns-6 c =
@@ -78,12 +63,6 @@ returns-6 c =
     (pass-eq (c4 .if4 .left)
     (pass-le (c5 .if5 .left)
     (stop-by _ cuts (c .if6 .left))))))
-
-laid-requires : tie.Need-laid-requires
-laid-requires c κs = search needs
-
-laid-requires-2 : tie.Need-laid-requires-2
-laid-requires-2 c κs = search needs
 
 returns-7 : tie.Need-returns-7
 unfolding childB
@@ -111,14 +90,14 @@ child-ok-spec =
     returns
     returns-2
     returns-3
-    cast-level
-    cast-above
-    add-if4
+    (λ c. search needs)  -- cast-level
+    (λ c. search needs)  -- cast-above
+    (λ c. search needs)  -- add-if4
     returns-4
     returns-5
-    rotate-requires
-    same-cut-requires
+    (λ c κs. search needs)  -- rotate-requires
+    (λ c κs. search needs)  -- same-cut-requires
     returns-6
-    laid-requires
-    laid-requires-2
+    (λ c κs. search needs)  -- laid-requires
+    (λ c κs. search needs)  -- laid-requires-2
     returns-7)

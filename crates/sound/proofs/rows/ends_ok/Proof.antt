@@ -13,15 +13,16 @@ returns-2 : tie.Need-returns-2
 unfolding endB
 returns-2 c = pass-eq (c .before .before .if1 .left) (stop-ne _ (c .if2 .taken))
 
-room-of-requires : tie.Need-room-of-requires
-room-of-requires c κs = search needs
-
-cast-result : tie.Need-cast-result
-cast-result c = search needs
-
 returns-3 : tie.Need-returns-3
 unfolding endB
 returns-3 c = pass-eq (c .before .before .before .if1 .left) (pass-eq (c .before .if2 .left) (cc))
 
 pub ends-ok-spec : {M : Type 1} → statement M
-ends-ok-spec = tie.close (tie.spec returns returns-2 room-of-requires cast-result returns-3)
+ends-ok-spec =
+    tie.close
+    (tie.spec
+    returns
+    returns-2
+    (λ c κs. search needs)  -- room-of-requires
+    (λ c. search needs)  -- cast-result
+    returns-3)

@@ -4,9 +4,6 @@ use Rattle.sound.proofs.Chain.{pass-ne, stop-eq}
 use Rattle.sound.proofs.rows.is_parent.Statement.{statement}
 use Rattle.sound.proofs.rows.is_parent.Tie as tie
 
-is-structure-requires : tie.Need-is-structure-requires
-is-structure-requires c κs = search needs
-
 returns : tie.Need-returns
 returns c = stop-eq _ (c .if1 .taken)
 
@@ -14,4 +11,4 @@ returns-2 : tie.Need-returns-2
 returns-2 c = pass-ne (c .before .if1 .left) (c .is-structure .ensures)
 
 pub is-parent-spec : {M : Type 1} → statement M
-is-parent-spec = tie.close (tie.spec is-structure-requires returns returns-2)
+is-parent-spec = tie.close (tie.spec (λ c κs. search needs) returns returns-2)

@@ -41,38 +41,8 @@ abbrev μ-all : tie.MeasureT-all
 all-holds : tie.Need-all-holds Inv-loop μ-loop Inv-all μ-all
 all-holds c = (omega arith, refl, every-none _, sym (hang-none limit (c .args .t1) (c .args .hung .now)))
 
-mul-up : tie.Need-mul-up Inv-loop μ-loop Inv-all μ-all
-mul-up c = search needs
-
-array-copy-out-up : tie.Need-array-copy-out-up Inv-loop μ-loop Inv-all μ-all
-array-copy-out-up c = search needs
-
-is-parent-requires : tie.Need-is-parent-requires Inv-loop μ-loop Inv-all μ-all
-is-parent-requires c κs = search needs
-
-cast-above : tie.Need-cast-above Inv-loop μ-loop Inv-all μ-all
-cast-above c = search needs
-
 loop-holds : tie.Need-loop-holds Inv-loop μ-loop Inv-all μ-all
 loop-holds c = (omega arith, c .before .before .before .before .all .inv .1, omega arith, refl, refl)
-
-cast-here : tie.Need-cast-here Inv-loop μ-loop Inv-all μ-all
-cast-here c = search needs
-
-mul-n : tie.Need-mul-n Inv-loop μ-loop Inv-all μ-all
-mul-n c = search needs
-
-array-copy-out-n : tie.Need-array-copy-out-n Inv-loop μ-loop Inv-all μ-all
-array-copy-out-n c = search needs
-
-child-ok-requires : tie.Need-child-ok-requires Inv-loop μ-loop Inv-all μ-all
-child-ok-requires c κs = search needs
-
-step-of-requires : tie.Need-step-of-requires Inv-loop μ-loop Inv-all μ-all
-step-of-requires c κs = search needs
-
-cast-sum : tie.Need-cast-sum Inv-loop μ-loop Inv-all μ-all
-cast-sum c = search needs
 
 -- a step is left where a child is walked over
 some : (c : tie.After-step-of Inv-loop μ-loop Inv-all μ-all) → 0 < c .before .before .before .before .before .before .loop .left
@@ -80,9 +50,6 @@ some c = ltb-true 0 (c .before .before .before .before .before .before .loop .le
 
 add-sum : tie.Need-add-sum Inv-loop μ-loop Inv-all μ-all
 add-sum c = omega (arith, c .step-of .ok, some c)
-
-element-write-hung : tie.Need-element-write-hung Inv-loop μ-loop Inv-all μ-all
-element-write-hung c = search needs
 
 sub-left : tie.Need-sub-left Inv-loop μ-loop Inv-all μ-all
 sub-left c = omega (arith, some c)
@@ -108,15 +75,6 @@ loop-again c =
           ∙ l .inv .3,
       sym (hang-on limit (a .t1) (l .left) (l .p) (l .hung) h in-row) ∙ l .inv .4,
     )
-
-ends-ok-requires : tie.Need-ends-ok-requires Inv-loop μ-loop Inv-all μ-all
-ends-ok-requires c κs = search needs
-
-add-q : tie.Need-add-q Inv-loop μ-loop Inv-all μ-all
-add-q c = search needs
-
-all-less : tie.Need-all-less Inv-loop μ-loop Inv-all μ-all
-all-less c = search needs
 
 all-again : tie.Need-all-again Inv-loop μ-loop Inv-all μ-all
 all-again c =
@@ -202,25 +160,25 @@ rows-ok-spec =
     Inv-all
     μ-all
     all-holds
-    mul-up
-    array-copy-out-up
-    is-parent-requires
-    cast-above
+    (λ c. search needs)  -- mul-up
+    (λ c. search needs)  -- array-copy-out-up
+    (λ c κs. search needs)  -- is-parent-requires
+    (λ c. search needs)  -- cast-above
     loop-holds
-    cast-here
-    mul-n
-    array-copy-out-n
-    child-ok-requires
-    step-of-requires
-    cast-sum
+    (λ c. search needs)  -- cast-here
+    (λ c. search needs)  -- mul-n
+    (λ c. search needs)  -- array-copy-out-n
+    (λ c κs. search needs)  -- child-ok-requires
+    (λ c κs. search needs)  -- step-of-requires
+    (λ c. search needs)  -- cast-sum
     add-sum
-    element-write-hung
+    (λ c. search needs)  -- element-write-hung
     sub-left
     loop-less
     loop-again
-    ends-ok-requires
-    add-q
-    all-less
+    (λ c κs. search needs)  -- ends-ok-requires
+    (λ c. search needs)  -- add-q
+    (λ c. search needs)  -- all-less
     all-again
     returns
     returns-2

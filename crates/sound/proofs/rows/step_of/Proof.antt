@@ -5,11 +5,8 @@ use Rattle.piece.specs.declared.size.Size.{Size}
 use Rattle.sound.proofs.rows.step_of.Statement.{statement}
 use Rattle.sound.proofs.rows.step_of.Tie as tie
 
-laid-requires : tie.Need-laid-requires
-laid-requires c κs = search needs
-
 returns : tie.Need-returns
 returns c = ap (λ (s : Size). s .width) (c .laid .ensures)
 
 pub step-of-spec : {M : Type 1} → statement M
-step-of-spec = tie.close (tie.spec laid-requires returns)
+step-of-spec = tie.close (tie.spec (λ c κs. search needs) returns)

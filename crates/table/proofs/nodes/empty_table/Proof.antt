@@ -7,11 +7,8 @@ use Rattle.table.specs.declared.Node.{Node}
 use Rattle.table.proofs.nodes.empty_table.Statement.{statement}
 use Rattle.table.proofs.nodes.empty_table.Tie as tie
 
-no-node-requires : tie.Need-no-node-requires
-no-node-requires c κs = search needs
-
 returns : tie.Need-returns
 returns c = ap (λ (n : Node). replicate limit n) (c .no-node .ensures)
 
 pub empty-table-spec : {M : Type 1} → statement M
-empty-table-spec = tie.close (tie.spec no-node-requires returns)
+empty-table-spec = tie.close (tie.spec (λ c κs. search needs) returns)

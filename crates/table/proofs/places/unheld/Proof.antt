@@ -19,21 +19,6 @@ abbrev μ-loop : tie.MeasureT-loop
 loop-holds : tie.Need-loop-holds Inv-loop μ-loop
 loop-holds c = refl
 
-cast-at : tie.Need-cast-at Inv-loop μ-loop
-cast-at c = search needs
-
-mul-n : tie.Need-mul-n Inv-loop μ-loop
-mul-n c = search needs
-
-array-copy-out-n : tie.Need-array-copy-out-n Inv-loop μ-loop
-array-copy-out-n c = search needs
-
-add-i : tie.Need-add-i Inv-loop μ-loop
-add-i c = search needs
-
-loop-less : tie.Need-loop-less Inv-loop μ-loop
-loop-less c = search needs
-
 loop-again : tie.Need-loop-again Inv-loop μ-loop
 loop-again c =
     let l = c .before .before .before .before .loop in
@@ -59,11 +44,11 @@ unheld-spec =
     Inv-loop
     μ-loop
     loop-holds
-    cast-at
-    mul-n
-    array-copy-out-n
-    add-i
-    loop-less
+    (λ c. search needs)  -- cast-at
+    (λ c. search needs)  -- mul-n
+    (λ c. search needs)  -- array-copy-out-n
+    (λ c. search needs)  -- add-i
+    (λ c. search needs)  -- loop-less
     loop-again
     returns
     returns-2)

@@ -31,63 +31,6 @@ abbrev μ-loop : tie.MeasureT-loop
 loop-holds : tie.Need-loop-holds Inv-loop μ-loop
 loop-holds c = (omega arith, refl, refl, refl, refl, refl, refl, refl, refl)
 
-mul-n : tie.Need-mul-n Inv-loop μ-loop
-mul-n c = search needs
-
-array-copy-out-n : tie.Need-array-copy-out-n Inv-loop μ-loop
-array-copy-out-n c = search needs
-
-mul-first : tie.Need-mul-first Inv-loop μ-loop
-mul-first c = search needs
-
-array-write-first : tie.Need-array-write-first Inv-loop μ-loop
-array-write-first c = search needs
-
-mul-next : tie.Need-mul-next Inv-loop μ-loop
-mul-next c = search needs
-
-array-write-next : tie.Need-array-write-next Inv-loop μ-loop
-array-write-next c = search needs
-
-array-write-level : tie.Need-array-write-level Inv-loop μ-loop
-array-write-level c = search needs
-
-kind-no-requires : tie.Need-kind-no-requires Inv-loop μ-loop
-kind-no-requires c κs = search needs
-
-array-write-kind : tie.Need-array-write-kind Inv-loop μ-loop
-array-write-kind c = search needs
-
-cut-no-requires : tie.Need-cut-no-requires Inv-loop μ-loop
-cut-no-requires c κs = search needs
-
-array-write-cut : tie.Need-array-write-cut Inv-loop μ-loop
-array-write-cut c = search needs
-
-mul-number : tie.Need-mul-number Inv-loop μ-loop
-mul-number c = search needs
-
-array-write-number : tie.Need-array-write-number Inv-loop μ-loop
-array-write-number c = search needs
-
-mul-width : tie.Need-mul-width Inv-loop μ-loop
-mul-width c = search needs
-
-array-write-width : tie.Need-array-write-width Inv-loop μ-loop
-array-write-width c = search needs
-
-mul-height : tie.Need-mul-height Inv-loop μ-loop
-mul-height c = search needs
-
-array-write-height : tie.Need-array-write-height Inv-loop μ-loop
-array-write-height c = search needs
-
-add-i : tie.Need-add-i Inv-loop μ-loop
-add-i c = search needs
-
-loop-less : tie.Need-loop-less Inv-loop μ-loop
-loop-less c = search needs
-
 loop-again : tie.Need-loop-again Inv-loop μ-loop
 loop-again c =
     let l = c .before .before .before .before .before .before .loop in
@@ -130,24 +73,24 @@ columns-of-spec =
     Inv-loop
     μ-loop
     loop-holds
-    mul-n
-    array-copy-out-n
-    mul-first
-    array-write-first
-    mul-next
-    array-write-next
-    array-write-level
-    kind-no-requires
-    array-write-kind
-    cut-no-requires
-    array-write-cut
-    mul-number
-    array-write-number
-    mul-width
-    array-write-width
-    mul-height
-    array-write-height
-    add-i
-    loop-less
+    (λ c. search needs)  -- mul-n
+    (λ c. search needs)  -- array-copy-out-n
+    (λ c. search needs)  -- mul-first
+    (λ c. search needs)  -- array-write-first
+    (λ c. search needs)  -- mul-next
+    (λ c. search needs)  -- array-write-next
+    (λ c. search needs)  -- array-write-level
+    (λ c κs. search needs)  -- kind-no-requires
+    (λ c. search needs)  -- array-write-kind
+    (λ c κs. search needs)  -- cut-no-requires
+    (λ c. search needs)  -- array-write-cut
+    (λ c. search needs)  -- mul-number
+    (λ c. search needs)  -- array-write-number
+    (λ c. search needs)  -- mul-width
+    (λ c. search needs)  -- array-write-width
+    (λ c. search needs)  -- mul-height
+    (λ c. search needs)  -- array-write-height
+    (λ c. search needs)  -- add-i
+    (λ c. search needs)  -- loop-less
     loop-again
     returns)

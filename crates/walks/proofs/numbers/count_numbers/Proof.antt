@@ -23,12 +23,6 @@ loop-holds : tie.Need-loop-holds Inv-loop μ-loop
 unfolding entries
 loop-holds c = (omega arith, omega arith, refl)
 
-mul-c : tie.Need-mul-c Inv-loop μ-loop
-mul-c c = search needs
-
-element-copy-out-c : tie.Need-element-copy-out-c Inv-loop μ-loop
-element-copy-out-c c = search needs
-
 array-copy-out-node : tie.Need-array-copy-out-node Inv-loop μ-loop
 array-copy-out-node c = c .before .before .before .pre .1 (c .before .before .loop .i) (c .before .loop-test .taken)
 
@@ -38,9 +32,6 @@ cast-p c = omega (arith, array-copy-out-node c)
 mul-node : tie.Need-mul-node Inv-loop μ-loop
 mul-node c = omega (arith, array-copy-out-node c)
 
-count-number-requires : tie.Need-count-number-requires Inv-loop μ-loop
-count-number-requires c κs = search needs
-
 add-found : tie.Need-add-found Inv-loop μ-loop
 add-found c =
     let l = c .before .before .before .before .loop in
@@ -48,12 +39,6 @@ add-found c =
     let d = at (a .t1) (getD (a .order .now) (l .i) 0) .datum in
     let e = c .count-number .ensures in
     omega (arith, number-most d)
-
-add-i : tie.Need-add-i Inv-loop μ-loop
-add-i c = search needs
-
-loop-less : tie.Need-loop-less Inv-loop μ-loop
-loop-less c = search needs
 
 loop-again : tie.Need-loop-again Inv-loop μ-loop
 loop-again c =
@@ -77,14 +62,14 @@ count-numbers-spec =
     Inv-loop
     μ-loop
     loop-holds
-    mul-c
-    element-copy-out-c
+    (λ c. search needs)  -- mul-c
+    (λ c. search needs)  -- element-copy-out-c
     cast-p
     mul-node
     array-copy-out-node
-    count-number-requires
+    (λ c κs. search needs)  -- count-number-requires
     add-found
-    add-i
-    loop-less
+    (λ c. search needs)  -- add-i
+    (λ c. search needs)  -- loop-less
     loop-again
     returns)

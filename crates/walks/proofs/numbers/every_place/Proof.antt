@@ -23,21 +23,6 @@ loop-holds : tie.Need-loop-holds Inv-loop μ-loop
 unfolding below
 loop-holds c = (omega arith, refl, refl)
 
-cast-order : tie.Need-cast-order Inv-loop μ-loop
-cast-order c = search needs
-
-mul-order : tie.Need-mul-order Inv-loop μ-loop
-mul-order c = search needs
-
-array-write-order : tie.Need-array-write-order Inv-loop μ-loop
-array-write-order c = search needs
-
-add-i : tie.Need-add-i Inv-loop μ-loop
-add-i c = search needs
-
-loop-less : tie.Need-loop-less Inv-loop μ-loop
-loop-less c = search needs
-
 loop-again : tie.Need-loop-again Inv-loop μ-loop
 loop-again c =
     let l = c .before .loop in
@@ -60,10 +45,10 @@ every-place-spec =
     Inv-loop
     μ-loop
     loop-holds
-    cast-order
-    mul-order
-    array-write-order
-    add-i
-    loop-less
+    (λ c. search needs)  -- cast-order
+    (λ c. search needs)  -- mul-order
+    (λ c. search needs)  -- array-write-order
+    (λ c. search needs)  -- add-i
+    (λ c. search needs)  -- loop-less
     loop-again
     returns)

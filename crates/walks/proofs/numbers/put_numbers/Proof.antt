@@ -19,12 +19,6 @@ loop-holds c =
     let a = c .before .args in
     (omega arith, wrote-none (numberAt (a .t1)) (a .order .now) (a .out .now))
 
-mul-c : tie.Need-mul-c Inv-loop μ-loop
-mul-c c = search needs
-
-element-copy-out-c : tie.Need-element-copy-out-c Inv-loop μ-loop
-element-copy-out-c c = search needs
-
 array-copy-out-node : tie.Need-array-copy-out-node Inv-loop μ-loop
 array-copy-out-node c = c .before .before .before .before .pre .2 (c .before .before .loop .i) (c .before .loop-test .taken)
 
@@ -41,12 +35,6 @@ put-number-requires c κs =
     let a = s .args in
     wrote-room (numberAt (a .t1)) (a .order .now) (a .out .now) (l .i) (l .inv .1) (a .count) (c .before .before .before .loop-test .taken)
     (s .pre .1)
-
-add-i : tie.Need-add-i Inv-loop μ-loop
-add-i c = search needs
-
-loop-less : tie.Need-loop-less Inv-loop μ-loop
-loop-less c = search needs
 
 loop-again : tie.Need-loop-again Inv-loop μ-loop
 loop-again c =
@@ -74,14 +62,14 @@ put-numbers-spec =
     Inv-loop
     μ-loop
     loop-holds
-    mul-c
-    element-copy-out-c
+    (λ c. search needs)  -- mul-c
+    (λ c. search needs)  -- element-copy-out-c
     cast-p
     mul-node
     array-copy-out-node
     put-number-requires
-    add-i
-    loop-less
+    (λ c. search needs)  -- add-i
+    (λ c. search needs)  -- loop-less
     loop-again
     same-length
     returns)

@@ -8,37 +8,19 @@ use Rattle.walks.proofs.NodeBytes.{node-stored}
 use Rattle.walks.proofs.snapshot.put_node.Statement.{statement}
 use Rattle.walks.proofs.snapshot.put_node.Tie as tie
 
-slice-write-out : tie.Need-slice-write-out
-slice-write-out c = search needs
-
-add-out : tie.Need-add-out
-add-out c = search needs
-
 slice-write-out-2 : tie.Need-slice-write-out-2
 slice-write-out-2 c = simp length-set (omega arith)
-
-add-out-2 : tie.Need-add-out-2
-add-out-2 c = search needs
 
 slice-write-out-3 : tie.Need-slice-write-out-3
 slice-write-out-3 c = simp length-set (omega arith)
 
-add-put-two : tie.Need-add-put-two
-add-put-two c = search needs
-
 put-two-requires : tie.Need-put-two-requires
 put-two-requires c κs = simp length-set (omega arith)
-
-add-put-four : tie.Need-add-put-four
-add-put-four c = search needs
 
 put-four-requires : tie.Need-put-four-requires
 put-four-requires c κs =
     let e = simp (length-sets, length-set) at (ap length (c .before .before .before .put-two .ensures)) in
     omega arith
-
-add-put-four-2 : tie.Need-add-put-four-2
-add-put-four-2 c = search needs
 
 put-four-requires-2 : tie.Need-put-four-requires-2
 put-four-requires-2 c κs =
@@ -61,16 +43,16 @@ pub put-node-spec : {M : Type 1} → statement M
 put-node-spec =
     tie.close
     (tie.spec
-    slice-write-out
-    add-out
+    (λ c. search needs)  -- slice-write-out
+    (λ c. search needs)  -- add-out
     slice-write-out-2
-    add-out-2
+    (λ c. search needs)  -- add-out-2
     slice-write-out-3
-    add-put-two
+    (λ c. search needs)  -- add-put-two
     put-two-requires
-    add-put-four
+    (λ c. search needs)  -- add-put-four
     put-four-requires
-    add-put-four-2
+    (λ c. search needs)  -- add-put-four-2
     put-four-requires-2
     same-length
     returns)

@@ -7,23 +7,8 @@ use Rattle.walks.proofs.NodeBytes.{two-stored}
 use Rattle.walks.proofs.snapshot.put_two.Statement.{statement}
 use Rattle.walks.proofs.snapshot.put_two.Tie as tie
 
-cast-high : tie.Need-cast-high
-cast-high c = search needs
-
-cast-low : tie.Need-cast-low
-cast-low c = search needs
-
-slice-write-out : tie.Need-slice-write-out
-slice-write-out c = search needs
-
-add-out : tie.Need-add-out
-add-out c = search needs
-
 slice-write-out-2 : tie.Need-slice-write-out-2
 slice-write-out-2 c = simp length-set (omega arith)
-
-same-length : tie.Need-same-length
-same-length c = search needs
 
 returns : tie.Need-returns
 returns c = let a = c .args in two-stored (a .out .now) (a .at) (a .v / 256 % 256) (a .v % 256)
@@ -31,4 +16,11 @@ returns c = let a = c .args in two-stored (a .out .now) (a .at) (a .v / 256 % 25
 pub put-two-spec : {M : Type 1} → statement M
 put-two-spec =
     tie.close
-    (tie.spec cast-high cast-low slice-write-out add-out slice-write-out-2 same-length returns)
+    (tie.spec
+    (λ c. search needs)  -- cast-high
+    (λ c. search needs)  -- cast-low
+    (λ c. search needs)  -- slice-write-out
+    (λ c. search needs)  -- add-out
+    slice-write-out-2
+    (λ c. search needs)  -- same-length
+    returns)

@@ -9,27 +9,6 @@ use Rattle.booking.specs.NewNodes.{nextNode}
 use Rattle.booking.proofs.new_nodes.NewNodes.next.Statement.{statement}
 use Rattle.booking.proofs.new_nodes.NewNodes.next.Tie as tie
 
-cast-parent : tie.Need-cast-parent
-cast-parent c = search needs
-
-site-node-requires : tie.Need-site-node-requires
-site-node-requires c κs = search needs
-
-mul-up : tie.Need-mul-up
-mul-up c = search needs
-
-element-copy-out-up : tie.Need-element-copy-out-up
-element-copy-out-up c = search needs
-
-add-site-node : tie.Need-add-site-node
-add-site-node c = search needs
-
-deeper-requires : tie.Need-deeper-requires
-deeper-requires c κs = search needs
-
-site-node-requires-2 : tie.Need-site-node-requires-2
-site-node-requires-2 c κs = search needs
-
 returns : tie.Need-returns
 unfolding nextNode
 returns c =
@@ -48,12 +27,12 @@ pub next-spec : {M : Type 1} → statement M
 next-spec =
     tie.close
     (tie.spec
-    cast-parent
-    site-node-requires
-    mul-up
-    element-copy-out-up
-    add-site-node
-    deeper-requires
-    site-node-requires-2
+    (λ c. search needs)  -- cast-parent
+    (λ c κs. search needs)  -- site-node-requires
+    (λ c. search needs)  -- mul-up
+    (λ c. search needs)  -- element-copy-out-up
+    (λ c. search needs)  -- add-site-node
+    (λ c κs. search needs)  -- deeper-requires
+    (λ c κs. search needs)  -- site-node-requires-2
     returns
     returns-2)

@@ -6,15 +6,6 @@ use Rattle.layout.proofs.Booked.{book-may, insert-done, lists-may, mark
 use Rattle.layout.proofs.layout.Layout.booked.Statement.{statement}
 use Rattle.layout.proofs.layout.Layout.booked.Tie as tie
 
-size-in-requires : tie.Need-size-in-requires
-size-in-requires c κs = search needs
-
-new-count-requires : tie.Need-new-count-requires
-new-count-requires c κs = search needs
-
-layout-nodes-requires : tie.Need-layout-nodes-requires
-layout-nodes-requires c κs = search needs
-
 book-requires : tie.Need-book-requires
 book-requires c κs =
     let v = c .before .before in
@@ -29,12 +20,6 @@ sub-with-nodes c =
     let a = t .args in
     omega (arith, some-held (a .self) (a .place) (a .part) (a .rotation) (a .shape) (t .pre))
 
-add-with-nodes : tie.Need-add-with-nodes
-add-with-nodes c = search needs
-
-area-requires : tie.Need-area-requires
-area-requires c κs = search needs
-
 add-with-nodes-2 : tie.Need-add-with-nodes-2
 add-with-nodes-2 c =
     let e = c .before in
@@ -47,12 +32,6 @@ add-with-nodes-2 c =
       used-may (a .self) (a .place) (a .part) (a .rotation) (a .shape) (t .pre) (typed-numbered (a .part) _ (t .good .1 .1 .0)) (n .layout-nodes .ensures)
           (v .size-in .ensures) (e .area .ensures),
     )
-
-cast-with-nodes : tie.Need-cast-with-nodes
-cast-with-nodes c = search needs
-
-add-with-nodes-3 : tie.Need-add-with-nodes-3
-add-with-nodes-3 c = search needs
 
 with-nodes-requires : tie.Need-with-nodes-requires
 with-nodes-requires c κs =
@@ -91,16 +70,16 @@ pub booked-spec : {M : Type 1} → statement M
 booked-spec =
     tie.close
     (tie.spec
-    size-in-requires
-    new-count-requires
-    layout-nodes-requires
+    (λ c κs. search needs)  -- size-in-requires
+    (λ c κs. search needs)  -- new-count-requires
+    (λ c κs. search needs)  -- layout-nodes-requires
     book-requires
     sub-with-nodes
-    add-with-nodes
-    area-requires
+    (λ c. search needs)  -- add-with-nodes
+    (λ c κs. search needs)  -- area-requires
     add-with-nodes-2
-    cast-with-nodes
-    add-with-nodes-3
+    (λ c. search needs)  -- cast-with-nodes
+    (λ c. search needs)  -- add-with-nodes-3
     with-nodes-requires
     marks-of-requires
     returns)

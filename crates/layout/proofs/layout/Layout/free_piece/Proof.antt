@@ -11,33 +11,15 @@ use Rattle.layout.proofs.layout.Layout.free_piece.Tie as tie
 as-sought : {r x y t : Sought} → t ≡ y → t ≡ x → r ≡ onlyFree x → r ≡ onlyFree y
 as-sought f e h = h ∙ ap onlyFree (sym e ∙ f)
 
-sound-requires : tie.Need-sound-requires
-sound-requires c κs = search needs
-
 returns : tie.Need-returns
 unfolding freePieceOf
 returns c = ended-by _ (c .before .sound .ensures) (c .if1 .left) refl
-
-part-ok-requires : tie.Need-part-ok-requires
-part-ok-requires c κs = search needs
 
 returns-2 : tie.Need-returns-2
 unfolding freePieceOf
 returns-2 c =
     let c1 = c .before .before in
     onward-by _ (c1 .before .sound .ensures) (c1 .if1 .taken) (ended-by _ (c .before .part-ok .ensures) (c .if2 .left) refl)
-
-sought-requires : tie.Need-sought-requires
-sought-requires c κs = search needs
-
-enum-known-refusal : tie.Need-enum-known-refusal
-enum-known-refusal c = search needs
-
-enum-known-d : tie.Need-enum-known-d
-enum-known-d c = search needs
-
-is-free-requires : tie.Need-is-free-requires
-is-free-requires c κs = search needs
 
 returns-3 : tie.Need-returns-3
 unfolding freePieceOf
@@ -75,14 +57,14 @@ pub free-piece-spec : {M : Type 1} → statement M
 free-piece-spec =
     tie.close
     (tie.spec
-    sound-requires
+    (λ c κs. search needs)  -- sound-requires
     returns
-    part-ok-requires
+    (λ c κs. search needs)  -- part-ok-requires
     returns-2
-    sought-requires
-    enum-known-refusal
-    enum-known-d
-    is-free-requires
+    (λ c κs. search needs)  -- sought-requires
+    (λ c. search needs)  -- enum-known-refusal
+    (λ c. search needs)  -- enum-known-d
+    (λ c κs. search needs)  -- is-free-requires
     returns-3
     returns-4
     returns-5)

@@ -21,18 +21,6 @@ as-sought : {o : Option Refusal} {x y t : Sought} (l : Layout) (p : PartType) (r
     → o ≡ pieceNo l p r s x → o ≡ pieceNo l p r s y
 as-sought l p r s f e h = h ∙ ap (pieceNo l p r s) (sym e ∙ f)
 
-free-piece-requires : tie.Need-free-piece-requires
-free-piece-requires c κs = search needs
-
-enum-known-refusal : tie.Need-enum-known-refusal
-enum-known-refusal c = search needs
-
-refused-insert-requires : tie.Need-refused-insert-requires
-refused-insert-requires c κs = search needs
-
-enum-known-piece : tie.Need-enum-known-piece
-enum-known-piece c = search needs
-
 may-book-requires : tie.Need-may-book-requires
 may-book-requires c κs =
     let k = c .before in
@@ -41,15 +29,6 @@ may-book-requires c κs =
     sound-counts (a .self)
     (sound-says (a .self) (typed-sized (a .self) _ (t .before .good .0))
     (headed (a .self) (a .mark) (a .part) _ (sym (t .free-piece .ensures) ∙ k .piece .given .1) .sound))
-
-enum-known-refusal-2 : tie.Need-enum-known-refusal-2
-enum-known-refusal-2 c = search needs
-
-refused-insert-requires-2 : tie.Need-refused-insert-requires-2
-refused-insert-requires-2 c κs = search needs
-
-enum-told : tie.Need-enum-told
-enum-told c = search needs
 
 -- nothing refuses it where `may_book` says Done
 accepted : (c : tie.After-enum-told)
@@ -101,14 +80,14 @@ pub insert-spec : {M : Type 1} → statement M
 insert-spec =
     tie.close
     (tie.spec
-    free-piece-requires
-    enum-known-refusal
-    refused-insert-requires
-    enum-known-piece
+    (λ c κs. search needs)  -- free-piece-requires
+    (λ c. search needs)  -- enum-known-refusal
+    (λ c κs. search needs)  -- refused-insert-requires
+    (λ c. search needs)  -- enum-known-piece
     may-book-requires
-    enum-known-refusal-2
-    refused-insert-requires-2
-    enum-told
+    (λ c. search needs)  -- enum-known-refusal-2
+    (λ c κs. search needs)  -- refused-insert-requires-2
+    (λ c. search needs)  -- enum-told
     booked-requires
     returns
     returns-2

@@ -13,9 +13,6 @@ returns : tie.Need-returns
 unfolding goNo
 returns c = rw (eq-eqb _ 0 (c .if1 .taken))
 
-is-free-requires : tie.Need-is-free-requires
-is-free-requires c κs = search needs
-
 returns-2 : tie.Need-returns-2
 unfolding goNo
 returns-2 c = rw (ne-eqb _ 0 (c .before .before .if1 .left), sym (c .before .is-free .ensures) ∙ c .if2 .taken)
@@ -37,4 +34,4 @@ returns-4 c =
     rw (ne-eqb _ 0 (k .before .if1 .left), sym (k .is-free .ensures) ∙ c .before .before .if2 .left, le-leb _ _ left)
 
 pub may-go-spec : {M : Type 1} → statement M
-may-go-spec = tie.close (tie.spec returns is-free-requires returns-2 returns-3 returns-4)
+may-go-spec = tie.close (tie.spec returns (λ c κs. search needs) returns-2 returns-3 returns-4)

@@ -6,13 +6,10 @@ use Rattle.layout.specs.declared.replies.Outcome.the-variants.{Refused}
 use Rattle.layout.proofs.layout.Layout.refused_insert.Statement.{statement}
 use Rattle.layout.proofs.layout.Layout.refused_insert.Tie as tie
 
-no-marks-requires : tie.Need-no-marks-requires
-no-marks-requires c κs = search needs
-
 returns : tie.Need-returns
 returns c =
     let a = c .before .args in
     ap (λ (m : NewMarks). record { outcome = Refused (a .refusal); marks = m; layout = a .self }) (c .no-marks .ensures)
 
 pub refused-insert-spec : {M : Type 1} → statement M
-refused-insert-spec = tie.close (tie.spec no-marks-requires returns)
+refused-insert-spec = tie.close (tie.spec (λ c κs. search needs) returns)

@@ -32,12 +32,6 @@ allowed : (c : tie.After-enum-told)
     ≡ none
 allowed c = outcome-none _ (sym (c .before .before .may-go .ensures) ∙ c .enum-told .given .1)
 
-sound-requires : tie.Need-sound-requires
-sound-requires c κs = search needs
-
-refused-remove-requires : tie.Need-refused-remove-requires
-refused-remove-requires c κs = search needs
-
 returns : tie.Need-returns
 returns c =
     let e = c .before in
@@ -45,30 +39,6 @@ returns c =
     refused-so (a .self) (a .mark) (a .out .now)
     (not-sound (a .self) (a .mark) (length (a .out .now)) (sym (e .before .sound .ensures) ∙ e .if1 .left))
     (c .refused-remove .ensures)
-
-sought-requires : tie.Need-sought-requires
-sought-requires c κs = search needs
-
-enum-known-refusal : tie.Need-enum-known-refusal
-enum-known-refusal c = search needs
-
-refused-remove-requires-2 : tie.Need-refused-remove-requires-2
-refused-remove-requires-2 c κs = search needs
-
-enum-known-piece : tie.Need-enum-known-piece
-enum-known-piece c = search needs
-
-may-go-requires : tie.Need-may-go-requires
-may-go-requires c κs = search needs
-
-enum-known-refusal-2 : tie.Need-enum-known-refusal-2
-enum-known-refusal-2 c = search needs
-
-refused-remove-requires-3 : tie.Need-refused-remove-requires-3
-refused-remove-requires-3 c κs = search needs
-
-enum-told : tie.Need-enum-told
-enum-told c = search needs
 
 taken-out-requires : tie.Need-taken-out-requires
 taken-out-requires c κs =
@@ -99,9 +69,6 @@ returns-3 c =
     (outcome-some _ _ (sym (g .may-go .ensures) ∙ f .refusal2 .given .1)))
     (c .refused-remove3 .ensures)
 
-same-length : tie.Need-same-length
-same-length c = search needs
-
 returns-4 : tie.Need-returns-4
 returns-4 c =
     let o = c .before .before in
@@ -117,19 +84,19 @@ pub remove-spec : {M : Type 1} → statement M
 remove-spec =
     tie.close
     (tie.spec
-    sound-requires
-    refused-remove-requires
+    (λ c κs. search needs)  -- sound-requires
+    (λ c κs. search needs)  -- refused-remove-requires
     returns
-    sought-requires
-    enum-known-refusal
-    refused-remove-requires-2
-    enum-known-piece
-    may-go-requires
-    enum-known-refusal-2
-    refused-remove-requires-3
-    enum-told
+    (λ c κs. search needs)  -- sought-requires
+    (λ c. search needs)  -- enum-known-refusal
+    (λ c κs. search needs)  -- refused-remove-requires-2
+    (λ c. search needs)  -- enum-known-piece
+    (λ c κs. search needs)  -- may-go-requires
+    (λ c. search needs)  -- enum-known-refusal-2
+    (λ c κs. search needs)  -- refused-remove-requires-3
+    (λ c. search needs)  -- enum-told
     taken-out-requires
     returns-2
     returns-3
-    same-length
+    (λ c. search needs)  -- same-length
     returns-4)

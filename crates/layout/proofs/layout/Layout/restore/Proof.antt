@@ -7,23 +7,11 @@ use Rattle.layout.proofs.Ways.{onward, ended, onward-by, ended-by}
 use Rattle.layout.proofs.layout.Layout.restore.Statement.{statement}
 use Rattle.layout.proofs.layout.Layout.restore.Tie as tie
 
-sound-requires : tie.Need-sound-requires
-sound-requires c κs = search needs
-
-refused-restore-requires : tie.Need-refused-restore-requires
-refused-restore-requires c κs = search needs
-
 returns : tie.Need-returns
 unfolding restoreOf
 returns c =
     let c1 = c .before in
     ended-by _ (c1 .before .sound .ensures) (c1 .if1 .left) (c .refused-restore .ensures)
-
-sound-requires-2 : tie.Need-sound-requires-2
-sound-requires-2 c κs = search needs
-
-refused-restore-requires-2 : tie.Need-refused-restore-requires-2
-refused-restore-requires-2 c κs = search needs
 
 returns-2 : tie.Need-returns-2
 unfolding restoreOf
@@ -32,9 +20,6 @@ returns-2 c =
     let c1 = c2 .before .before in
     onward-by _ (c1 .before .sound .ensures) (c1 .if1 .taken)
     (ended-by _ (c2 .before .sound2 .ensures) (c2 .if2 .left) (c .refused-restore2 .ensures))
-
-refused-restore-requires-3 : tie.Need-refused-restore-requires-3
-refused-restore-requires-3 c κs = search needs
 
 returns-3 : tie.Need-returns-3
 unfolding restoreOf
@@ -69,13 +54,13 @@ pub restore-spec : {M : Type 1} → statement M
 restore-spec =
     tie.close
     (tie.spec
-    sound-requires
-    refused-restore-requires
+    (λ c κs. search needs)  -- sound-requires
+    (λ c κs. search needs)  -- refused-restore-requires
     returns
-    sound-requires-2
-    refused-restore-requires-2
+    (λ c κs. search needs)  -- sound-requires-2
+    (λ c κs. search needs)  -- refused-restore-requires-2
     returns-2
-    refused-restore-requires-3
+    (λ c κs. search needs)  -- refused-restore-requires-3
     returns-3
     returns-4
     returns-5)

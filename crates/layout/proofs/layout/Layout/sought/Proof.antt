@@ -17,15 +17,6 @@ unfolding soughtOf
 returns-2 c =
     onward _ (eq-eqb _ _ (c .before .if1 .left)) (onward _ (either _ (le-leb _ _ (c .if2 .taken))) refl)
 
-cast-at : tie.Need-cast-at
-cast-at c = search needs
-
-mul-n : tie.Need-mul-n
-mul-n c = search needs
-
-element-copy-out-n : tie.Need-element-copy-out-n
-element-copy-out-n c = search needs
-
 returns-3 : tie.Need-returns-3
 unfolding soughtOf
 returns-3 c =
@@ -54,4 +45,12 @@ returns-5 c =
 pub sought-spec : {M : Type 1} → statement M
 sought-spec =
     tie.close
-    (tie.spec returns returns-2 cast-at mul-n element-copy-out-n returns-3 returns-4 returns-5)
+    (tie.spec
+    returns
+    returns-2
+    (λ c. search needs)  -- cast-at
+    (λ c. search needs)  -- mul-n
+    (λ c. search needs)  -- element-copy-out-n
+    returns-3
+    returns-4
+    returns-5)

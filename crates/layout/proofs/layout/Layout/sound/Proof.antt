@@ -11,33 +11,6 @@ use Rattle.layout.proofs.Passes.{restB, serials-low, some-of, sound-is}
 use Rattle.layout.proofs.layout.Layout.sound.Statement.{statement}
 use Rattle.layout.proofs.layout.Layout.sound.Tie as tie
 
-array-copy-out-top : tie.Need-array-copy-out-top
-array-copy-out-top c = search needs
-
-cast-held : tie.Need-cast-held
-cast-held c = search needs
-
-cast-frees : tie.Need-cast-frees
-cast-frees c = search needs
-
-cast-removables : tie.Need-cast-removables
-cast-removables c = search needs
-
-flags-of-requires : tie.Need-flags-of-requires
-flags-of-requires c κs = search needs
-
-flags-of-requires-2 : tie.Need-flags-of-requires-2
-flags-of-requires-2 c κs = search needs
-
-rows-ok-requires : tie.Need-rows-ok-requires
-rows-ok-requires c κs = search needs
-
-census-ok-requires : tie.Need-census-ok-requires
-census-ok-requires c κs = search needs
-
-frame-ok-requires : tie.Need-frame-ok-requires
-frame-ok-requires c κs = search needs
-
 -- where all passes are through
 passed :
     (c : tie.After-frame-ok) →
@@ -97,15 +70,15 @@ pub sound-spec : {M : Type 1} → statement M
 sound-spec =
     tie.close
     (tie.spec
-    array-copy-out-top
-    cast-held
-    cast-frees
-    cast-removables
-    flags-of-requires
-    flags-of-requires-2
-    rows-ok-requires
-    census-ok-requires
-    frame-ok-requires
+    (λ c. search needs)  -- array-copy-out-top
+    (λ c. search needs)  -- cast-held
+    (λ c. search needs)  -- cast-frees
+    (λ c. search needs)  -- cast-removables
+    (λ c κs. search needs)  -- flags-of-requires
+    (λ c κs. search needs)  -- flags-of-requires-2
+    (λ c κs. search needs)  -- rows-ok-requires
+    (λ c κs. search needs)  -- census-ok-requires
+    (λ c κs. search needs)  -- frame-ok-requires
     rest-ok-requires
     returns
     returns-2)

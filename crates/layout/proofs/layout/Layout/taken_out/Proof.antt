@@ -10,9 +10,6 @@ use Rattle.layout.proofs.RemoveEnds.{too-short, long-enough}
 use Rattle.layout.proofs.layout.Layout.taken_out.Statement.{statement}
 use Rattle.layout.proofs.layout.Layout.taken_out.Tie as tie
 
-cast-going-with : tie.Need-cast-going-with
-cast-going-with c = search needs
-
 going-with-requires : tie.Need-going-with-requires
 going-with-requires c κs = let s = c .before .before .before in goable (s .args .self) (s .args .place) (s .pre)
 
@@ -41,9 +38,6 @@ count-is c =
     let s = g .before .before .before .before in
     c .count-numbers .ensures ∙ ap length (numbers-going (s .args .self) (s .args .place) (s .pre) (g .going-with .ensures .0))
 
-refused-remove-requires : tie.Need-refused-remove-requires
-refused-remove-requires c κs = search needs
-
 returns : tie.Need-returns
 returns c =
     let n = c .before .before in
@@ -65,9 +59,6 @@ without-requires c κs =
     let s = g .before .before .before .before in
     (s .pre, leaving g, count-is n)
 
-same-length : tie.Need-same-length
-same-length c = search needs
-
 returns-2 : tie.Need-returns-2
 returns-2 c =
     let p = c .before .before .before in
@@ -83,12 +74,12 @@ pub taken-out-spec : {M : Type 1} → statement M
 taken-out-spec =
     tie.close
     (tie.spec
-    cast-going-with
+    (λ c. search needs)  -- cast-going-with
     going-with-requires
     count-numbers-requires
-    refused-remove-requires
+    (λ c κs. search needs)  -- refused-remove-requires
     returns
     put-numbers-requires
     without-requires
-    same-length
+    (λ c. search needs)  -- same-length
     returns-2)

@@ -11,22 +11,10 @@ use Rattle.layout.proofs.TakenOut.{clearable, count-most, area-most, ar
 use Rattle.layout.proofs.layout.Layout.without.Statement.{statement}
 use Rattle.layout.proofs.layout.Layout.without.Tie as tie
 
-layout-nodes-requires : tie.Need-layout-nodes-requires
-layout-nodes-requires c κs = search needs
-
 remove-requires : tie.Need-remove-requires
 remove-requires c κs =
     let s = c .before .before in
     (s .pre .1 .room, rw (c .layout-nodes .ensures) (clearable (s .args .self) (s .args .place) (s .pre .0) (s .args .g) (s .pre .1)))
-
-add-last : tie.Need-add-last
-add-last c = search needs
-
-add-with-nodes : tie.Need-add-with-nodes
-add-with-nodes c = search needs
-
-cast-with-nodes : tie.Need-cast-with-nodes
-cast-with-nodes c = search needs
 
 sub-with-nodes : tie.Need-sub-with-nodes
 sub-with-nodes c =
@@ -88,11 +76,11 @@ pub without-spec : {M : Type 1} → statement M
 without-spec =
     tie.close
     (tie.spec
-    layout-nodes-requires
+    (λ c κs. search needs)  -- layout-nodes-requires
     remove-requires
-    add-last
-    add-with-nodes
-    cast-with-nodes
+    (λ c. search needs)  -- add-last
+    (λ c. search needs)  -- add-with-nodes
+    (λ c. search needs)  -- cast-with-nodes
     sub-with-nodes
     area-along-requires
     sub-with-nodes-2

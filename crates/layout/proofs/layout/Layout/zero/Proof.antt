@@ -5,12 +5,9 @@ use Rattle.layout.specs.Zero.{zeroLayout}
 use Rattle.layout.proofs.layout.Layout.zero.Statement.{statement}
 use Rattle.layout.proofs.layout.Layout.zero.Tie as tie
 
-zero-node-requires : tie.Need-zero-node-requires
-zero-node-requires c κs = search needs
-
 returns : tie.Need-returns
 unfolding zeroLayout
 returns c = rw (c .zero-node .ensures) refl
 
 pub zero-spec : {M : Type 1} → statement M
-zero-spec = tie.close (tie.spec zero-node-requires returns)
+zero-spec = tie.close (tie.spec (λ c κs. search needs) returns)

@@ -9,12 +9,6 @@ returns : tie.Need-returns
 unfolding add
 returns c = simp (c .if1 .taken)
 
-element-write-self : tie.Need-element-write-self
-element-write-self c = search needs
-
-add-self : tie.Need-add-self
-add-self c = search needs
-
 returns-2 : tie.Need-returns-2
 unfolding add
 returns-2 c = simp (c .before .if1 .left, lt-ltb (c .before .before .args .t1 .count) 64 (search needs))
@@ -24,4 +18,11 @@ unfolding add
 returns-3 c = simp (c .before .if1 .left, le-ltb (c .before .before .args .t1 .count) 64 (search needs))
 
 pub one-spec : {M : Type 1} → statement M
-one-spec = tie.close (tie.spec returns element-write-self add-self returns-2 returns-3)
+one-spec =
+    tie.close
+    (tie.spec
+    returns
+    (λ c. search needs)  -- element-write-self
+    (λ c. search needs)  -- add-self
+    returns-2
+    returns-3)

@@ -22,18 +22,6 @@ returns c =
     let l = c .before .before .loop in
     sym (adds-over (l .p) _ (c .if1 .taken)) ∙ l .inv
 
-shared-slice-read-one : tie.Need-shared-slice-read-one Inv-loop μ-loop
-shared-slice-read-one c = search needs
-
-one-requires : tie.Need-one-requires Inv-loop μ-loop
-one-requires c κs = search needs
-
-add-i : tie.Need-add-i Inv-loop μ-loop
-add-i c = search needs
-
-loop-less : tie.Need-loop-less Inv-loop μ-loop
-loop-less c = search needs
-
 loop-again : tie.Need-loop-again Inv-loop μ-loop
 loop-again c =
     let l = c .before .before .before .before .loop in
@@ -52,9 +40,9 @@ some-spec =
     μ-loop
     loop-holds
     returns
-    shared-slice-read-one
-    one-requires
-    add-i
-    loop-less
+    (λ c. search needs)  -- shared-slice-read-one
+    (λ c κs. search needs)  -- one-requires
+    (λ c. search needs)  -- add-i
+    (λ c. search needs)  -- loop-less
     loop-again
     returns-2)

@@ -7,22 +7,10 @@ use borrow.Author.Needs.{needs}
 use Rattle.lines.proofs.stream.Pending.take.Statement.{statement}
 use Rattle.lines.proofs.stream.Pending.take.Tie as tie
 
-read-requires : tie.Need-read-requires
-read-requires c κs = search needs
-
-some-requires : tie.Need-some-requires
-some-requires c κs = search needs
-
-after-requires : tie.Need-after-requires
-after-requires c κs = search needs
-
 sub-if1 : tie.Need-sub-if1
 sub-if1 c =
     let a = c .before .before .before .before .args in
     omega (arith, c .after .ensures, at-past (a .chunk .now) (a .at))
-
-step-requires : tie.Need-step-requires
-step-requires c κs = search needs
 
 returns : tie.Need-returns
 returns c =
@@ -43,9 +31,6 @@ returns c =
     (n .after .ensures)
     (c .before .if1 .taken)
 
-step-requires-2 : tie.Need-step-requires-2
-step-requires-2 c κs = search needs
-
 returns-2 : tie.Need-returns-2
 returns-2 c =
     let n = c .before .before .before in
@@ -65,9 +50,6 @@ returns-2 c =
     (n .after .ensures)
     (c .before .before .if1 .left)
     (c .before .if2 .taken)
-
-step-requires-3 : tie.Need-step-requires-3
-step-requires-3 c κs = search needs
 
 returns-3 : tie.Need-returns-3
 returns-3 c =
@@ -93,13 +75,13 @@ pub take-spec : {M : Type 1} → statement M
 take-spec =
     tie.close
     (tie.spec
-    read-requires
-    some-requires
-    after-requires
+    (λ c κs. search needs)  -- read-requires
+    (λ c κs. search needs)  -- some-requires
+    (λ c κs. search needs)  -- after-requires
     sub-if1
-    step-requires
+    (λ c κs. search needs)  -- step-requires
     returns
-    step-requires-2
+    (λ c κs. search needs)  -- step-requires-2
     returns-2
-    step-requires-3
+    (λ c κs. search needs)  -- step-requires-3
     returns-3)

@@ -10,9 +10,6 @@ use Rattle.piece.specs.Offers.{shapes}
 use Rattle.piece.proofs.insertion_option.OfferList.with_shapes.Statement.{statement}
 use Rattle.piece.proofs.insertion_option.OfferList.with_shapes.Tie as tie
 
-with-requires : tie.Need-with-requires
-with-requires c κs = search needs
-
 returns : tie.Need-returns
 unfolding shapes
 returns c = c .with .ensures ∙ simp (c .before .if1 .taken)
@@ -28,20 +25,11 @@ returns-2 c =
       and-false (a .across),
     )
 
-with-requires-2 : tie.Need-with-requires-2
-with-requires-2 c κs = search needs
-
 returns-3 : tie.Need-returns-3
 unfolding shapes
 returns-3 c =
     c .with2 .ensures
     ∙ simp (c .before .before .before .if1 .left, lt-ltb _ _ (c .before .before .if2 .left), c .before .if3 .taken)
-
-with-requires-3 : tie.Need-with-requires-3
-with-requires-3 c κs = search needs
-
-sub-if4 : tie.Need-sub-if4
-sub-if4 c = search needs
 
 returns-4 : tie.Need-returns-4
 unfolding shapes
@@ -75,13 +63,13 @@ pub with-shapes-spec : {M : Type 1} → statement M
 with-shapes-spec =
     tie.close
     (tie.spec
-    with-requires
+    (λ c κs. search needs)  -- with-requires
     returns
     returns-2
-    with-requires-2
+    (λ c κs. search needs)  -- with-requires-2
     returns-3
-    with-requires-3
-    sub-if4
+    (λ c κs. search needs)  -- with-requires-3
+    (λ c. search needs)  -- sub-if4
     returns-4
     with-requires-4
     returns-5)

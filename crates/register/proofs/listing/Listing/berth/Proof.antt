@@ -16,28 +16,10 @@ Inv-loop areas place list count area i₀ i = Searching (smallerIn (areaAt areas
 abbrev μ-loop : tie.MeasureT-loop
 μ-loop areas place list count area i₀ i = count - i
 
-area-at-requires : tie.Need-area-at-requires Inv-loop μ-loop
-area-at-requires c κs = search needs
-
 loop-holds : tie.Need-loop-holds Inv-loop μ-loop
 loop-holds c =
     let a = c .before .before .args in
     search-start (smallerIn (areaAt (a .areas .now)) (a .self .list) (c .area-at .result)) (a .self .count)
-
-mul-area-at : tie.Need-mul-area-at Inv-loop μ-loop
-mul-area-at c = search needs
-
-array-read-area-at : tie.Need-array-read-area-at Inv-loop μ-loop
-array-read-area-at c = search needs
-
-area-at-requires-2 : tie.Need-area-at-requires-2 Inv-loop μ-loop
-area-at-requires-2 c κs = search needs
-
-add-i : tie.Need-add-i Inv-loop μ-loop
-add-i c = search needs
-
-loop-less : tie.Need-loop-less Inv-loop μ-loop
-loop-less c = search needs
 
 loop-again : tie.Need-loop-again Inv-loop μ-loop
 loop-again c =
@@ -74,13 +56,13 @@ berth-spec =
     (tie.spec
     Inv-loop
     μ-loop
-    area-at-requires
+    (λ c κs. search needs)  -- area-at-requires
     loop-holds
-    mul-area-at
-    array-read-area-at
-    area-at-requires-2
-    add-i
-    loop-less
+    (λ c. search needs)  -- mul-area-at
+    (λ c. search needs)  -- array-read-area-at
+    (λ c κs. search needs)  -- area-at-requires-2
+    (λ c. search needs)  -- add-i
+    (λ c. search needs)  -- loop-less
     loop-again
     returns
     returns-2)

@@ -4,15 +4,6 @@ use Rattle.register.proofs.Listed.{cut-none, cut-one}
 use Rattle.register.proofs.listing.Listing.cut.Statement.{statement}
 use Rattle.register.proofs.listing.Listing.cut.Tie as tie
 
-index-of-requires : tie.Need-index-of-requires
-index-of-requires c κs = search needs
-
-sub-last : tie.Need-sub-last
-sub-last c = search needs
-
-delete-at-requires : tie.Need-delete-at-requires
-delete-at-requires c κs = search needs
-
 returns : tie.Need-returns
 returns c =
     let s = c .before .before .before .before .before .before in
@@ -24,4 +15,11 @@ returns-2 c =
     cut-none (s .pre) (s .args .place) (c .before .index-of .ensures) (c .if1 .left)
 
 pub cut-spec : {M : Type 1} → statement M
-cut-spec = tie.close (tie.spec index-of-requires sub-last delete-at-requires returns returns-2)
+cut-spec =
+    tie.close
+    (tie.spec
+    (λ c κs. search needs)  -- index-of-requires
+    (λ c. search needs)  -- sub-last
+    (λ c κs. search needs)  -- delete-at-requires
+    returns
+    returns-2)

@@ -33,20 +33,8 @@ module _ (c : tie.In-loop Inv-loop μ-loop) where
       let s = c .before .before .before .before in
       passed-room (s .args .order .now) (s .args .count) (s .pre .0) (s .pre .2) (l .i) (c .loop-test .taken) (l .inv .1)
 
-spots-of-requires : tie.Need-spots-of-requires Inv-loop μ-loop
-spots-of-requires c κs = search needs
-
 loop-holds : tie.Need-loop-holds Inv-loop μ-loop
 loop-holds c = let a = c .before .before .args in (omega arith, passed-none (a .order .now) (a .count) (entriesOf (a .self)))
-
-mul-place : tie.Need-mul-place Inv-loop μ-loop
-mul-place c = search needs
-
-array-read-place : tie.Need-array-read-place Inv-loop μ-loop
-array-read-place c = search needs
-
-wide-requires : tie.Need-wide-requires Inv-loop μ-loop
-wide-requires c κs = search needs
 
 mul-if1 : tie.Need-mul-if1 Inv-loop μ-loop
 mul-if1 c = omega (arith, place-low (c .before), c .wide .ensures)
@@ -62,12 +50,6 @@ array-write-list c = omega (arith, room (c .before .before))
 
 add-kept : tie.Need-add-kept Inv-loop μ-loop
 add-kept c = omega (arith, room (c .before .before))
-
-add-i : tie.Need-add-i Inv-loop μ-loop
-add-i c = search needs
-
-loop-less : tie.Need-loop-less Inv-loop μ-loop
-loop-less c = search needs
 
 loop-again : tie.Need-loop-again Inv-loop μ-loop
 loop-again c =
@@ -100,17 +82,17 @@ cut-all-spec =
     (tie.spec
     Inv-loop
     μ-loop
-    spots-of-requires
+    (λ c κs. search needs)  -- spots-of-requires
     loop-holds
-    mul-place
-    array-read-place
-    wide-requires
+    (λ c. search needs)  -- mul-place
+    (λ c. search needs)  -- array-read-place
+    (λ c κs. search needs)  -- wide-requires
     mul-if1
     array-read-if1
     mul-list
     array-write-list
     add-kept
-    add-i
-    loop-less
+    (λ c. search needs)  -- add-i
+    (λ c. search needs)  -- loop-less
     loop-again
     returns)

@@ -6,9 +6,6 @@ use Rattle.register.proofs.Listed.{length-entries, berth-most, put-one}
 use Rattle.register.proofs.listing.Listing.put.Statement.{statement}
 use Rattle.register.proofs.listing.Listing.put.Tie as tie
 
-berth-requires : tie.Need-berth-requires
-berth-requires c κs = search needs
-
 insert-at-requires : tie.Need-insert-at-requires
 insert-at-requires c κs =
     let s = c .before .before .before in
@@ -17,9 +14,6 @@ insert-at-requires c κs =
     let m = berth-most (areaAt (s .args .areas .now)) (entriesOf (s .args .self)) (s .args .place) in
     (omega arith, s .pre .1)
 
-add-t10 : tie.Need-add-t10
-add-t10 c = search needs
-
 returns : tie.Need-returns
 returns c =
     let s = c .before .before .before .before in
@@ -27,4 +21,10 @@ returns c =
     put-one (s .pre .0) (s .args .place) (areaAt (s .args .areas .now)) (b .ensures) (s .pre .1) (c .insert-at .ensures)
 
 pub put-spec : {M : Type 1} → statement M
-put-spec = tie.close (tie.spec berth-requires insert-at-requires add-t10 returns)
+put-spec =
+    tie.close
+    (tie.spec
+    (λ c κs. search needs)  -- berth-requires
+    insert-at-requires
+    (λ c. search needs)  -- add-t10
+    returns)

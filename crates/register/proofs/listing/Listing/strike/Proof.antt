@@ -4,15 +4,6 @@ use Rattle.register.proofs.Listed.{strike-none, strike-one}
 use Rattle.register.proofs.listing.Listing.strike.Statement.{statement}
 use Rattle.register.proofs.listing.Listing.strike.Tie as tie
 
-index-of-requires : tie.Need-index-of-requires
-index-of-requires c κs = search needs
-
-sub-last : tie.Need-sub-last
-sub-last c = search needs
-
-swap-out-requires : tie.Need-swap-out-requires
-swap-out-requires c κs = search needs
-
 returns : tie.Need-returns
 returns c =
     let s = c .before .before .before .before .before .before in
@@ -24,4 +15,11 @@ returns-2 c =
     strike-none (s .pre) (s .args .place) (c .before .index-of .ensures) (c .if1 .left)
 
 pub strike-spec : {M : Type 1} → statement M
-strike-spec = tie.close (tie.spec index-of-requires sub-last swap-out-requires returns returns-2)
+strike-spec =
+    tie.close
+    (tie.spec
+    (λ c κs. search needs)  -- index-of-requires
+    (λ c. search needs)  -- sub-last
+    (λ c κs. search needs)  -- swap-out-requires
+    returns
+    returns-2)

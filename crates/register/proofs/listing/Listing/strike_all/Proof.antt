@@ -29,34 +29,19 @@ final-low c =
     let l = c .before .before .before .before .before .before .before .loop in
     rw (c .wide .ensures) (l .inv .1 .spotted .low (l .n - 1) (omega arith))
 
-spots-of-requires : tie.Need-spots-of-requires Inv-loop μ-loop
-spots-of-requires c κs = search needs
-
 loop-holds : tie.Need-loop-holds Inv-loop μ-loop
 loop-holds c =
     let s = c .before .before .before in
     (omega arith, struck-start (s .args .order .now) (s .pre .0) (s .pre .2) (c .spots-of .ensures))
 
-mul-spot-in : tie.Need-mul-spot-in Inv-loop μ-loop
-mul-spot-in c = search needs
-
-element-copy-out-spot-in : tie.Need-element-copy-out-spot-in Inv-loop μ-loop
-element-copy-out-spot-in c = search needs
-
 spot-in-requires : tie.Need-spot-in-requires Inv-loop μ-loop
 spot-in-requires c κs = let w = c .before .before .before .before .loop .inv .1 in (w .left .kept .room, w .spotted)
-
-sub-last : tie.Need-sub-last Inv-loop μ-loop
-sub-last c = search needs
 
 mul-wide : tie.Need-mul-wide Inv-loop μ-loop
 mul-wide c = omega (arith, room c)
 
 array-read-wide : tie.Need-array-read-wide Inv-loop μ-loop
 array-read-wide c = omega (arith, room c)
-
-wide-requires : tie.Need-wide-requires Inv-loop μ-loop
-wide-requires c κs = search needs
 
 mul-spots : tie.Need-mul-spots Inv-loop μ-loop
 mul-spots c = omega (arith, final-low c)
@@ -66,12 +51,6 @@ array-write-spots c = final-low c
 
 swap-out-requires : tie.Need-swap-out-requires Inv-loop μ-loop
 swap-out-requires c κs = let t = c .before .before in (t .if1 .taken, room t)
-
-add-i : tie.Need-add-i Inv-loop μ-loop
-add-i c = search needs
-
-loop-less : tie.Need-loop-less Inv-loop μ-loop
-loop-less c = search needs
 
 loop-again : tie.Need-loop-again Inv-loop μ-loop
 loop-again c =
@@ -97,19 +76,19 @@ strike-all-spec =
     (tie.spec
     Inv-loop
     μ-loop
-    spots-of-requires
+    (λ c κs. search needs)  -- spots-of-requires
     loop-holds
-    mul-spot-in
-    element-copy-out-spot-in
+    (λ c. search needs)  -- mul-spot-in
+    (λ c. search needs)  -- element-copy-out-spot-in
     spot-in-requires
-    sub-last
+    (λ c. search needs)  -- sub-last
     mul-wide
     array-read-wide
-    wide-requires
+    (λ c κs. search needs)  -- wide-requires
     mul-spots
     array-write-spots
     swap-out-requires
-    add-i
-    loop-less
+    (λ c. search needs)  -- add-i
+    (λ c. search needs)  -- loop-less
     loop-again
     returns)

@@ -4,21 +4,6 @@ use borrow.Author.Needs.{needs}
 use Rattle.session.proofs.desk.Desk.end.Statement.{statement}
 use Rattle.session.proofs.desk.Desk.end.Tie as tie
 
-cut-requires : tie.Need-cut-requires
-cut-requires c κs = search needs
-
-malformed-requires : tie.Need-malformed-requires
-malformed-requires c κs = search needs
-
-answered-requires : tie.Need-answered-requires
-answered-requires c κs = search needs
-
-none-requires : tie.Need-none-requires
-none-requires c κs = search needs
-
-unanswered-requires : tie.Need-unanswered-requires
-unanswered-requires c κs = search needs
-
 returns : tie.Need-returns
 returns c =
     let t = c .before .before in
@@ -35,10 +20,10 @@ pub end-spec : {M : Type 1} → statement M
 end-spec =
     tie.close
     (tie.spec
-    cut-requires
-    malformed-requires
-    answered-requires
-    none-requires
-    unanswered-requires
+    (λ c κs. search needs)  -- cut-requires
+    (λ c κs. search needs)  -- malformed-requires
+    (λ c κs. search needs)  -- answered-requires
+    (λ c κs. search needs)  -- none-requires
+    (λ c κs. search needs)  -- unanswered-requires
     returns
     returns-2)

@@ -4,14 +4,13 @@ use borrow.Author.Needs.{needs}
 use Rattle.session.proofs.desk.Desk.start.Statement.{statement}
 use Rattle.session.proofs.desk.Desk.start.Tie as tie
 
-start-requires : tie.Need-start-requires
-start-requires c κs = search needs
-
-none-requires : tie.Need-none-requires
-none-requires c κs = search needs
-
 returns : tie.Need-returns
 returns c = rw (c .before .start .ensures, c .none .ensures) refl
 
 pub start-spec : {M : Type 1} → statement M
-start-spec = tie.close (tie.spec start-requires none-requires returns)
+start-spec =
+    tie.close
+    (tie.spec
+    (λ c κs. search needs)  -- start-requires
+    (λ c κs. search needs)  -- none-requires
+    returns)

@@ -4,33 +4,6 @@ use borrow.Author.Needs.{needs}
 use Rattle.session.proofs.desk.Desk.turn.Statement.{statement}
 use Rattle.session.proofs.desk.Desk.turn.Tie as tie
 
-take-requires : tie.Need-take-requires
-take-requires c κs = search needs
-
-enum-told : tie.Need-enum-told
-enum-told c = search needs
-
-answer-requires : tie.Need-answer-requires
-answer-requires c κs = search needs
-
-answered-requires : tie.Need-answered-requires
-answered-requires c κs = search needs
-
-enum-told-2 : tie.Need-enum-told-2
-enum-told-2 c = search needs
-
-malformed-requires : tie.Need-malformed-requires
-malformed-requires c κs = search needs
-
-answered-requires-2 : tie.Need-answered-requires-2
-answered-requires-2 c κs = search needs
-
-enum-told-3 : tie.Need-enum-told-3
-enum-told-3 c = search needs
-
-unanswered-requires : tie.Need-unanswered-requires
-unanswered-requires c κs = search needs
-
 returns : tie.Need-returns
 returns c =
     let k = c .before .before in
@@ -57,15 +30,15 @@ pub turn-spec : {M : Type 1} → statement M
 turn-spec =
     tie.close
     (tie.spec
-    take-requires
-    enum-told
-    answer-requires
-    answered-requires
-    enum-told-2
-    malformed-requires
-    answered-requires-2
-    enum-told-3
-    unanswered-requires
+    (λ c κs. search needs)  -- take-requires
+    (λ c. search needs)  -- enum-told
+    (λ c κs. search needs)  -- answer-requires
+    (λ c κs. search needs)  -- answered-requires
+    (λ c. search needs)  -- enum-told-2
+    (λ c κs. search needs)  -- malformed-requires
+    (λ c κs. search needs)  -- answered-requires-2
+    (λ c. search needs)  -- enum-told-3
+    (λ c κs. search needs)  -- unanswered-requires
     returns
     returns-2
     returns-3)
