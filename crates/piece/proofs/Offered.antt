@@ -9,6 +9,7 @@ use lib.ListN.{length, take, getD, length-append}
 use Rattle.piece.specs.declared.rotation.Rotation.{Rotation}
 use Rattle.piece.specs.declared.rotation.Rotation.the-variants.{Default, Rotated}
 use Rattle.piece.specs.declared.parttype.PartType.{PartType}
+use Rattle.piece.specs.declared.settings.Settings.{Settings}
 use Rattle.piece.specs.declared.node.Datum.{Datum}
 use Rattle.piece.specs.declared.insertion_blueprint.InsertionShape.{InsertionShape}
 use Rattle.piece.specs.declared.insertion_option.Offer.{Offer}
@@ -35,16 +36,16 @@ in-rotation-length r [] = refl
 in-rotation-length r (s ∷ ss) = ap suc (in-rotation-length r ss)
 
 -- one rotation has at most two offers
-pub offers-in-few : (piece : Datum) (part : PartType) (stages : ℕ) (r : Rotation) → length (offersIn piece part stages r) ≤ 2
+pub offers-in-few : (piece : Datum) (part : PartType) (settings : Settings) (r : Rotation) → length (offersIn piece part settings r) ≤ 2
 unfolding offersIn
-offers-in-few piece part stages r = search (needs, either, in-rotation-length, shapes-few)
+offers-in-few piece part settings r = search (needs, either, in-rotation-length, shapes-few)
 
 -- and a part at most four
-pub offers-few : (piece : Datum) (part : PartType) (stages : ℕ) → length (offersOf piece part stages) ≤ 4
+pub offers-few : (piece : Datum) (part : PartType) (settings : Settings) → length (offersOf piece part settings) ≤ 4
 unfolding offersOf
-offers-few piece part stages =
+offers-few piece part settings =
     simp length-append
-    (omega (arith, offers-in-few piece part stages Default, offers-in-few piece part stages Rotated))
+    (omega (arith, offers-in-few piece part settings Default, offers-in-few piece part settings Rotated))
 
 -- the count is the number of offers
 pub held-count : (l : List Offer) → held l .count ≡ length l
@@ -76,14 +77,14 @@ held-more l (x ∷ xs) h =
     rw (one-more l x (omega arith), held-more (l ++ x ∷ []) xs (simp length-append (omega arith)), append-assoc) refl
 
 -- what the code holds after one rotation, and after another
-module _ (piece : Datum) (part : PartType) (stages : ℕ) (r : Rotation) where
-  pub one-rotation : withOffers noOffers (offersIn piece part stages r) ≡ held (offersIn piece part stages r)
+module _ (piece : Datum) (part : PartType) (settings : Settings) (r : Rotation) where
+  pub one-rotation : withOffers noOffers (offersIn piece part settings r) ≡ held (offersIn piece part settings r)
   unfolding held
-  one-rotation = held-more [] (offersIn piece part stages r) (omega (arith, offers-in-few piece part stages r))
+  one-rotation = held-more [] (offersIn piece part settings r) (omega (arith, offers-in-few piece part settings r))
 
   pub two-rotations : (q : Rotation) →
-      withOffers (held (offersIn piece part stages r)) (offersIn piece part stages q)
-      ≡ held (offersIn piece part stages r ++ offersIn piece part stages q)
+      withOffers (held (offersIn piece part settings r)) (offersIn piece part settings q)
+      ≡ held (offersIn piece part settings r ++ offersIn piece part settings q)
   two-rotations q =
-      held-more (offersIn piece part stages r) (offersIn piece part stages q)
-      (omega (arith, offers-in-few piece part stages r, offers-in-few piece part stages q))
+      held-more (offersIn piece part settings r) (offersIn piece part settings q)
+      (omega (arith, offers-in-few piece part settings r, offers-in-few piece part settings q))

@@ -11,6 +11,7 @@ use Rattle.piece.specs.declared.parttype.Turn.{Turn}
 use Rattle.piece.specs.declared.parttype.Turn.the-variants.{Either, Fixed}
 use Rattle.piece.specs.declared.parttype.PartType.{PartType}
 use Rattle.piece.specs.declared.size.Size.{Size}
+use Rattle.piece.specs.declared.settings.Settings.{Settings}
 use Rattle.piece.specs.declared.node.Datum.{Datum}
 use Rattle.piece.specs.declared.insertion_blueprint.InsertionShape.{InsertionShape}
 use Rattle.piece.specs.declared.insertion_blueprint.InsertionShape.the-variants.{AlongCurrentCut, AcrossCurrentCut, AlongThenAcross, AcrossThenAlong}
@@ -64,16 +65,16 @@ inRotation r [] = []
 inRotation r (s ∷ ss) = offer r s ∷ inRotation r ss
 
 -- the offers of one rotation
-unfoldable pub offersIn : Datum → PartType → ℕ → Rotation → List Offer
-offersIn piece part stages r =
+unfoldable pub offersIn : Datum → PartType → Settings → Rotation → List Offer
+offersIn piece part settings r =
     let p = turned r (part .size) in
     cond (allowed (part .turn) r && fits (piece .size) p)
-    (inRotation r (shapes (along (piece .cut) (piece .size) p) (across (piece .cut) (piece .size) p) (piece .level) stages))
+    (inRotation r (shapes (along (piece .cut) (piece .size) p) (across (piece .cut) (piece .size) p) (piece .level) (settings .stages)))
     []
 
 -- "Rotations come Default first, then Rotated"
-unfoldable pub offersOf : Datum → PartType → ℕ → List Offer
-offersOf piece part stages = offersIn piece part stages Default ++ offersIn piece part stages Rotated
+unfoldable pub offersOf : Datum → PartType → Settings → List Offer
+offersOf piece part settings = offersIn piece part settings Default ++ offersIn piece part settings Rotated
 
 -- the list as the code holds it: four entries and a count; past the count stands the zero entry
 abbrev pub noOffer : Offer

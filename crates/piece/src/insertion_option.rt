@@ -9,6 +9,7 @@ use crate::node::fits_along;
 use crate::node::insertion_possible;
 use crate::parttype::PartType;
 use crate::rotation::Rotation;
+use crate::settings::Settings;
 
 pub struct Offer {
     pub rotation: Rotation,
@@ -78,11 +79,11 @@ impl OfferList {
         self,
         piece: Datum,
         part: PartType,
-        stages: u8,
+        settings: Settings,
         rotation: Rotation,
     ) -> OfferList
         requires { ⌜ self .count ≤ 2 ⌝ }
-        ensures { λ r. ⌜ r ≡ withOffers self (offersIn piece part stages rotation) ⌝ }
+        ensures { λ r. ⌜ r ≡ withOffers self (offersIn piece part settings rotation) ⌝ }
     {
         if part.allows(rotation) {} else {
             return self;
@@ -95,14 +96,14 @@ impl OfferList {
         }
         let along = fits_along(cut, whole, size);
         let across = fits_across(cut, whole, size);
-        self.with_shapes(rotation, along, across, piece.level, stages)
+        self.with_shapes(rotation, along, across, piece.level, settings.stages)
     }
 }
 
 // What a free piece offers for a part, Default before Rotated.
-pub fn offers(piece: Datum, part: PartType, stages: u8) -> OfferList
-    ensures { λ r. ⌜ r ≡ held (offersOf piece part stages) ⌝ }
+pub fn offers(piece: Datum, part: PartType, settings: Settings) -> OfferList
+    ensures { λ r. ⌜ r ≡ held (offersOf piece part settings) ⌝ }
 {
-    let first = OfferList::none().with_rotation(piece, part, stages, Rotation::Default);
-    first.with_rotation(piece, part, stages, Rotation::Rotated)
+    let first = OfferList::none().with_rotation(piece, part, settings, Rotation::Default);
+    first.with_rotation(piece, part, settings, Rotation::Rotated)
 }
