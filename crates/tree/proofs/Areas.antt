@@ -11,6 +11,7 @@ use Rattle.piece.specs.declared.size.Size.{Size}
 use Rattle.piece.specs.declared.node.Datum.{Datum}
 use Rattle.piece.specs.declared.node.Kind.{Kind}
 use Rattle.piece.specs.declared.node.Kind.the-variants.{Free, Part, Structure}
+use Rattle.piece.specs.declared.settings.Settings.{Settings}
 use Rattle.piece.specs.Sides.{other, laid, area}
 use Rattle.piece.specs.Row.{nil, grow}
 use Rattle.tree.specs.Tree.{Tree, isFree, isPart}
@@ -28,19 +29,19 @@ rowArea nil = 0
 rowArea (grow p d k r) = area (d .size) + rowArea r
 
 -- a row of children is as wide as its pieces together and as high as their parent
-pub row-area : (stages : ℕ) (q : Datum) (r : Tree) → Children stages q r
+pub row-area : (settings : Settings) (q : Datum) (r : Tree) → Children settings q r
     → rowArea r ≡ extent (other (q .cut)) r * laid (other (q .cut)) (q .size) .height
-row-area stages q nil h = omega arith
-row-area stages q (grow p d k r) h =
+row-area settings q nil h = omega arith
+row-area settings q (grow p d k r) h =
     let c = other (q .cut) in
     let side : laid c (d .size) .height ≡ laid c (q .size) .height = rw (h .0 .cut) at (h .0 .side) in
     let here : laid c (d .size) .width * laid c (q .size) .height ≡ area (d .size) = rw side at (area-laid c (d .size)) in
-    let rest = row-area stages q r (h .3) in
+    let rest = row-area settings q r (h .3) in
     omega arith
 
 -- the children of a structure fill it
-pub filled-area : (stages : ℕ) (d : Datum) (k : Tree) → StructurePiece d k → Children stages d k → rowArea k ≡ area (d .size)
-filled-area stages d k s h = rw (row-area stages d k h, s .filled) (area-laid (other (d .cut)) (d .size))
+pub filled-area : (settings : Settings) (d : Datum) (k : Tree) → StructurePiece d k → Children settings d k → rowArea k ≡ area (d .size)
+filled-area settings d k s h = rw (row-area settings d k h, s .filled) (area-laid (other (d .cut)) (d .size))
 
 -- a piece of this kind and what is below it: a part or a free piece holds its own area, and what is below a structure holds the structure's
 piece-area : (κ : Kind) (d : Datum) (k r : Tree) → Kinded κ d k r → (StructurePiece d k → partArea k + freeArea k ≡ area (d .size))
@@ -50,10 +51,10 @@ piece-area Part d k r f below = rw (f .childless) (omega arith)
 piece-area Structure d k r f below = omega (arith, below f)
 
 -- the parts and free pieces of a row hold the area of the row
-pub row-held : (stages : ℕ) (q : Datum) (r : Tree) → Children stages q r → partArea r + freeArea r ≡ rowArea r
-row-held stages q nil h = refl
-row-held stages q (grow p d k r) h =
-    let below = row-held stages d k (h .2) in
-    let rest = row-held stages q r (h .3) in
-    let here = piece-area (d .kind) d k r (h .1) (λ s. below ∙ filled-area stages d k s (h .2)) in
+pub row-held : (settings : Settings) (q : Datum) (r : Tree) → Children settings q r → partArea r + freeArea r ≡ rowArea r
+row-held settings q nil h = refl
+row-held settings q (grow p d k r) h =
+    let below = row-held settings d k (h .2) in
+    let rest = row-held settings q r (h .3) in
+    let here = piece-area (d .kind) d k r (h .1) (λ s. below ∙ filled-area settings d k s (h .2)) in
     omega arith

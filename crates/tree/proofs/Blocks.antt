@@ -13,6 +13,7 @@ use Rattle.piece.specs.declared.node.Kind.{Kind}
 use Rattle.piece.specs.declared.node.Kind.the-variants.{Free, Part, Structure}
 use Rattle.piece.specs.declared.insertion_blueprint.InsertionShape.{InsertionShape}
 use Rattle.piece.specs.declared.insertion_blueprint.InsertionShape.the-variants.{AlongCurrentCut, AcrossCurrentCut, AlongThenAcross, AcrossThenAlong}
+use Rattle.piece.specs.declared.settings.Settings.{Settings}
 use Rattle.piece.specs.Sides.{other, laid}
 use Rattle.piece.specs.Row.{Row, nil, grow}
 use Rattle.piece.specs.Insertion.{Made, made, table, laidMade, laidAll, blockOf, newNodes}
@@ -73,19 +74,19 @@ abbrev node : Booking → Orientation → ℕ → ℕ → Orientation → Kind �
 node b c i l e a u v = plantedDatum b i l e (laidMade c (made a u v))
 
 -- The four tables, under the parent q, for a free piece of level l and cut c that is W x H as they write it, and a part w x h that fits.
-module _ (stages : ℕ) (b : Booking) (q : Datum) (l : ℕ) (c : Orientation) (W H w h : ℕ)
-    (level : l ≡ q .level + 1) (stage : l ≤ stages) (cut : c ≡ other (q .cut)) (side : H ≡ laid c (q .size) .height)
+module _ (settings : Settings) (b : Booking) (q : Datum) (l : ℕ) (c : Orientation) (W H w h : ℕ)
+    (level : l ≡ q .level + 1) (stage : l ≤ settings .stages) (cut : c ≡ other (q .cut)) (side : H ≡ laid c (q .size) .height)
     (numbered : b .number ≤ maxNumber) (w₁ : 1 ≤ w) (h₁ : 1 ≤ h) (wide : w ≤ W) (tall : h ≤ H) where
   -- in the free piece's row; in a piece of that row; and below once more
-  row-child : (i : ℕ) (a : Kind) (u : ℕ) → Child stages q (node b c i l c a u H)
+  row-child : (i : ℕ) (a : Kind) (u : ℕ) → Child settings q (node b c i l c a u H)
   row-child i a u = child level stage cut (rw laid-twice side)
 
-  inner-child : (i j : ℕ) (a : Kind) (u v v′ : ℕ) → l + 1 ≤ stages
-      → Child stages (node b c i l c Structure u v) (node b c j (l + 1) (other c) a u v′)
+  inner-child : (i j : ℕ) (a : Kind) (u v v′ : ℕ) → l + 1 ≤ settings .stages
+      → Child settings (node b c i l c Structure u v) (node b c j (l + 1) (other c) a u v′)
   inner-child i j a u v v′ m = child refl m refl (simp (laid-other c))
 
-  strip-child : (i j : ℕ) (a : Kind) (u u′ v : ℕ) → l + 2 ≤ stages
-      → Child stages (node b c i (l + 1) (other c) Structure u v) (node b c j (l + 1 + 1) (other (other c)) a u′ v)
+  strip-child : (i j : ℕ) (a : Kind) (u u′ v : ℕ) → l + 2 ≤ settings .stages
+      → Child settings (node b c i (l + 1) (other c) Structure u v) (node b c j (l + 1 + 1) (other (other c)) a u′ v)
   strip-child i j a u u′ v m = child refl (omega arith) refl (simp (other-twice, laid-twice))
 
   part : (i m : ℕ) (e : Orientation) (u v : ℕ) → 1 ≤ u → 1 ≤ v → PartPiece (node b c i m e Part u v) nil
@@ -99,8 +100,8 @@ module _ (stages : ℕ) (b : Booking) (q : Datum) (l : ℕ) (c : Orientation) (W
       structure-piece (omega arith) (laid-sided c (sided u₁ (omega arith))) (simp (laid-other c) (omega arith)) refl
 
   -- the part u x h and the free piece that such a structure has
-  column : (i j n u : ℕ) → 1 ≤ u → l + 1 ≤ stages
-      → Children stages (node b c i l c Structure u H)
+  column : (i j n u : ℕ) → 1 ≤ u → l + 1 ≤ settings .stages
+      → Children settings (node b c i l c Structure u H)
       (grow (b .place j) (node b c j (l + 1) (other c) Part u h) nil (grow (b .place n) (node b c n (l + 1) (other c) Free u (H - h)) nil nil))
   column i j n u u₁ m = (
     inner-child i j Part u H h m,
@@ -109,7 +110,7 @@ module _ (stages : ℕ) (b : Booking) (q : Datum) (l : ℕ) (c : Orientation) (W
     (inner-child i n Free u H (H - h) m, free-piece refl refl refl, tt, tt),
   )
 
-  table-children : (s : InsertionShape) → l + deep s ≤ stages → Children stages q (planted b l c (laidAll c (table s W H w h)))
+  table-children : (s : InsertionShape) → l + deep s ≤ settings .stages → Children settings q (planted b l c (laidAll c (table s W H w h)))
   unfolding table
   table-children AlongCurrentCut m =
       (row-child 0 Part w, part 0 l c w H w₁ (omega arith), tt, (row-child 1 Free (W - w), free-piece refl refl refl, tt, tt))
@@ -232,16 +233,16 @@ some-new AcrossCurrentCut = omega arith
 some-new AlongThenAcross = omega arith
 some-new AcrossThenAlong = omega arith
 
-pub block-exchange : (stages : ℕ) (b : Booking) (q d : Datum) (y : ℕ) → Fitting stages d b → Children stages q (grow y d nil nil)
-    → Exchange stages q (grow y d nil nil) (block b d)
+pub block-exchange : (settings : Settings) (b : Booking) (q d : Datum) (y : ℕ) → Fitting settings d b → Children settings q (grow y d nil nil)
+    → Exchange settings q (grow y d nil nil) (block b d)
 unfolding block blockOf
-block-exchange stages b q d y f h =
+block-exchange settings b q d y f h =
     let s = laid-sided (d .cut) (f .sided) in
     let i = laid-fits (d .cut) (d .size) (b .size) (f .inside) in
     let e = table-extent b (d .level) (d .cut) _ (laid (d .cut) (d .size) .height) _ (laid (d .cut) (b .size) .height) (i .0) (b .shape) in
     record {
-      children = table-children stages b q (d .level) (d .cut) _ _ _ _ (h .0 .level) (h .0 .stage) (h .0 .cut) (h .0 .side) (f .numbered)
-          (s .wide) (s .tall) (i .0) (i .1) (b .shape) (offered-deep _ _ (d .level) stages (b .shape) (h .0 .stage) (f .offered));
+      children = table-children settings b q (d .level) (d .cut) _ _ _ _ (h .0 .level) (h .0 .stage) (h .0 .cut) (h .0 .side) (f .numbered)
+          (s .wide) (s .tall) (i .0) (i .1) (b .shape) (offered-deep _ _ (d .level) (settings .stages) (b .shape) (h .0 .stage) (f .offered));
       same = rw (← h .0 .cut) (omega arith);
       some = λ z. omega (arith, block-count b d, some-new (b .shape));
     }

@@ -2,9 +2,9 @@
 use mathlib.Core.Path.{_≡_, _∙_}
 use mathlib.Core.Logic.{_⊎_, inl, inr, ⊎-elim}
 use Prim.Native.Nat.{ℕ}
-use Rattle.piece.specs.declared.size.Size.{Size}
 use Rattle.piece.specs.declared.node.Datum.{Datum}
 use Rattle.piece.specs.declared.node.Kind.the-variants.{Free}
+use Rattle.piece.specs.declared.settings.Settings.{Settings}
 use Rattle.piece.specs.Row.{grow}
 use Rattle.tree.specs.Tree.{Tree, In, At, Distinct, change, rest}
 use Rattle.tree.specs.Sound.{Children, Topped}
@@ -15,15 +15,15 @@ use Rattle.tree.proofs.Kept.{Alone, only, not-top, free-alone, Exchange
 use Rattle.tree.proofs.Places.{in-less, gone, distinct-change}
 use Rattle.tree.proofs.Blocks.{New, block-in, block-distinct, block-exchange}
 
-booked-exchange : (stages : ℕ) (b : Booking) (d : Datum) → Fitting stages d b → (q e : Datum) (y : ℕ) (k r : Tree)
-    → Alone d e k r → Children stages q (grow y e k r) → Exchange stages q (grow y e k r) (booked b e r)
-booked-exchange stages b d f q e y k r z = rw (z .0, z .1, z .2, after-nil (block b d)) (block-exchange stages b q d y f)
+booked-exchange : (settings : Settings) (b : Booking) (d : Datum) → Fitting settings d b → (q e : Datum) (y : ℕ) (k r : Tree)
+    → Alone d e k r → Children settings q (grow y e k r) → Exchange settings q (grow y e k r) (booked b e r)
+booked-exchange settings b d f q e y k r z = rw (z .0, z .1, z .2, after-nil (block b d)) (block-exchange settings b q d y f)
 
-pub book-topped : (stages : ℕ) (sheet : Size) (x : ℕ) (d : Datum) (b : Booking) (t : Tree) → Topped stages sheet t → Distinct t → At x d t
-    → d .kind ≡ Free → Fitting stages d b → Topped stages sheet (book x b t)
-book-topped stages sheet x d b t h u i a f =
-    topped stages x (booked b) (Alone d) (booked-exchange stages b d f) sheet t h
-    (not-top stages sheet x d t h (only x d t u i) a) (free-alone stages sheet x d t h u i a)
+pub book-topped : (settings : Settings) (x : ℕ) (d : Datum) (b : Booking) (t : Tree) → Topped settings t → Distinct t → At x d t
+    → d .kind ≡ Free → Fitting settings d b → Topped settings (book x b t)
+book-topped settings x d b t h u i a f =
+    topped settings x (booked b) (Alone d) (booked-exchange settings b d f) t h
+    (not-top settings x d t h (only x d t u i) a) (free-alone settings x d t h u i a)
 
 -- the places of the row with the block
 pub booked-in : (b : Booking) (i : ℕ) (d : Datum) (r : Tree) → In i (booked b d r) → In i (rest d r) ⊎ New b i

@@ -13,6 +13,7 @@ use Rattle.piece.specs.declared.node.Kind.{Kind}
 use Rattle.piece.specs.declared.node.Kind.the-variants.{Free}
 use Rattle.piece.specs.declared.insertion_blueprint.InsertionShape.{InsertionShape}
 use Rattle.piece.specs.declared.insertion_blueprint.InsertionShape.the-variants.{AlongCurrentCut, AcrossCurrentCut, AlongThenAcross, AcrossThenAlong}
+use Rattle.piece.specs.declared.settings.Settings.{Settings}
 use Rattle.piece.specs.Sides.{other, sized, laid}
 use Rattle.piece.specs.Row.{Row, nil, grow}
 use Rattle.piece.specs.Offers.{fits}
@@ -114,7 +115,7 @@ at-unique i d e (grow p f k r) n (inr (inr g)) (inl h) = absurd (n .1 (in-eq r (
 at-unique i d e (grow p f k r) n (inr (inr g)) (inr (inl h)) = absurd (n .2 i (at-in i e k h) (at-in i d r g))
 at-unique i d e (grow p f k r) n (inr (inr g)) (inr (inr h)) = at-unique i d e r (n .4) g h
 
-module _ (stages x n s : ℕ) (b : Booking) where
+module _ (settings : Settings) (x n s : ℕ) (b : Booking) where
   -- a piece in which b can be booked
   abbrev Takes : Datum → Type 0
   Takes d = (d .kind ≡ Free) × (fits (d .size) (b .size) ≡ true)
@@ -132,7 +133,7 @@ module _ (stages x n s : ℕ) (b : Booking) where
       rw (eq-eqb p x e, f .childless, f .last, after-nil (block b d))
       (remove-planted (b .shape) b n s (d .level) c _ _ _ _ (h .0) ∙ rw (laid-twice c (d .size), t .0, f .unnumbered))
 
-  row-back : (q : Datum) (r : Tree) → Children stages q r → ((e : Datum) → At x e r → Takes e) → (In (b .place 0) r → b .place 0 ≡ x) → Back r
+  row-back : (q : Datum) (r : Tree) → Children settings q r → ((e : Datum) → At x e r → Takes e) → (In (b .place 0) r → b .place 0 ≡ x) → Back r
   row-back q nil w h o = refl
   row-back q (grow p d k r) w h o =
       go (same? p x) (row-back d k (w .2) (λ e g. h e (inr (inl g))) (λ g. o (inr (inl g))))
@@ -143,7 +144,7 @@ module _ (stages x n s : ℕ) (b : Booking) where
       go (inr m) ik ir = rw (ne-eqb p x m, ne-eqb p (b .place 0) (λ e. m (e ∙ o (inl (sym e)))), ik, ir)
 
   -- the top is a structure, so the piece at x is below it
-  tree-back : {limit : ℕ} {sheet : Size} (t : Tree) → Sound limit stages sheet t → ((e : Datum) → At x e t → Takes e)
+  tree-back : {limit : ℕ} (t : Tree) → Sound limit settings t → ((e : Datum) → At x e t → Takes e)
       → (In (b .place 0) t → b .place 0 ≡ x) → Back t
   tree-back nil w h o = refl
   tree-back (grow p d k r) w h o =
@@ -152,6 +153,6 @@ module _ (stages x n s : ℕ) (b : Booking) where
       let ik = row-back d k (w .topped .1) (λ e g. h e (inr (inl g))) (λ g. o (inr (inl g))) in
       rw (ne-eqb p x m, ne-eqb p (b .place 0) (λ e. m (e ∙ o (inl (sym e)))), ik, top .alone)
 
-  pub book-back : {limit : ℕ} {sheet : Size} (t : Tree) (d : Datum) → Sound limit stages sheet t → At x d t → Takes d
+  pub book-back : {limit : ℕ} (t : Tree) (d : Datum) → Sound limit settings t → At x d t → Takes d
       → (In (b .place 0) t → b .place 0 ≡ x) → Back t
   book-back t d w a f o = tree-back t w (λ e h. subst Takes (sym (at-unique x d e t (w .distinct) a h)) f) o

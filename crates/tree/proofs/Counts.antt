@@ -6,9 +6,9 @@ use Prim.Native.Nat.{ℕ, _+_, _≤_}
 use native.Mathlib.Omega.{arith}
 use lib.Dec.{eqb}
 use borrow.Author.Tests.{eq-eqb, ne-eqb}
-use Rattle.piece.specs.declared.size.Size.{Size}
 use Rattle.piece.specs.declared.node.Datum.{Datum}
 use Rattle.piece.specs.declared.node.Kind.the-variants.{Free}
+use Rattle.piece.specs.declared.settings.Settings.{Settings}
 use Rattle.piece.specs.Row.{nil, grow}
 use Rattle.piece.specs.Insertion.{newNodes}
 use Rattle.tree.specs.Tree.{Tree, In, At, Distinct, count, change, rest}
@@ -54,12 +54,12 @@ module _ (x : ℕ) (f : Datum → Tree → Tree) (P : Datum → Tree → Tree �
       go (inr n) (inr (inr h)) ik ir = let z = ir h in rw (ne-eqb y x n, absent x f k (λ o. u .2 x o h)) (omega arith)
 
 -- a booking takes the free piece away and adds the nodes of its shape
-pub count-book : (limit stages : ℕ) (sheet : Size) (t : Tree) (x : ℕ) (d : Datum) (b : Booking) → Sound limit stages sheet t → At x d t
+pub count-book : (limit : ℕ) (settings : Settings) (t : Tree) (x : ℕ) (d : Datum) (b : Booking) → Sound limit settings t → At x d t
     → d .kind ≡ Free → count (book x b t) + 1 ≡ count t + newNodes (b .shape)
-count-book limit stages sheet t x d b h i a =
+count-book limit settings t x d b h i a =
     count-change x (booked b) (Alone d) 1 (newNodes (b .shape))
     (λ e k r z. rw count-after (omega (arith, block-count b e, ap count (z .1))))
-    t (at-in x d t i) (h .distinct) (free-alone stages sheet x d t (h .topped) (h .distinct) i a)
+    t (at-in x d t i) (h .distinct) (free-alone settings x d t (h .topped) (h .distinct) i a)
 
 -- a place after a booking was there and is not the free piece's, or is that of a new node
 pub in-book : (x : ℕ) (b : Booking) (i : ℕ) (t : Tree) → Distinct t → In i (book x b t) → (In i t × (i ≡ x → ⊥)) ⊎ New b i

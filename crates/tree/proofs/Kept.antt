@@ -5,10 +5,10 @@ use mathlib.Core.Logic.{_⊎_, inl, inr}
 use Prim.Native.Nat.{ℕ, _+_, _≤_}
 use native.Mathlib.Omega.{arith}
 use borrow.Author.Tests.{eq-eqb, ne-eqb}
-use Rattle.piece.specs.declared.size.Size.{Size}
 use Rattle.piece.specs.declared.node.Datum.{Datum}
 use Rattle.piece.specs.declared.node.Kind.{Kind}
 use Rattle.piece.specs.declared.node.Kind.the-variants.{Free, Part, Structure}
+use Rattle.piece.specs.declared.settings.Settings.{Settings}
 use Rattle.piece.specs.Sides.{other, laid}
 use Rattle.piece.specs.Row.{nil, grow}
 use Rattle.tree.specs.Tree.{Tree, In, At, Distinct, count, isFree, change}
@@ -46,18 +46,18 @@ only x d (grow y e k r) u (inr (inr h)) =
     ((λ z. absurd (u .1 (in-eq r (sym z) i))), where-absent x _ k (λ j. u .2 x j i), only x d r (u .4) h)
 
 -- what holds of them follows from their being children of a parent
-where-children : (stages x : ℕ) (P Q : Datum → Tree → Tree → Type 0)
-    → ((q d : Datum) (y : ℕ) (k r : Tree) → P d k r → Children stages q (grow y d k r) → Q d k r)
-    → (q : Datum) (t : Tree) → Children stages q t → Where x P t → Where x Q t
-where-children stages x P Q f q nil h w = tt
-where-children stages x P Q f q (grow y d k r) h w =
-    ((λ e. f q d y k r (w .0 e) h), where-children stages x P Q f d k (h .2) (w .1), where-children stages x P Q f q r (h .3) (w .2))
+where-children : (settings : Settings) (x : ℕ) (P Q : Datum → Tree → Tree → Type 0)
+    → ((q d : Datum) (y : ℕ) (k r : Tree) → P d k r → Children settings q (grow y d k r) → Q d k r)
+    → (q : Datum) (t : Tree) → Children settings q t → Where x P t → Where x Q t
+where-children settings x P Q f q nil h w = tt
+where-children settings x P Q f q (grow y d k r) h w =
+    ((λ e. f q d y k r (w .0 e) h), where-children settings x P Q f d k (h .2) (w .1), where-children settings x P Q f q r (h .3) (w .2))
 
 -- the top is no free piece
-pub not-top : (stages : ℕ) (sheet : Size) (x : ℕ) (d : Datum) (t : Tree) → Topped stages sheet t → Where x (This d) t → d .kind ≡ Free
+pub not-top : (settings : Settings) (x : ℕ) (d : Datum) (t : Tree) → Topped settings t → Where x (This d) t → d .kind ≡ Free
     → x ≡ 0 → ⊥
-not-top stages sheet x d nil h w a e = h
-not-top stages sheet x d (grow p c k r) h w a e =
+not-top settings x d nil h w a e = h
+not-top settings x d (grow p c k r) h w a e =
     let same : c ≡ d = w .0 (h .0 .place ∙ sym e) in
     let solid : c .kind ≡ Structure = h .0 .kind in
     let z : _≡_ {A = ℕ} 0 1 = cc in
@@ -68,22 +68,22 @@ free-kind Free d k r e h = h
 free-kind Part d k r e h = let z : _≡_ {A = ℕ} 0 1 = cc in absurd (omega arith)
 free-kind Structure d k r e h = let z : _≡_ {A = ℕ} 0 1 = cc in absurd (omega arith)
 
-pub free-alone : (stages : ℕ) (sheet : Size) (x : ℕ) (d : Datum) (t : Tree) → Topped stages sheet t → Distinct t → At x d t → d .kind ≡ Free
+pub free-alone : (settings : Settings) (x : ℕ) (d : Datum) (t : Tree) → Topped settings t → Distinct t → At x d t → d .kind ≡ Free
     → Where x (Alone d) t
-free-alone stages sheet x d nil h u i a = tt
-free-alone stages sheet x d (grow p c k r) h u i a =
+free-alone settings x d nil h u i a = tt
+free-alone settings x d (grow p c k r) h u i a =
     let w = only x d (grow p c k r) u i in (
-      (λ z. absurd (not-top stages sheet x d (grow p c k r) h w a (sym z ∙ h .0 .place))),
-      where-children stages x (This d) (Alone d) alone c k (h .1) (w .1),
+      (λ z. absurd (not-top settings x d (grow p c k r) h w a (sym z ∙ h .0 .place))),
+      where-children settings x (This d) (Alone d) alone c k (h .1) (w .1),
       rw (h .0 .alone) tt,
     )
   where
-    alone : (q e : Datum) (y : ℕ) (l m : Tree) → e ≡ d → Children stages q (grow y e l m) → Alone d e l m
+    alone : (q e : Datum) (y : ℕ) (l m : Tree) → e ≡ d → Children settings q (grow y e l m) → Alone d e l m
     alone q e y l m z g = let f = free-kind (e .kind) e l m (cc) (g .1) in (z, f .childless, f .last)
 
 -- a row of children of q may give way to another one
-pub record Exchange (stages : ℕ) (q : Datum) (u v : Tree) : Type 0 where
-  pub children : Children stages q v
+pub record Exchange (settings : Settings) (q : Datum) (u v : Tree) : Type 0 where
+  pub children : Children settings q v
   pub same : extent (other (q .cut)) v ≡ extent (other (q .cut)) u
   pub some : 1 ≤ count u → 1 ≤ count v
 
@@ -91,23 +91,23 @@ count-some : (t : Tree) → (t ≡ nil → ⊥) → 1 ≤ count t
 count-some nil n = absurd (n refl)
 count-some (grow p d k r) n = omega arith
 
-module _ (stages x : ℕ) (f : Datum → Tree → Tree) (P : Datum → Tree → Tree → Type 0)
-    (local : (q d : Datum) (y : ℕ) (k r : Tree) → P d k r → Children stages q (grow y d k r) → Exchange stages q (grow y d k r) (f d r)) where
-  kept-structure : (d : Datum) (k : Tree) → StructurePiece d k → Exchange stages d k (change x f k) → StructurePiece d (change x f k)
+module _ (settings : Settings) (x : ℕ) (f : Datum → Tree → Tree) (P : Datum → Tree → Tree → Type 0)
+    (local : (q d : Datum) (y : ℕ) (k r : Tree) → P d k r → Children settings q (grow y d k r) → Exchange settings q (grow y d k r) (f d r)) where
+  kept-structure : (d : Datum) (k : Tree) → StructurePiece d k → Exchange settings d k (change x f k) → StructurePiece d (change x f k)
   kept-structure d k h e =
       structure-piece (e .some (count-some k (h .parent))) (h .sided) (e .same ∙ h .filled) (h .unnumbered)
 
-  kept-kind : (a : Kind) (d : Datum) (k r : Tree) → Kinded a d k r → Exchange stages d k (change x f k) → Kinded a d (change x f k) (change x f r)
+  kept-kind : (a : Kind) (d : Datum) (k r : Tree) → Kinded a d k r → Exchange settings d k (change x f k) → Kinded a d (change x f k) (change x f r)
   kept-kind Free d k r h e = free-piece (ap (change x f) (h .childless)) (ap (change x f) (h .last)) (h .unnumbered)
   kept-kind Part d k r h e = part-piece (ap (change x f) (h .childless)) (h .sided) (h .numbered)
   kept-kind Structure d k r h e = kept-structure d k h e
 
-  pub exchange : (q : Datum) (t : Tree) → Where x P t → Children stages q t → Exchange stages q t (change x f t)
+  pub exchange : (q : Datum) (t : Tree) → Where x P t → Children settings q t → Exchange settings q t (change x f t)
   exchange q nil w h = record { children = tt; same = refl; some = λ z. z }
   exchange q (grow y d k r) w h = go (same? y x) (exchange d k (w .1) (h .2)) (exchange q r (w .2) (h .3))
     where
-      go : (y ≡ x) ⊎ (y ≡ x → ⊥) → Exchange stages d k (change x f k) → Exchange stages q r (change x f r)
-          → Exchange stages q (grow y d k r) (change x f (grow y d k r))
+      go : (y ≡ x) ⊎ (y ≡ x → ⊥) → Exchange settings d k (change x f k) → Exchange settings q r (change x f r)
+          → Exchange settings q (grow y d k r) (change x f (grow y d k r))
       go (inl e) a b = rw (eq-eqb y x e) (local q d y k r (w .0 e) h)
       go (inr n) a b =
           rw (ne-eqb y x n)
@@ -117,9 +117,9 @@ module _ (stages x : ℕ) (f : Datum → Tree → Tree) (P : Datum → Tree → 
             some = λ z. omega arith;
           })
 
-  pub topped : (sheet : Size) (t : Tree) → Topped stages sheet t → (x ≡ 0 → ⊥) → Where x P t → Topped stages sheet (change x f t)
-  topped sheet nil h n w = h
-  topped sheet (grow p d k r) h n w =
+  pub topped : (t : Tree) → Topped settings t → (x ≡ 0 → ⊥) → Where x P t → Topped settings (change x f t)
+  topped nil h n w = h
+  topped (grow p d k r) h n w =
       let e = exchange d k (w .1) (h .1) in
       rw (ne-eqb p x (λ z. n (sym z ∙ h .0 .place))) (
         top (h .0 .place) (ap (change x f) (h .0 .alone)) (h .0 .level) (h .0 .kind) (h .0 .size) (kept-structure d k (h .0 .piece) e),

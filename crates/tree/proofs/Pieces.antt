@@ -5,6 +5,7 @@ use native.Mathlib.Omega.{arith}
 use Rattle.piece.specs.declared.size.Size.{Size}
 use Rattle.piece.specs.declared.node.Datum.{Datum}
 use Rattle.piece.specs.declared.node.Kind.the-variants.{Structure}
+use Rattle.piece.specs.declared.settings.Settings.{Settings}
 use Rattle.piece.specs.Sides.{other, laid}
 use Rattle.piece.specs.Row.{nil}
 use Rattle.tree.specs.Tree.{Tree, In, Distinct, count}
@@ -26,14 +27,14 @@ pub structure-piece : {d : Datum} {k : Tree} → 1 ≤ count k → Sided (d .siz
     → d .number ≡ 0 → StructurePiece d k
 structure-piece {k} p s f n = record { parent = some-row k p; sided = s; filled = f; unnumbered = n }
 
-pub child : {stages : ℕ} {q d : Datum} → d .level ≡ q .level + 1 → d .level ≤ stages → d .cut ≡ other (q .cut)
-    → laid (d .cut) (d .size) .height ≡ laid (d .cut) (q .size) .height → Child stages q d
+pub child : {settings : Settings} {q d : Datum} → d .level ≡ q .level + 1 → d .level ≤ settings .stages → d .cut ≡ other (q .cut)
+    → laid (d .cut) (d .size) .height ≡ laid (d .cut) (q .size) .height → Child settings q d
 child l m c s = record { level = l; stage = m; cut = c; side = s }
 
-pub top : {sheet : Size} {p : ℕ} {d : Datum} {k r : Tree} → p ≡ 0 → r ≡ nil → d .level ≡ 0 → d .kind ≡ Structure → d .size ≡ sheet
-    → StructurePiece d k → Top sheet p d k r
+pub top : {settings : Settings} {p : ℕ} {d : Datum} {k r : Tree} → p ≡ 0 → r ≡ nil → d .level ≡ 0 → d .kind ≡ Structure → d .size ≡ settings .sheet
+    → StructurePiece d k → Top settings p d k r
 top p r l a s h = record { place = p; alone = r; level = l; kind = a; size = s; piece = h }
 
-pub sound : {limit stages : ℕ} {sheet : Size} {t : Tree} → Domain stages sheet → Topped stages sheet t → count t ≤ limit
-    → ((i : ℕ) → In i t → i < limit) → Distinct t → Sound limit stages sheet t
+pub sound : {limit : ℕ} {settings : Settings} {t : Tree} → Domain settings → Topped settings t → count t ≤ limit
+    → ((i : ℕ) → In i t → i < limit) → Distinct t → Sound limit settings t
 sound d t n p u = record { domain = d; topped = t; room = n; placed = p; distinct = u }

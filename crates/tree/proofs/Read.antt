@@ -9,6 +9,7 @@ use Rattle.piece.specs.declared.size.Size.{Size}
 use Rattle.piece.specs.declared.node.Datum.{Datum}
 use Rattle.piece.specs.declared.node.Kind.{Kind}
 use Rattle.piece.specs.declared.node.Kind.the-variants.{Free, Part, Structure}
+use Rattle.piece.specs.declared.settings.Settings.{Settings}
 use Rattle.piece.specs.Sides.{other, laid}
 use Rattle.piece.specs.Row.{nil, grow}
 use Rattle.tree.specs.Tree.{Tree}
@@ -164,23 +165,23 @@ extent-small Part d k r f s = rw (f .childless) (omega arith)
 extent-small Structure d k r f s = rw (f .filled) (laid-small (other (d .cut)) (d .size) s .width)
 
 -- a row of children as wide as a small side, of a small parent
-row-readable : (stages : ℕ) (q : Datum) (r : Tree) → Children stages q r → Small (q .size) → extent (other (q .cut)) r ≤ maxSide
+row-readable : (settings : Settings) (q : Datum) (r : Tree) → Children settings q r → Small (q .size) → extent (other (q .cut)) r ≤ maxSide
     → Readable (q .level + 1) r
-row-readable stages q nil h s b = tt
-row-readable stages q (grow p d k r) h s b =
+row-readable settings q nil h s b = tt
+row-readable settings q (grow p d k r) h s b =
     let c = other (q .cut) in
     let side : laid c (d .size) .height ≡ laid c (q .size) .height = rw (h .0 .cut) at (h .0 .side) in
     let lying : Small (laid c (d .size)) = record { width = omega arith; height = omega (arith, laid-small c (q .size) s) } in
     let small : Small (d .size) = small-laid c (d .size) lying in
-    let below = row-readable stages d k (h .2) small (extent-small (d .kind) d k r (h .1) small) in
+    let below = row-readable settings d k (h .2) small (extent-small (d .kind) d k r (h .1) small) in
     let number = number-small (d .kind) d k r (h .1) in
-    (record { level = h .0 .level; number = number; small = small }, (rw (h .0 .level) at below), row-readable stages q r (h .3) s (omega arith))
+    (record { level = h .0 .level; number = number; small = small }, (rw (h .0 .level) at below), row-readable settings q r (h .3) s (omega arith))
 
-pub sound-readable : {limit stages : ℕ} {sheet : Size} (t : Tree) → Sound limit stages sheet t → Readable 0 t
+pub sound-readable : {limit : ℕ} {settings : Settings} (t : Tree) → Sound limit settings t → Readable 0 t
 sound-readable nil s = tt
-sound-readable {stages = n} (grow p d k r) s =
+sound-readable {settings} (grow p d k r) s =
     let top = s .topped .0 in
     let small : Small (d .size) = rw (top .size) (record { width = s .domain .width; height = s .domain .height }) in
-    let below = row-readable n d k (s .topped .1) small (extent-small Structure d k r (top .piece) small) in
+    let below = row-readable settings d k (s .topped .1) small (extent-small Structure d k r (top .piece) small) in
     let number = number-small Structure d k r (top .piece) in
     (record { level = top .level; number = number; small = small }, (rw (top .level) at below), rw (top .alone) tt)

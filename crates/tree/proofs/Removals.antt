@@ -11,6 +11,7 @@ use Rattle.piece.specs.declared.size.Size.{Size}
 use Rattle.piece.specs.declared.node.Datum.{Datum}
 use Rattle.piece.specs.declared.node.Kind.{Kind}
 use Rattle.piece.specs.declared.node.Kind.the-variants.{Free, Part, Structure}
+use Rattle.piece.specs.declared.settings.Settings.{Settings}
 use Rattle.piece.specs.Sides.{other, laid}
 use Rattle.piece.specs.Row.{nil, grow}
 use Rattle.tree.specs.Tree.{Tree, At, Distinct, isFree, isNil, after}
@@ -82,9 +83,9 @@ settled-twice n s m s′ d e r =
     shape-settled m s′ e (settled n s d r) ∙ rw (without-last (withoutLast r) n s d z, last-free (withoutLast r) n s d z)
 
 -- the children of q are at one level, have one cut and lie side by side, so that it is one piece whichever went first
-twice : (stages n s m s′ n′ u m′ u′ : ℕ) (q d e : Datum) (r : Tree) → Child stages q d → Child stages q e
+twice : (settings : Settings) (n s m s′ n′ u m′ u′ : ℕ) (q d e : Datum) (r : Tree) → Child settings q d → Child settings q e
     → shape (settled m s′ e (settled n s d r)) ≡ shape (settled n′ u d (settled m′ u′ e r))
-twice stages n s m s′ n′ u m′ u′ q d e r a b =
+twice settings n s m s′ n′ u m′ u′ q d e r a b =
     let c = other (q .cut) in
     let h : laid c (d .size) .height ≡ laid c (e .size) .height = cc in
     cc (settled-twice n s m s′ d e r, settled-twice m′ u′ n′ u e d r, board-swap c d e s u′ (lastFree r) (a .cut) (b .cut) h)
@@ -105,11 +106,11 @@ free-piece Part d k r w e = absurd (false≢true e)
 free-piece Structure d k r w e = absurd (false≢true e)
 
 -- the piece d went, and y goes from among its later siblings, or y went first
-module _ (stages y n s m s′ n′ u m′ u′ : ℕ) (q d : Datum) where
+module _ (settings : Settings) (y n s m s′ n′ u m′ u′ : ℕ) (q d : Datum) where
   abbrev Behind : Tree → Type 0
   Behind r = shape (remove y m s′ (settled n s d r)) ≡ shape (settled n′ u d (remove y m′ u′ r))
 
-  behind : (y ≡ n → ⊥) → Child stages q d → (r : Tree) → Children stages q r → Solid y r → Behind r
+  behind : (y ≡ n → ⊥) → Child settings q d → (r : Tree) → Children settings q r → Solid y r → Behind r
   unfolding settled
   behind yn a nil w o = rw (ne-eqb n y (λ e. yn (sym e)))
   behind yn a (grow z e k r) w o = go (isFree (e .kind)) refl (same? z y) (behind yn a r (w .3) (λ f g. o f (inr (inr g))))
@@ -119,7 +120,7 @@ module _ (stages y n s m s′ n′ u m′ u′ : ℕ) (q d : Datum) where
       go true f (inr l) ih =
           let p = free-piece (e .kind) e k r (w .1) f in
           rw (p .childless, p .last, settled-join n s d z e f, ne-eqb z y l, settled-join n′ u d z e f, ne-eqb n y (λ g. yn (sym g)))
-      go false f (inl g) ih = rw (settled-past n s d z e k r f, eq-eqb z y g) (twice stages n s m s′ n′ u m′ u′ q d e r a (w .0))
+      go false f (inl g) ih = rw (settled-past n s d z e k r f, eq-eqb z y g) (twice settings n s m s′ n′ u m′ u′ q d e r a (w .0))
       go false f (inr l) ih =
           rw (
             settled-past n s d z e k r f,
@@ -129,10 +130,10 @@ module _ (stages y n s m s′ n′ u m′ u′ : ℕ) (q d : Datum) where
             alike y (settled m s′) (settled m′ u′) (settled-alike m s′ m′ u′) k,
           )
 
-module _ (stages x y n s m s′ n′ u m′ u′ : ℕ) where
+module _ (settings : Settings) (x y n s m s′ n′ u m′ u′ : ℕ) where
   -- a row of children, in which neither x nor y is free
   abbrev Row : Tree → Type 0
-  Row r = (q : Datum) × Children stages q r × Solid x r × Solid y r
+  Row r = (q : Datum) × Children settings q r × Solid x r × Solid y r
 
   row-removals : (x ≡ y → ⊥) → (y ≡ n → ⊥) → (x ≡ m′ → ⊥) → (r : Tree) → Row r
       → shape (remove y m s′ (remove x n s r)) ≡ shape (remove x n′ u (remove y m′ u′ r))
@@ -140,11 +141,11 @@ module _ (stages x y n s m s′ n′ u m′ u′ : ℕ) where
       commute x y (settled n s) (settled m s′) (settled n′ u) (settled m′ u′) xy Row
       (λ p d k r w. (d, w .1 .2, (λ e g. w .2 e (inr (inl g))), (λ e g. w .3 e (inr (inl g)))))
       (λ p d k r w. (w .0, w .1 .3, (λ e g. w .2 e (inr (inr g))), (λ e g. w .3 e (inr (inr g)))))
-      (λ d k r w. behind stages y n s m s′ n′ u m′ u′ (w .0) d yn (w .1 .0) r (w .1 .3) (λ e g. w .3 e (inr (inr g))))
-      (λ d k r w. sym (behind stages x m′ u′ n′ u m s′ n s (w .0) d xm (w .1 .0) r (w .1 .3) (λ e g. w .2 e (inr (inr g)))))
+      (λ d k r w. behind settings y n s m s′ n′ u m′ u′ (w .0) d yn (w .1 .0) r (w .1 .3) (λ e g. w .3 e (inr (inr g))))
+      (λ d k r w. sym (behind settings x m′ u′ n′ u m s′ n s (w .0) d xm (w .1 .0) r (w .1 .3) (λ e g. w .2 e (inr (inr g)))))
 
   -- the top stays: both go from below it
-  pub removes-commute : {limit : ℕ} {sheet : Size} (t : Tree) → Sound limit stages sheet t → Removable x t → Removable y t
+  pub removes-commute : {limit : ℕ} (t : Tree) → Sound limit settings t → Removable x t → Removable y t
       → (x ≡ y → ⊥) → (y ≡ n → ⊥) → (x ≡ m′ → ⊥) → shape (remove y m s′ (remove x n s t)) ≡ shape (remove x n′ u (remove y m′ u′ t))
   removes-commute nil w ax ay xy yn xm = refl
   removes-commute (grow p d k r) w ax ay xy yn xm =

@@ -11,6 +11,7 @@ use Rattle.piece.specs.declared.size.Size.{Size}
 use Rattle.piece.specs.declared.node.Datum.{Datum}
 use Rattle.piece.specs.declared.node.Kind.{Kind}
 use Rattle.piece.specs.declared.node.Kind.the-variants.{Free, Part, Structure}
+use Rattle.piece.specs.declared.settings.Settings.{Settings}
 use Rattle.piece.specs.Sides.{sized, laid}
 use Rattle.piece.specs.Row.{nil, grow}
 use Rattle.piece.proofs.Sizes.{laid-twice}
@@ -35,8 +36,8 @@ board-laid d none = rw add-zero
 board-laid d (some e) = rw laid-twice
 
 -- the new piece is a child of the parent of d
-freed-children : (stages n s : ℕ) (q d : Datum) (o : Option Datum) → Child stages q d → Children stages q (grow n (freed s d (board d o)) nil nil)
-freed-children stages n s q d o h =
+freed-children : (settings : Settings) (n s : ℕ) (q d : Datum) (o : Option Datum) → Child settings q d → Children settings q (grow n (freed s d (board d o)) nil nil)
+freed-children settings n s q d o h =
     (child (h .level) (h .stage) (h .cut) (ap (λ (z : Size). z .height) (board-laid d o) ∙ h .side), free-piece refl refl refl, tt, tt)
 
 -- only a free piece asks something of its later siblings
@@ -46,24 +47,24 @@ solid-kind Part d k r u e h = h
 solid-kind Structure d k r u e h = h
 
 -- a row u in the place of the free piece at the end of the row r
-instead : (stages : ℕ) (c : Orientation) (q : Datum) (r u : Tree) → Children stages q r → Children stages q u
-    → Children stages q (after (withoutLast r) u) × (extent c (after (withoutLast r) u) + spare c (lastFree r) ≡ extent c r + extent c u)
-instead stages c q nil u h g = (g, omega arith)
-instead stages c q (grow p d k r) u h g = go (isFree (d .kind)) refl (instead stages c q r u (h .3) g)
+instead : (settings : Settings) (c : Orientation) (q : Datum) (r u : Tree) → Children settings q r → Children settings q u
+    → Children settings q (after (withoutLast r) u) × (extent c (after (withoutLast r) u) + spare c (lastFree r) ≡ extent c r + extent c u)
+instead settings c q nil u h g = (g, omega arith)
+instead settings c q (grow p d k r) u h g = go (isFree (d .kind)) refl (instead settings c q r u (h .3) g)
   where
     go : (b : Bool) → isFree (d .kind) ≡ b
-        → Children stages q (after (withoutLast r) u) × (extent c (after (withoutLast r) u) + spare c (lastFree r) ≡ extent c r + extent c u)
-        → Children stages q (after (withoutLast (grow p d k r)) u)
+        → Children settings q (after (withoutLast r) u) × (extent c (after (withoutLast r) u) + spare c (lastFree r) ≡ extent c r + extent c u)
+        → Children settings q (after (withoutLast (grow p d k r)) u)
         × (extent c (after (withoutLast (grow p d k r)) u) + spare c (lastFree (grow p d k r)) ≡ extent c (grow p d k r) + extent c u)
     go true e ih = rw (e, free-kind (d .kind) d k r e (h .1) .last) (g, omega arith)
     go false e ih = rw e ((h .0, solid-kind (d .kind) d k r _ e (h .1), h .2, ih .0), omega arith)
 
-pub settled-exchange : (stages n s : ℕ) (q d : Datum) (y : ℕ) (k r : Tree) → Children stages q (grow y d k r)
-    → Exchange stages q (grow y d k r) (settled n s d r)
+pub settled-exchange : (settings : Settings) (n s : ℕ) (q d : Datum) (y : ℕ) (k r : Tree) → Children settings q (grow y d k r)
+    → Exchange settings q (grow y d k r) (settled n s d r)
 unfolding settled
-settled-exchange stages n s q d y k r h =
+settled-exchange settings n s q d y k r h =
     let u = grow n (freed s d (board d (lastFree r))) nil nil in
-    let i = instead stages (d .cut) q r u (h .3) (freed-children stages n s q d (lastFree r) (h .0)) in
+    let i = instead settings (d .cut) q r u (h .3) (freed-children settings n s q d (lastFree r) (h .0)) in
     let w = ap (λ (z : Size). z .width) (board-laid d (lastFree r)) in
     record {
       children = i .0;
@@ -113,10 +114,10 @@ pub settled-count : (n s : ℕ) (d : Datum) (r : Tree) → count (settled n s d 
 unfolding settled
 settled-count n s d r = rw count-after (omega (arith, count-left r))
 
-pub remove-topped : (stages : ℕ) (sheet : Size) (x n s : ℕ) (t : Tree) → Topped stages sheet t → Distinct t → Removable x t
-    → Topped stages sheet (remove x n s t)
-remove-topped stages sheet x n s t h u m =
-    topped stages x (settled n s) (This (m .piece)) (λ q d y k r z. settled-exchange stages n s q d y k r) sheet t h (m .below)
+pub remove-topped : (settings : Settings) (x n s : ℕ) (t : Tree) → Topped settings t → Distinct t → Removable x t
+    → Topped settings (remove x n s t)
+remove-topped settings x n s t h u m =
+    topped settings x (settled n s) (This (m .piece)) (λ q d y k r z. settled-exchange settings n s q d y k r) t h (m .below)
     (only x (m .piece) t u (m .there))
 
 pub remove-distinct : (x n s : ℕ) (t : Tree) → Distinct t → (In n (cleared x t) → ⊥) → Distinct (remove x n s t)

@@ -6,8 +6,8 @@ use Prim.Native.Nat.{ℕ}
 use native.Mathlib.Omega.{arith}
 use lib.Dec.{eqb}
 use borrow.Author.Tests.{eq-eqb, ne-eqb}
-use Rattle.piece.specs.declared.size.Size.{Size}
 use Rattle.piece.specs.declared.node.Datum.{Datum}
+use Rattle.piece.specs.declared.settings.Settings.{Settings}
 use Rattle.piece.specs.Row.{nil, grow}
 use Rattle.tree.specs.Tree.{Tree, At, Inside, after, isFree, change}
 use Rattle.tree.specs.Sound.{Children, Topped}
@@ -66,10 +66,10 @@ unfolding settled
 at-remove x n s i e t h = at-more x left (settled n s) i e (λ d r. at-first i e (withoutLast r) _) t h
 
 -- what is no free piece, is not at x and is not below x, is left
-at-left : (stages : ℕ) (q : Datum) (i : ℕ) (e : Datum) (r : Tree) → Children stages q r → isFree (e .kind) ≡ false → At i e r
+at-left : (settings : Settings) (q : Datum) (i : ℕ) (e : Datum) (r : Tree) → Children settings q r → isFree (e .kind) ≡ false → At i e r
     → At i e (withoutLast r)
-at-left stages q i e nil h f g = g
-at-left stages q i e (grow p d k r) h f g = go (isFree (d .kind)) refl g (at-left stages q i e r (h .3) f)
+at-left settings q i e nil h f g = g
+at-left settings q i e (grow p d k r) h f g = go (isFree (d .kind)) refl g (at-left settings q i e r (h .3) f)
   where
     go : (b : Bool) → isFree (d .kind) ≡ b → At i e (grow p d k r) → (At i e r → At i e (withoutLast r)) → At i e (withoutLast (grow p d k r))
     go true z (inl o) a = let same : e ≡ d = o .1 in let no : _≡_ {A = ℕ} 0 1 = cc in absurd (omega arith)
@@ -79,27 +79,27 @@ at-left stages q i e (grow p d k r) h f g = go (isFree (d .kind)) refl g (at-lef
     go false z (inr (inl o)) a = rw z (inr (inl o))
     go false z (inr (inr o)) a = rw z (inr (inr (a o)))
 
-at-row : (stages x : ℕ) (q : Datum) (i : ℕ) (e : Datum) → isFree (e .kind) ≡ false → (i ≡ x → ⊥) → (t : Tree) → Children stages q t
+at-row : (settings : Settings) (x : ℕ) (q : Datum) (i : ℕ) (e : Datum) → isFree (e .kind) ≡ false → (i ≡ x → ⊥) → (t : Tree) → Children settings q t
     → (Inside x i t → ⊥) → At i e t → At i e (cleared x t)
-at-row stages x q i e f n nil h m g = g
-at-row stages x q i e f n (grow y d k r) h m g =
-    go (same? y x) g (at-row stages x d i e f n k (h .2) (λ z. m (inr (inl z)))) (at-row stages x q i e f n r (h .3) (λ z. m (inr (inr z))))
+at-row settings x q i e f n nil h m g = g
+at-row settings x q i e f n (grow y d k r) h m g =
+    go (same? y x) g (at-row settings x d i e f n k (h .2) (λ z. m (inr (inl z)))) (at-row settings x q i e f n r (h .3) (λ z. m (inr (inr z))))
   where
     go : (y ≡ x) ⊎ (y ≡ x → ⊥) → At i e (grow y d k r) → (At i e k → At i e (cleared x k)) → (At i e r → At i e (cleared x r))
         → At i e (cleared x (grow y d k r))
     go (inl z) (inl o) a b = absurd (n (o .0 ∙ z))
     go (inl z) (inr (inl o)) a b = absurd (m (inl (sym z, at-in i e k o)))
-    go (inl z) (inr (inr o)) a b = rw (eq-eqb y x z) (at-left stages q i e r (h .3) f o)
+    go (inl z) (inr (inr o)) a b = rw (eq-eqb y x z) (at-left settings q i e r (h .3) f o)
     go (inr z) (inl o) a b = rw (ne-eqb y x z) (inl o)
     go (inr z) (inr (inl o)) a b = rw (ne-eqb y x z) (inr (inl (a o)))
     go (inr z) (inr (inr o)) a b = rw (ne-eqb y x z) (inr (inr (b o)))
 
-pub at-cleared : (stages : ℕ) (sheet : Size) (x i : ℕ) (e : Datum) (t : Tree) → Topped stages sheet t → (x ≡ 0 → ⊥) → isFree (e .kind) ≡ false
+pub at-cleared : (settings : Settings) (x i : ℕ) (e : Datum) (t : Tree) → Topped settings t → (x ≡ 0 → ⊥) → isFree (e .kind) ≡ false
     → (i ≡ x → ⊥) → (Inside x i t → ⊥) → At i e t → At i e (cleared x t)
-at-cleared stages sheet x i e nil h b f n m g = g
-at-cleared stages sheet x i e (grow p d k r) h b f n m g = rw (ne-eqb p x (λ z. b (sym z ∙ h .0 .place))) (go g)
+at-cleared settings x i e nil h b f n m g = g
+at-cleared settings x i e (grow p d k r) h b f n m g = rw (ne-eqb p x (λ z. b (sym z ∙ h .0 .place))) (go g)
   where
     go : At i e (grow p d k r) → At i e (grow p d (cleared x k) (cleared x r))
     go (inl o) = inl o
-    go (inr (inl o)) = inr (inl (at-row stages x d i e f n k (h .1) (λ z. m (inr (inl z))) o))
+    go (inr (inl o)) = inr (inl (at-row settings x d i e f n k (h .1) (λ z. m (inr (inl z))) o))
     go (inr (inr o)) = absurd (rw (h .0 .alone) at o)

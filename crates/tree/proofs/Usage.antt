@@ -5,10 +5,10 @@ use Prim.Native.Nat.{ℕ, _+_, _^_, _≤_, _<_}
 use native.Mathlib.Nat.{mul-pos, lt-of-le-of-lt, mul-le-mul-left}
 use native.Mathlib.Omega.{arith}
 use lib.Ieee.{binary64, mul}
-use Rattle.piece.specs.declared.size.Size.{Size}
 use Rattle.piece.specs.declared.node.Datum.{Datum}
 use Rattle.piece.specs.declared.node.Kind.{Kind}
 use Rattle.piece.specs.declared.node.Kind.the-variants.{Free, Part, Structure}
+use Rattle.piece.specs.declared.settings.Settings.{Settings}
 use Rattle.piece.specs.Sides.{area}
 use Rattle.piece.specs.Row.{nil, grow}
 use Rattle.tree.specs.Tree.{Tree, isFree}
@@ -18,11 +18,11 @@ use Rattle.tree.proofs.Areas.{rowArea, filled-area}
 use Rattle.tree.proofs.Whole.{nought-whole, add-whole, mul-one-whole, mul-nought, full-is-one}
 
 -- "areas stay below 2^52"
-pub sheet-small : {stages : ℕ} {sheet : Size} → Domain stages sheet → area sheet < 2 ^ 52
-sheet-small {sheet = s} h =
-    lt-of-le-of-lt (mul-le-mul-left (s .width) (h .height)) (omega (arith, h .width))
+pub sheet-small : {settings : Settings} → Domain settings → area (settings .sheet) < 2 ^ 52
+sheet-small {settings} h =
+    lt-of-le-of-lt (mul-le-mul-left (settings .sheet .width) (h .height)) (omega (arith, h .width))
 
-pub sheet-positive : {stages : ℕ} {sheet : Size} → Domain stages sheet → 0 < area sheet
+pub sheet-positive : {settings : Settings} → Domain settings → 0 < area (settings .sheet)
 sheet-positive h = mul-pos (h .wide) (h .tall)
 
 -- the children of a full structure, added up, give its area, so that its usage is 1
@@ -39,19 +39,19 @@ piece-added Part d k r f empty small below = mul-one-whole (area (d .size)) smal
 piece-added Structure d k r f empty small below = rw (full-structure d k f small (below f)) (mul-one-whole (area (d .size)) small)
 
 -- the row, added to n, gives m
-pub row-added : (stages : ℕ) (q : Datum) (r : Tree) → Children stages q r → freeArea r ≡ 0 → (n m : ℕ) → n + rowArea r ≡ m → m ≤ 2 ^ 53
+pub row-added : (settings : Settings) (q : Datum) (r : Tree) → Children settings q r → freeArea r ≡ 0 → (n m : ℕ) → n + rowArea r ≡ m → m ≤ 2 ^ 53
     → added (whole n) r ≡ whole m
 unfolding added
-row-added stages q nil h empty n m e small = let same : n ≡ m = omega arith in ap whole same
-row-added stages q (grow p d k r) h empty n m e small =
+row-added settings q nil h empty n m e small = let same : n ≡ m = omega arith in ap whole same
+row-added settings q (grow p d k r) h empty n m e small =
     let a = area (d .size) in
-    let below = row-added stages d k (h .2) (omega arith) 0 a in
-    let full : StructurePiece d k → 0 + rowArea k ≡ a = λ s. omega (arith, filled-area stages d k s (h .2)) in
+    let below = row-added settings d k (h .2) (omega arith) 0 a in
+    let full : StructurePiece d k → 0 + rowArea k ≡ a = λ s. omega (arith, filled-area settings d k s (h .2)) in
     let here = piece-added (d .kind) d k r (h .1) (omega arith) (omega arith) (λ s. below (full s) (omega arith)) in
-    rw (here, add-whole n a (omega arith) (omega arith)) (row-added stages q r (h .3) (omega arith) (n + a) m (omega arith) small)
+    rw (here, add-whole n a (omega arith) (omega arith)) (row-added settings q r (h .3) (omega arith) (n + a) m (omega arith) small)
 
 -- a structure in which no free piece has area
-pub structure-full : (stages : ℕ) (d : Datum) (k : Tree) → StructurePiece d k → Children stages d k → freeArea k ≡ 0 → area (d .size) ≤ 2 ^ 53
+pub structure-full : (settings : Settings) (d : Datum) (k : Tree) → StructurePiece d k → Children settings d k → freeArea k ≡ 0 → area (d .size) ≤ 2 ^ 53
     → usageOf Structure (area (d .size)) (added nought k) ≡ one
-structure-full stages d k s h empty small =
-    full-structure d k s small (row-added stages d k h empty 0 (area (d .size)) (omega (arith, filled-area stages d k s h)) small)
+structure-full settings d k s h empty small =
+    full-structure d k s small (row-added settings d k h empty 0 (area (d .size)) (omega (arith, filled-area settings d k s h)) small)

@@ -4,6 +4,7 @@ use mathlib.Core.Bool.{true}
 use mathlib.Core.List.{List·Memᴰ}
 use Prim.Native.Nat.{ℕ, _≤_, _<_}
 use Rattle.piece.specs.declared.node.Datum.{Datum}
+use Rattle.piece.specs.declared.settings.Settings.{Settings}
 use Rattle.piece.specs.Insertion.{newNodes}
 use Rattle.piece.specs.Offers.{fits, along, across, shapes}
 use Rattle.tree.specs.Tree.{Tree, In}
@@ -12,9 +13,9 @@ use Rattle.tree.specs.Booking.{Booking}
 
 -- what is booked in the free piece d: "A rotation that does not fit both ways gives nothing"; the shape is one of those that "first match wins"
 -- leaves; "part sides 1..67,108,863", "part numbers 0..65,535"
-pub record Fitting (stages : ℕ) (d : Datum) (b : Booking) : Type 0 where
+pub record Fitting (settings : Settings) (d : Datum) (b : Booking) : Type 0 where
   pub inside : fits (d .size) (b .size) ≡ true
-  pub offered : List·Memᴰ (b .shape) (shapes (along (d .cut) (d .size) (b .size)) (across (d .cut) (d .size) (b .size)) (d .level) stages)
+  pub offered : List·Memᴰ (b .shape) (shapes (along (d .cut) (d .size) (b .size)) (across (d .cut) (d .size) (b .size)) (d .level) (settings .stages))
   pub sided : Sided (b .size)
   pub numbered : b .number ≤ maxNumber
 

@@ -1,8 +1,6 @@
 -- Document 01, "Open": "top at level 0 with the first cut given; one free child of full size, level 1, the other cut." "Serials start at 1
 -- (top) and rise by one per node in creation order. A new node takes the lowest unheld place."
-use Prim.Native.Nat.{ℕ}
-use Rattle.piece.specs.declared.orientation.Orientation.{Orientation}
-use Rattle.piece.specs.declared.size.Size.{Size}
+use Rattle.piece.specs.declared.settings.Opening.{Opening}
 use Rattle.piece.specs.declared.node.Datum.{Datum}
 use Rattle.piece.specs.declared.node.Kind.{Kind}
 use Rattle.piece.specs.declared.node.Kind.the-variants.{Free, Part, Structure}
@@ -10,11 +8,11 @@ use Rattle.piece.specs.Sides.{other}
 use Rattle.piece.specs.Row.{nil, grow}
 use Rattle.tree.specs.Tree.{Tree}
 
-abbrev pub topDatum : Orientation → Size → Datum
-topDatum c sheet = record { serial = 1; size = sheet; number = 0; level = 0; kind = Structure; cut = c }
+abbrev pub topDatum : Opening → Datum
+topDatum o = record { serial = 1; size = o .settings .sheet; number = 0; level = 0; kind = Structure; cut = o .cut }
 
-abbrev pub firstFree : Orientation → Size → Datum
-firstFree c sheet = record { serial = 2; size = sheet; number = 0; level = 1; kind = Free; cut = other c }
+abbrev pub firstFree : Opening → Datum
+firstFree o = record { serial = 2; size = o .settings .sheet; number = 0; level = 1; kind = Free; cut = other (o .cut) }
 
-abbrev pub opened : Orientation → Size → Tree
-opened c sheet = grow 0 (topDatum c sheet) (grow 1 (firstFree c sheet) nil nil) nil
+abbrev pub opened : Opening → Tree
+opened o = grow 0 (topDatum o) (grow 1 (firstFree o) nil nil) nil

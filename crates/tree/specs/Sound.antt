@@ -2,6 +2,7 @@
 use mathlib.Core.Path.{_≡_}
 use Prim.Native.Nat.{ℕ, _+_, _≤_, _<_}
 use Rattle.piece.specs.declared.size.Size.{Size}
+use Rattle.piece.specs.declared.settings.Settings.{Settings}
 use Rattle.piece.specs.declared.orientation.Orientation.{Orientation}
 use Rattle.piece.specs.declared.node.Datum.{Datum}
 use Rattle.piece.specs.declared.node.Kind.{Kind}
@@ -21,13 +22,13 @@ abbrev pub maxNumber : ℕ
 maxNumber = 65535
 
 -- "sheet sides, stages and numbers are in the domain"
-pub record Domain (stages : ℕ) (sheet : Size) : Type 0 where
-  pub wide : 1 ≤ sheet .width
-  pub tall : 1 ≤ sheet .height
-  pub width : sheet .width ≤ maxSide
-  pub height : sheet .height ≤ maxSide
-  pub least : 1 ≤ stages
-  pub most : stages ≤ maxStages
+pub record Domain (settings : Settings) : Type 0 where
+  pub wide : 1 ≤ settings .sheet .width
+  pub tall : 1 ≤ settings .sheet .height
+  pub width : settings .sheet .width ≤ maxSide
+  pub height : settings .sheet .height ≤ maxSide
+  pub least : 1 ≤ settings .stages
+  pub most : settings .stages ≤ maxStages
 
 -- the pieces of a row have the cut c; their parent's cut, the other one, divides this side, whose parts add up
 abbrev pub extent : Orientation → Tree → ℕ
@@ -65,35 +66,35 @@ Kinded Structure d k r = StructurePiece d k
 
 -- "a child's level is its parent's plus 1 and at most the stages; a child's cut is the other one; under a Vertical cut children have the
 -- parent's height .., under a Horizontal cut the reverse"
-pub record Child (stages : ℕ) (q d : Datum) : Type 0 where
+pub record Child (settings : Settings) (q d : Datum) : Type 0 where
   pub level : d .level ≡ q .level + 1
-  pub stage : d .level ≤ stages
+  pub stage : d .level ≤ settings .stages
   pub cut : d .cut ≡ other (q .cut)
   pub side : laid (d .cut) (d .size) .height ≡ laid (d .cut) (q .size) .height
 
 -- a row of children of q, and so below
-abbrev pub Children : ℕ → Datum → Tree → Type 0
-Children stages q nil = Unit {0}
-Children stages q (grow p d k r) =
-    Child stages q d × Kinded (d .kind) d k r × Children stages d k × Children stages q r
+abbrev pub Children : Settings → Datum → Tree → Type 0
+Children settings q nil = Unit {0}
+Children settings q (grow p d k r) =
+    Child settings q d × Kinded (d .kind) d k r × Children settings d k × Children settings q r
 
 -- "the top is at place 0 and level 0, is no part, has the sheet's size and at least one child"
-pub record Top (sheet : Size) (p : ℕ) (d : Datum) (k r : Tree) : Type 0 where
+pub record Top (settings : Settings) (p : ℕ) (d : Datum) (k r : Tree) : Type 0 where
   pub place : p ≡ 0
   pub alone : r ≡ nil
   pub level : d .level ≡ 0
   pub kind : d .kind ≡ Structure
-  pub size : d .size ≡ sheet
+  pub size : d .size ≡ settings .sheet
   pub piece : StructurePiece d k
 
-abbrev pub Topped : ℕ → Size → Tree → Type 0
-Topped stages sheet nil = ⊥
-Topped stages sheet (grow p d k r) = Top sheet p d k r × Children stages d k
+abbrev pub Topped : Settings → Tree → Type 0
+Topped settings nil = ⊥
+Topped settings (grow p d k r) = Top settings p d k r × Children settings d k
 
 -- the limit is document 01's 255 today: "2..255 nodes", places below it
-pub record Sound (limit stages : ℕ) (sheet : Size) (t : Tree) : Type 0 where
-  pub domain : Domain stages sheet
-  pub topped : Topped stages sheet t
+pub record Sound (limit : ℕ) (settings : Settings) (t : Tree) : Type 0 where
+  pub domain : Domain settings
+  pub topped : Topped settings t
   pub room : count t ≤ limit
   pub placed : (i : ℕ) → In i t → i < limit
   pub distinct : Distinct t

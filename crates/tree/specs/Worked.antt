@@ -10,7 +10,7 @@ use Rattle.piece.specs.declared.orientation.Orientation.the-variants.{Horizonta
 use Rattle.piece.specs.declared.rotation.Rotation.the-variants.{Default}
 use Rattle.piece.specs.declared.parttype.Turn.the-variants.{Fixed}
 use Rattle.piece.specs.declared.parttype.PartType.{PartType}
-use Rattle.piece.specs.declared.size.Size.{Size}
+use Rattle.piece.specs.declared.settings.Opening.{Opening}
 use Rattle.piece.specs.declared.node.Kind.{Kind}
 use Rattle.piece.specs.declared.node.Kind.the-variants.{Free, Part, Structure}
 use Rattle.piece.specs.declared.insertion_blueprint.InsertionShape.{InsertionShape}
@@ -44,18 +44,18 @@ pub data Answer : Type 0 where
   stands : Tree → Answer
   used : Float → Answer
 
-abbrev pub sheet : Size
-sheet = sized 100 60
+abbrev pub opening : ℕ → Opening
+opening stages = record { number = 1; settings = record { stages = stages; sheet = sized 100 60 }; cut = Vertical }
 
 abbrev pub start : Tree
-start = opened Vertical sheet
+start = opened (opening 3)
 
 -- the part, number 7, w x h
 abbrev pub wanted : ℕ → ℕ → PartType
 wanted w h = record { number = 7; size = sized w h; turn = Fixed Default }
 
 abbrev pub offers : ℕ → ℕ → ℕ → Answer
-offers w h stages = offered (offersOf (firstFree Vertical sheet) (wanted w h) stages)
+offers w h stages = offered (offersOf (firstFree (opening stages)) (wanted w h) (opening stages .settings))
 
 -- the part booked in the free piece, which is at place 1; the opening issued the serials 1 and 2
 abbrev pub booking : InsertionShape → ℕ → ℕ → Booking
@@ -78,7 +78,7 @@ calledAt (grow q d k r) otherwise p = cond (eqb p q) (called (d .kind) (d .level
 -- the removable list then; at the opening it holds the top alone, at place 0
 abbrev pub removable : InsertionShape → ℕ → ℕ → Answer
 removable s w h =
-    listed (map (calledAt (booked s w h) no-such) (bookedList limit 1 (firstFree Vertical sheet) (booking s w h) start (0 ∷ [])))
+    listed (map (calledAt (booked s w h) no-such) (bookedList limit 1 (firstFree (opening 3)) (booking s w h) start (0 ∷ [])))
 
 unfoldable pub computed : List Answer
 computed =
@@ -90,7 +90,7 @@ computed =
     ∷ offers 100 20 2
     ∷ offers 100 20 1
     ∷ stands (shape (booked AlongCurrentCut 100 60))
-    ∷ used (sheetUsage (partArea (booked AlongCurrentCut 100 60)) (area sheet))
+    ∷ used (sheetUsage (partArea (booked AlongCurrentCut 100 60)) (area (opening 3 .settings .sheet)))
     ∷ offers 101 60 3
     ∷ stands (shape (booked AlongThenAcross 40 30))
     ∷ removable AlongThenAcross 40 30

@@ -3,7 +3,7 @@
 use mathlib.Core.Path.{_≡_}
 use Prim.Native.Nat.{ℕ, _+_}
 use native.Mathlib.Omega.{arith}
-use Rattle.piece.specs.declared.size.Size.{Size}
+use Rattle.piece.specs.declared.settings.Settings.{Settings}
 use Rattle.piece.specs.Sides.{area}
 use Rattle.piece.specs.Row.{nil, grow}
 use Rattle.tree.specs.Tree.{Tree}
@@ -11,11 +11,11 @@ use Rattle.tree.specs.Sound.{Sound}
 use Rattle.tree.specs.Figures.{partArea, freeArea}
 use Rattle.tree.proofs.Areas.{row-held, filled-area}
 
-pub area-conserved : {limit stages : ℕ} {sheet : Size} (t : Tree) → Sound limit stages sheet t
-    → partArea t + freeArea t ≡ area sheet
+pub area-conserved : {limit : ℕ} {settings : Settings} (t : Tree) → Sound limit settings t
+    → partArea t + freeArea t ≡ area (settings .sheet)
 area-conserved nil s = absurd (s .topped)
-area-conserved {stages = n} (grow p d k r) s =
+area-conserved {settings} (grow p d k r) s =
     let top = s .topped .0 in
-    let below = row-held n d k (s .topped .1) in
-    let full = filled-area n d k (top .piece) (s .topped .1) in
+    let below = row-held settings d k (s .topped .1) in
+    let full = filled-area settings d k (top .piece) (s .topped .1) in
     rw (top .kind, top .alone, ← top .size) (omega arith)

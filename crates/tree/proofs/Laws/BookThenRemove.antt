@@ -3,9 +3,9 @@
 use mathlib.Core.Path.{_≡_}
 use mathlib.Core.Bool.{true}
 use Prim.Native.Nat.{ℕ}
-use Rattle.piece.specs.declared.size.Size.{Size}
 use Rattle.piece.specs.declared.node.Datum.{Datum}
 use Rattle.piece.specs.declared.node.Kind.the-variants.{Free}
+use Rattle.piece.specs.declared.settings.Settings.{Settings}
 use Rattle.piece.specs.Offers.{fits}
 use Rattle.tree.specs.Tree.{Tree, In, At}
 use Rattle.tree.specs.Sound.{Sound}
@@ -15,9 +15,9 @@ use Rattle.tree.specs.Removal.{remove}
 use Rattle.tree.proofs.Shapes.{same-of-shape}
 use Rattle.tree.proofs.Bookings.{book-back}
 
-pub book-then-remove : {limit stages : ℕ} {sheet : Size} (t : Tree) (x n s : ℕ) (d : Datum) (b : Booking)
-    → Sound limit stages sheet t → At x d t → d .kind ≡ Free → fits (d .size) (b .size) ≡ true
+pub book-then-remove : {limit : ℕ} {settings : Settings} (t : Tree) (x n s : ℕ) (d : Datum) (b : Booking)
+    → Sound limit settings t → At x d t → d .kind ≡ Free → fits (d .size) (b .size) ≡ true
     → (In (b .place 0) t → b .place 0 ≡ x)
     → Same (remove (b .place 0) n s (book x b t)) t
-book-then-remove {stages} t x n s d b w a f g o =
-    same-of-shape (remove (b .place 0) n s (book x b t)) t (book-back stages x n s b t d w a (f, g) o)
+book-then-remove {settings} t x n s d b w a f g o =
+    same-of-shape (remove (b .place 0) n s (book x b t)) t (book-back settings x n s b t d w a (f, g) o)

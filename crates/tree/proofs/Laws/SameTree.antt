@@ -3,14 +3,14 @@
 use mathlib.Core.Path.{_≡_}
 use mathlib.Core.Logic.{_↔_}
 use Prim.Native.Nat.{ℕ}
-use Rattle.piece.specs.declared.size.Size.{Size}
+use Rattle.piece.specs.declared.settings.Settings.{Settings}
 use Rattle.tree.specs.Tree.{Tree}
 use Rattle.tree.specs.Sound.{Sound}
 use Rattle.tree.specs.Snapshot.{Same, shape}
 use Rattle.tree.proofs.Shapes.{same-of-shape}
 use Rattle.tree.proofs.Read.{tree-read, sound-readable}
 
-pub same-tree : {limit stages limit′ stages′ : ℕ} {sheet sheet′ : Size} (t u : Tree)
-    → Sound limit stages sheet t → Sound limit′ stages′ sheet′ u
+pub same-tree : {limit limit′ : ℕ} {settings settings′ : Settings} (t u : Tree)
+    → Sound limit settings t → Sound limit′ settings′ u
     → Same t u ↔ (shape t ≡ shape u)
 same-tree t u s s′ = (tree-read 0 t u (sound-readable t s) (sound-readable u s′), same-of-shape t u)

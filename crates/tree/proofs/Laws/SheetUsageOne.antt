@@ -3,7 +3,7 @@ use mathlib.Core.Path.{_≡_}
 use mathlib.Core.Logic.{_↔_}
 use Prim.Native.Nat.{ℕ}
 use native.Mathlib.Omega.{arith}
-use Rattle.piece.specs.declared.size.Size.{Size}
+use Rattle.piece.specs.declared.settings.Settings.{Settings}
 use Rattle.piece.specs.Sides.{area}
 use Rattle.tree.specs.Tree.{Tree}
 use Rattle.tree.specs.Sound.{Sound}
@@ -12,10 +12,11 @@ use Rattle.tree.proofs.Whole.{full-is-one, one-is-full}
 use Rattle.tree.proofs.Usage.{sheet-small, sheet-positive}
 use Rattle.tree.proofs.Laws.AreaConserved.{area-conserved}
 
-pub sheet-usage-one : {limit stages : ℕ} {sheet : Size} (t : Tree) → Sound limit stages sheet t
-    → (sheetUsage (partArea t) (area sheet) ≡ one) ↔ (freeArea t ≡ 0)
+pub sheet-usage-one : {limit : ℕ} {settings : Settings} (t : Tree) → Sound limit settings t
+    → (sheetUsage (partArea t) (area (settings .sheet)) ≡ one) ↔ (freeArea t ≡ 0)
 unfolding sheetUsage
-sheet-usage-one {sheet = z} t s =
+sheet-usage-one {settings} t s =
+    let z = settings .sheet in
     let whole = area-conserved t s in
     let small = sheet-small (s .domain) in
     let some = sheet-positive (s .domain) in (

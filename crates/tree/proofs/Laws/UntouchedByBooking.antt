@@ -2,16 +2,16 @@
 -- "Insertion": "The free piece W x H goes".
 use mathlib.Core.Path.{_≡_}
 use Prim.Native.Nat.{ℕ}
-use Rattle.piece.specs.declared.size.Size.{Size}
 use Rattle.piece.specs.declared.node.Datum.{Datum}
 use Rattle.piece.specs.declared.node.Kind.the-variants.{Free}
+use Rattle.piece.specs.declared.settings.Settings.{Settings}
 use Rattle.tree.specs.Tree.{Tree, At}
 use Rattle.tree.specs.Sound.{Sound}
 use Rattle.tree.specs.Booking.{Booking, book}
 use Rattle.tree.proofs.Kept.{free-alone}
 use Rattle.tree.proofs.Stays.{at-book}
 
-pub untouched-by-booking : (limit stages : ℕ) (sheet : Size) (t : Tree) (x : ℕ) (d : Datum) (b : Booking) (i : ℕ) (e : Datum)
-    → Sound limit stages sheet t → At x d t → d .kind ≡ Free → At i e t → (i ≡ x → ⊥) → At i e (book x b t)
-untouched-by-booking limit stages sheet t x d b i e h at free there n =
-    at-book x d b i e t (free-alone stages sheet x d t (h .topped) (h .distinct) at free) n there
+pub untouched-by-booking : (limit : ℕ) (settings : Settings) (t : Tree) (x : ℕ) (d : Datum) (b : Booking) (i : ℕ) (e : Datum)
+    → Sound limit settings t → At x d t → d .kind ≡ Free → At i e t → (i ≡ x → ⊥) → At i e (book x b t)
+untouched-by-booking limit settings t x d b i e h at free there n =
+    at-book x d b i e t (free-alone settings x d t (h .topped) (h .distinct) at free) n there
