@@ -11,10 +11,10 @@ use native.Mathlib.Omega.{arith}
 use native.Mathlib.Decide.{decLt}
 use lib.Dec.{eqb, leb}
 use borrow.Author.Tests.{eq-eqb, ne-eqb, eqb-true, le-leb, lt-leb}
-use Rattle.piece.specs.declared.size.Size.{Size}
 use Rattle.piece.specs.declared.node.Datum.{Datum}
 use Rattle.piece.specs.declared.node.Kind.{Kind}
 use Rattle.piece.specs.declared.node.Kind.the-variants.{Free, Part, Structure}
+use Rattle.piece.specs.declared.settings.Settings.{Settings}
 use Rattle.piece.specs.Row.{Row, nil, grow}
 use Rattle.piece.specs.Insertion.{newNodes}
 use Rattle.lists.specs.Search.{firstFrom}
@@ -108,26 +108,26 @@ kind-solid Free d k r n h = absurd (n (h .childless))
 kind-solid Part d k r n h = absurd (n (h .childless))
 kind-solid Structure d k r n h = refl
 
-module _ (stages q : ℕ) (m : Tree) (n : m ≡ nil → ⊥) where
+module _ (settings : Settings) (q : ℕ) (m : Tree) (n : m ≡ nil → ⊥) where
   abbrev Solid : Tree → Type 0
   Solid w = (e : Datum) × At q e w × (e .kind ≡ Structure)
 
-  children-solid : (c : Datum) (w : Tree) → Children stages c w → Kids q m w → Solid w
+  children-solid : (c : Datum) (w : Tree) → Children settings c w → Kids q m w → Solid w
   children-solid c nil h g = absurd g
   children-solid c (grow p d l r) h (inl z) = (d, inl (z .0, refl), kind-solid (d .kind) d l r (λ y. n (z .1 ∙ y)) (h .1))
   children-solid c (grow p d l r) h (inr (inl g)) = let o = children-solid d l (h .2) g in (o .0, inr (inl (o .1)), o .2)
   children-solid c (grow p d l r) h (inr (inr g)) = let o = children-solid c r (h .3) g in (o .0, inr (inr (o .1)), o .2)
 
-  topped-solid : (sheet : Size) (w : Tree) → Topped stages sheet w → Kids q m w → Solid w
-  topped-solid sheet nil h g = absurd g
-  topped-solid sheet (grow p d l r) h (inl z) = (d, inl (z .0, refl), h .0 .kind)
-  topped-solid sheet (grow p d l r) h (inr (inl g)) = let o = children-solid d l (h .1) g in (o .0, inr (inl (o .1)), o .2)
-  topped-solid sheet (grow p d l r) h (inr (inr g)) = absurd (rw (h .0 .alone) at g)
+  topped-solid : (w : Tree) → Topped settings w → Kids q m w → Solid w
+  topped-solid nil h g = absurd g
+  topped-solid (grow p d l r) h (inl z) = (d, inl (z .0, refl), h .0 .kind)
+  topped-solid (grow p d l r) h (inr (inl g)) = let o = children-solid d l (h .1) g in (o .0, inr (inl (o .1)), o .2)
+  topped-solid (grow p d l r) h (inr (inr g)) = absurd (rw (h .0 .alone) at g)
 
-module _ (limit stages : ℕ) (sheet : Size) (w : Tree) (sound : Sound limit stages sheet w) (x : ℕ) (i : In x w) (n : x ≡ 0 → ⊥) where
+module _ (limit : ℕ) (settings : Settings) (w : Tree) (sound : Sound limit settings w) (x : ℕ) (i : In x w) (n : x ≡ 0 → ⊥) where
   -- where x stands: under the parent q, after the siblings a and before b
   abbrev s : Spot x w
-  s = spot-in x w (steps.topped-rooted stages sheet w (sound .topped)) i n
+  s = spot-in x w (steps.topped-rooted settings w (sound .topped)) i n
 
   abbrev q : ℕ
   q = parentOf limit x w
@@ -146,7 +146,7 @@ module _ (limit stages : ℕ) (sheet : Size) (w : Tree) (sound : Sound limit sta
 
   -- the table shows it
   pub parent-is : (t : List Node) → Holds limit t w → at t x .parent ≡ parentOf limit x w
-  parent-is t h = steps.parent-is limit stages sheet t w sound h x s ∙ sym (parent-spot limit x w (sound .distinct) s)
+  parent-is t h = steps.parent-is limit settings t w sound h x s ∙ sym (parent-spot limit x w (sound .distinct) s)
 
   pub parent-held : In (parentOf limit x w) w
   parent-held = kids-in q row w under
@@ -159,7 +159,7 @@ module _ (limit stages : ℕ) (sheet : Size) (w : Tree) (sound : Sound limit sta
 
   pub parent-solid : (e : Datum) → At (parentOf limit x w) e w → e .kind ≡ Structure
   parent-solid e h =
-      let o = topped-solid stages q row some sheet w (sound .topped) under in
+      let o = topped-solid settings q row some w (sound .topped) under in
       ap (λ (z : Datum). z .kind) (at-unique q (o .0) e w (sound .distinct) (o .1) h) ∙ o .2
     where
       some : row ≡ nil → ⊥
@@ -365,23 +365,23 @@ module _ (limit : ℕ) (v : Tree) where
 
 -- ---- the places of a booking and of a removal are fresh
 
-module _ (limit stages : ℕ) (sheet : Size) (w : Tree) (sound : Sound limit stages sheet w) where
+module _ (limit : ℕ) (settings : Settings) (w : Tree) (sound : Sound limit settings w) where
   -- a booking in the free piece d at x, which is a leaf and not the top
   module _ (x : ℕ) (d : Datum) (i : At x d w) (free : d .kind ≡ Free) where
     pub free-below : x ≡ 0 → ⊥
-    free-below = not-top stages sheet x d w (sound .topped) (only x d w (sound .distinct) i) free
+    free-below = not-top settings x d w (sound .topped) (only x d w (sound .distinct) i) free
 
     abbrev here : Spot x w
-    here = s limit stages sheet w sound x (at-in x d w i) free-below
+    here = s limit settings w sound x (at-in x d w i) free-below
 
     leaf : here .below ≡ nil
-    leaf = steps.where-spot x (Alone d) w here (free-alone stages sheet x d w (sound .topped) (sound .distinct) i free) .1
+    leaf = steps.where-spot x (Alone d) w here (free-alone settings x d w (sound .topped) (sound .distinct) i free) .1
 
     pub less-count : count (less x w) + 1 ≡ count w
-    less-count = leaf-count limit stages sheet w sound x (at-in x d w i) free-below leaf
+    less-count = leaf-count limit settings w sound x (at-in x d w i) free-below leaf
 
     pub less-other : (j : ℕ) → In j w → (j ≡ x → ⊥) → In j (less x w)
-    less-other = leaf-other limit stages sheet w sound x (at-in x d w i) free-below leaf
+    less-other = leaf-other limit settings w sound x (at-in x d w i) free-below leaf
 
     pub fresh-booking : (b : Booking) → ((j : ℕ) → j < newNodes (b .shape) → b .place j ≡ newPlace limit (less x w) j)
         → count w + newNodes (b .shape) ≤ limit + 1 → Fresh limit x b w
@@ -411,6 +411,6 @@ module _ (limit stages : ℕ) (sheet : Size) (w : Tree) (sound : Sound limit sta
   pub fresh-removal : (x : ℕ) → Removable x w
       → (newPlace limit (cleared x w) 0 < limit) × (In (newPlace limit (cleared x w) 0) (cleared x w) → ⊥)
   fresh-removal x z =
-      let c = cleared-count limit stages sheet w sound x (at-in x (z .piece) w (z .there)) (z .below) in
+      let c = cleared-count limit settings w sound x (at-in x (z .piece) w (z .there)) (z .below) in
       let l = new-place-low limit (cleared x w) 1 0 (omega (arith, sound .room)) (omega arith) in
       (l, new-place-absent limit (cleared x w) 0 l)

@@ -1,7 +1,7 @@
 -- The nodes of a layout and its two lists, when all is as document 01's "Sound layout" says, as far as they show it: the table holds the tree, the
 -- tree is sound, the lists hold its pieces, and the serials are right.
 use Prim.Native.Nat.{ℕ}
-use Rattle.piece.specs.declared.size.Size.{Size}
+use Rattle.piece.specs.declared.settings.Settings.{Settings}
 use Rattle.tree.specs.Tree.{Tree}
 use Rattle.tree.specs.Sound.{Sound}
 use Rattle.tree.specs.Pieces.{FreeList, RemovableList, Serials}
@@ -11,8 +11,8 @@ use Rattle.register.specs.declared.LayoutNodes.{LayoutNodes}
 use Rattle.register.specs.Listings.{Kept, entriesOf}
 
 -- the tree is w and the last serial issued is last
-pub record Stands (stages : ℕ) (sheet : Size) (last : ℕ) (w : Tree) (n : LayoutNodes) : Type 0 where
-  pub sound : Sound limit stages sheet w
+pub record Stands (settings : Settings) (last : ℕ) (w : Tree) (n : LayoutNodes) : Type 0 where
+  pub sound : Sound limit settings w
   pub holds : Holds limit (n .nodes) w
   pub free : FreeList w (entriesOf (n .free))
   pub removable : RemovableList w (entriesOf (n .removable))

@@ -7,8 +7,7 @@ use Prim.Native.Nat.{ℕ, _<_}
 use native.Mathlib.Omega.{arith}
 use lib.ListN.{replicate, length-set, length-replicate, getD-replicate}
 use lib.Seq.{getD-set-same, getD-set-other}
-use Rattle.piece.specs.declared.orientation.Orientation.{Orientation}
-use Rattle.piece.specs.declared.size.Size.{Size}
+use Rattle.piece.specs.declared.settings.Opening.{Opening}
 use Rattle.piece.specs.declared.node.Datum.{Datum}
 use Rattle.piece.specs.Row.{nil, grow}
 use Rattle.tree.specs.Open.{topDatum, firstFree, opened}
@@ -33,9 +32,9 @@ top-only-holds limit d h =
     top : Node
     top = mk d limit limit limit limit limit
 
-pub opened-holds : (limit : ℕ) (c : Orientation) (sheet : Size) → 1 < limit
-    → Holds limit (append limit (topOnly limit (topDatum c sheet)) 0 1 (firstFree c sheet)) (opened c sheet)
-opened-holds limit c sheet h =
-    append-holds limit (topOnly limit (topDatum c sheet)) 0 1 (firstFree c sheet) (grow 0 (topDatum c sheet) nil nil)
-    (top-only-holds limit (topDatum c sheet) (omega arith)) (inl refl) h
+pub opened-holds : (limit : ℕ) (o : Opening) → 1 < limit
+    → Holds limit (append limit (topOnly limit (topDatum o)) 0 1 (firstFree o)) (opened o)
+opened-holds limit o h =
+    append-holds limit (topOnly limit (topDatum o)) 0 1 (firstFree o) (grow 0 (topDatum o) nil nil)
+    (top-only-holds limit (topDatum o) (omega arith)) (inl refl) h
     (λ y. ⊎-elim (λ e. let z : _≡_ {A = ℕ} 1 0 = e in omega arith) (λ v. ⊎-elim absurd absurd v) y)

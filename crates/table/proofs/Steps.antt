@@ -4,9 +4,9 @@ use mathlib.Core.Path.{_≡_, refl, sym, ap, _∙_, subst}
 use mathlib.Core.List.{List, _++_}
 use mathlib.Core.Logic.{inl, inr}
 use Prim.Native.Nat.{ℕ, _+_, _<_}
-use Rattle.piece.specs.declared.size.Size.{Size}
 use Rattle.piece.specs.declared.node.Datum.{Datum}
 use Rattle.piece.specs.declared.node.Kind.the-variants.{Free}
+use Rattle.piece.specs.declared.settings.Settings.{Settings}
 use Rattle.piece.specs.Row.{nil, grow}
 use Rattle.tree.specs.Tree.{Tree, In, At, Distinct, after}
 use Rattle.tree.specs.Sound.{Children, Topped, Sound}
@@ -31,35 +31,35 @@ use Rattle.table.proofs.Booking.{book-holds}
 use Rattle.table.proofs.Removal.{freeEnd, FreeLeaves, subtree-is, end-is, clear-holds, remove-holds}
 
 -- What a sound tree is to the table.
-module _ (stages : ℕ) where
-  pub topped-rooted : (sheet : Size) (w : Tree) → Topped stages sheet w → Rooted w
-  topped-rooted sheet nil h = h
-  topped-rooted sheet (grow p d k r) h = (h .0 .place, h .0 .alone)
+module _ (settings : Settings) where
+  pub topped-rooted : (w : Tree) → Topped settings w → Rooted w
+  topped-rooted nil h = h
+  topped-rooted (grow p d k r) h = (h .0 .place, h .0 .alone)
 
-  children-deep : (q : Datum) (k : Tree) → Children stages q k → Deep (q .level + 1) k
+  children-deep : (q : Datum) (k : Tree) → Children settings q k → Deep (q .level + 1) k
   children-deep q nil h = tt
   children-deep q (grow p d k r) h = (h .0 .level, rw (h .0 .level) at (children-deep d k (h .2)), children-deep q r (h .3))
 
-  pub topped-deep : (sheet : Size) (w : Tree) → Topped stages sheet w → Deep 0 w
-  topped-deep sheet nil h = tt
-  topped-deep sheet (grow p d k r) h =
+  pub topped-deep : (w : Tree) → Topped settings w → Deep 0 w
+  topped-deep nil h = tt
+  topped-deep (grow p d k r) h =
       (h .0 .level, rw (h .0 .level) at (children-deep d k (h .1)), rw (h .0 .alone) tt)
 
-  children-leaves : (q : Datum) (k : Tree) → Children stages q k → FreeLeaves k
+  children-leaves : (q : Datum) (k : Tree) → Children settings q k → FreeLeaves k
   children-leaves q nil h = tt
   children-leaves q (grow p d k r) h = ((λ e. free-kind (d .kind) d k r e (h .1) .childless), children-leaves q r (h .3))
 
-  kids-leaves : (q : Datum) (x : ℕ) (k w : Tree) → Children stages q w → Kids x k w → FreeLeaves k
+  kids-leaves : (q : Datum) (x : ℕ) (k w : Tree) → Children settings q w → Kids x k w → FreeLeaves k
   kids-leaves q x k nil h g = absurd g
   kids-leaves q x k (grow p d l r) h (inl e) = rw (e .1) (children-leaves d l (h .2))
   kids-leaves q x k (grow p d l r) h (inr (inl g)) = kids-leaves d x k l (h .2) g
   kids-leaves q x k (grow p d l r) h (inr (inr g)) = kids-leaves q x k r (h .3) g
 
-  topped-leaves : (sheet : Size) (x : ℕ) (k w : Tree) → Topped stages sheet w → Kids x k w → FreeLeaves k
-  topped-leaves sheet x k nil h g = absurd g
-  topped-leaves sheet x k (grow p d l r) h (inl e) = rw (e .1) (children-leaves d l (h .1))
-  topped-leaves sheet x k (grow p d l r) h (inr (inl g)) = kids-leaves d x k l (h .1) g
-  topped-leaves sheet x k (grow p d l r) h (inr (inr g)) = absurd (subst (λ (z : Tree). Kids x k z) (h .0 .alone) g)
+  topped-leaves : (x : ℕ) (k w : Tree) → Topped settings w → Kids x k w → FreeLeaves k
+  topped-leaves x k nil h g = absurd g
+  topped-leaves x k (grow p d l r) h (inl e) = rw (e .1) (children-leaves d l (h .1))
+  topped-leaves x k (grow p d l r) h (inr (inl g)) = kids-leaves d x k l (h .1) g
+  topped-leaves x k (grow p d l r) h (inr (inr g)) = absurd (subst (λ (z : Tree). Kids x k z) (h .0 .alone) g)
 
 leaves-from : (a b : Tree) → FreeLeaves (after a b) → FreeLeaves b
 leaves-from nil b f = f
@@ -86,12 +86,12 @@ deep-row : (a : Tree) (x : ℕ) (d : Datum) (l b : Tree) (level : ℕ) → Deep 
 deep-row nil x d l b level h = h .0
 deep-row (grow p e k r) x d l b level h = deep-row r x d l b level (h .2)
 
-module _ (limit stages : ℕ) (sheet : Size) (t : List Node) (w : Tree) (sound : Sound limit stages sheet w) (h : Holds limit t w) where
+module _ (limit : ℕ) (settings : Settings) (t : List Node) (w : Tree) (sound : Sound limit settings w) (h : Holds limit t w) where
   rooted : Rooted w
-  rooted = topped-rooted stages sheet w (sound .topped)
+  rooted = topped-rooted settings w (sound .topped)
 
   deep : Deep 0 w
-  deep = topped-deep stages sheet w (sound .topped)
+  deep = topped-deep settings w (sound .topped)
 
   pub sound-tree : treeOf limit t ≡ w
   sound-tree = tree-is limit t w rooted h
@@ -109,7 +109,7 @@ module _ (limit stages : ℕ) (sheet : Size) (t : List Node) (w : Tree) (sound :
   -- a booking in the free piece d at x
   module _ (x : ℕ) (d : Datum) (i : At x d w) (free : d .kind ≡ Free) where
     at-x : Spot x w
-    at-x = spot-in x w rooted (at-in x d w i) (not-top stages sheet x d w (sound .topped) (only x d w (h .distinct) i) free)
+    at-x = spot-in x w rooted (at-in x d w i) (not-top settings x d w (sound .topped) (only x d w (h .distinct) i) free)
 
     abbrev q : ℕ
     q = at-x .parent
@@ -119,7 +119,7 @@ module _ (limit stages : ℕ) (sheet : Size) (t : List Node) (w : Tree) (sound :
 
     last-leaf : Kids q (after a (grow x d nil nil)) w
     last-leaf =
-        let z = where-spot x (Alone d) w at-x (free-alone stages sheet x d w (sound .topped) (h .distinct) i free) in
+        let z = where-spot x (Alone d) w at-x (free-alone settings x d w (sound .topped) (h .distinct) i free) in
         rw (z .0, z .1, z .2) at (at-x .kids)
 
     -- when the free piece has gone
@@ -155,7 +155,7 @@ module _ (limit stages : ℕ) (sheet : Size) (t : List Node) (w : Tree) (sound :
     pub leaves : FreeLeaves (spot .behind)
     leaves =
         leaves-from (spot .before) (grow x (z .piece) (spot .below) (spot .behind))
-        (topped-leaves stages sheet (spot .parent) (after (spot .before) (grow x (z .piece) (spot .below) (spot .behind))) w (sound .topped) row) .1
+        (topped-leaves settings (spot .parent) (after (spot .before) (grow x (z .piece) (spot .below) (spot .behind))) w (sound .topped) row) .1
 
     -- the places that go, by that row
     pub going-row : going t x w ≡ leaving (grow x (z .piece) (spot .below) nil) ++ freeEnd (spot .behind)

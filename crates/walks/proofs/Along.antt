@@ -9,10 +9,10 @@ use Prim.Native.Nat.{ℕ, _+_, _*_, _<_, _≤_}
 use native.Mathlib.Omega.{arith}
 use lib.Dec.{eqb}
 use lib.ListN.{length, length-append}
-use Rattle.piece.specs.declared.size.Size.{Size}
 use Rattle.piece.specs.declared.node.Datum.{Datum}
 use Rattle.piece.specs.declared.node.Kind.{Kind}
 use Rattle.piece.specs.declared.node.Kind.the-variants.{Free, Part, Structure}
+use Rattle.piece.specs.declared.settings.Settings.{Settings}
 use Rattle.piece.specs.Row.{nil, grow}
 use Rattle.tree.specs.Tree.{Tree, In, isPart, count, after}
 use Rattle.tree.specs.Sound.{Kinded, Children, Sound}
@@ -65,17 +65,17 @@ part-ends Free d k r h e = h .childless
 part-ends Part d k r h e = h .childless
 part-ends Structure d k r h e = let z : _≡_ {A = ℕ} 0 1 = cc in let none : ⊥ = omega arith in absurd none
 
-children-end : (stages : ℕ) (q : Datum) (r : Tree) → Children stages q r → PartsEnd r
-children-end stages q nil h = tt
-children-end stages q (grow p d k r) h =
-    (part-ends (d .kind) d k r (h .1), children-end stages d k (h .2), children-end stages q r (h .3))
+children-end : (settings : Settings) (q : Datum) (r : Tree) → Children settings q r → PartsEnd r
+children-end settings q nil h = tt
+children-end settings q (grow p d k r) h =
+    (part-ends (d .kind) d k r (h .1), children-end settings d k (h .2), children-end settings q r (h .3))
 
-pub sound-ends : (limit stages : ℕ) (sheet : Size) (w : Tree) → Sound limit stages sheet w → PartsEnd w
-sound-ends limit stages sheet nil s = tt
-sound-ends limit stages sheet (grow p d k r) s =
+pub sound-ends : (limit : ℕ) (settings : Settings) (w : Tree) → Sound limit settings w → PartsEnd w
+sound-ends limit settings nil s = tt
+sound-ends limit settings (grow p d k r) s =
     let top = s .topped .0 in (
       (λ e. part-ends Structure d k r (top .piece) (sym (top .kind) ∙ e)),
-      children-end stages d k (s .topped .1),
+      children-end settings d k (s .topped .1),
       rw (top .alone) tt,
     )
 
