@@ -1,4 +1,6 @@
 pub mod Sides
 pub mod Row
+pub mod Kinds
+pub mod Numbers
 pub mod Offers
 pub mod Insertion

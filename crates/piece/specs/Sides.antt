@@ -1,5 +1,6 @@
 -- Sizes and cuts. Document 01 writes its tables for a Horizontal cut: "For Vertical exchange the two axes." `laid` is that sentence,
 -- and no other definition speaks of an axis.
+use mathlib.Core.Bool.{Bool, true, false}
 use Prim.Native.Nat.{ℕ, _*_}
 use Rattle.piece.specs.declared.orientation.Orientation.{Orientation}
 use Rattle.piece.specs.declared.orientation.Orientation.the-variants.{Horizontal, Vertical}
@@ -9,6 +10,10 @@ use Rattle.piece.specs.declared.size.Size.{Size}
 abbrev pub other : Orientation → Orientation
 other Horizontal = Vertical
 other Vertical = Horizontal
+
+abbrev pub isHorizontal : Orientation → Bool
+isHorizontal Horizontal = true
+isHorizontal Vertical = false
 
 abbrev pub sized : ℕ → ℕ → Size
 sized w h = record { width = w; height = h }

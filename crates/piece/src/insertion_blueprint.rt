@@ -1,6 +1,7 @@
 // The four shapes of an insertion and the nodes that each makes. Rust: core/insertion/insertion_blueprint.rs.
 ghost use mathlib.Core.Path.{_≡_};
-ghost use Rattle.piece.specs.Insertion.{blueprintOf, laidOut, laidMade, made, noNode, nodeOf};
+ghost use Rattle.piece.specs.Insertion.{blueprintOf, laidOut, laidMade, made, newNodes, noNode, nodeOf};
+ghost use Rattle.piece.specs.Numbers.{shapeNo, shapeOf};
 use crate::node::Kind;
 use crate::orientation::Orientation;
 use crate::size::Size;
@@ -11,6 +12,47 @@ pub enum InsertionShape {
     AcrossCurrentCut,
     AlongThenAcross,
     AcrossThenAlong,
+}
+
+impl InsertionShape {
+    // Its number in bytes, and the shape of a listed number.
+    pub fn number(self) -> u8
+        ensures { λ r. ⌜ r ≡ shapeNo self ⌝ }
+    {
+        match self {
+            InsertionShape::AlongCurrentCut => 1,
+            InsertionShape::AcrossCurrentCut => 2,
+            InsertionShape::AlongThenAcross => 3,
+            InsertionShape::AcrossThenAlong => 4,
+        }
+    }
+
+    pub fn of_number(n: u8) -> InsertionShape
+        ensures { λ r. ⌜ r ≡ shapeOf n ⌝ }
+    {
+        if n == 1 {
+            return InsertionShape::AlongCurrentCut;
+        }
+        if n == 2 {
+            return InsertionShape::AcrossCurrentCut;
+        }
+        if n == 3 {
+            return InsertionShape::AlongThenAcross;
+        }
+        InsertionShape::AcrossThenAlong
+    }
+
+    // How many nodes it makes.
+    pub fn new_count(self) -> u16
+        ensures { λ r. ⌜ r ≡ newNodes self ⌝ }
+    {
+        match self {
+            InsertionShape::AlongCurrentCut => 2,
+            InsertionShape::AcrossCurrentCut => 3,
+            InsertionShape::AlongThenAcross => 4,
+            InsertionShape::AcrossThenAlong => 5,
+        }
+    }
 }
 
 // A node to be made. Its parent is the node of that index in the same blueprint, or OUTSIDE: the free piece's own parent.

@@ -1,6 +1,8 @@
 // A piece of the sheet, apart from where it stands, and what can be cut from a free one. Rust: core/entities/node.rs.
 ghost use mathlib.Core.Path.{_≡_};
 ghost use mathlib.Core.Bool.{Bool};
+ghost use Rattle.piece.specs.Kinds.{isFree, isPart, isStructure};
+ghost use Rattle.piece.specs.Numbers.{kindNo, kindOf};
 ghost use Rattle.piece.specs.Offers.{fits, along, across};
 use crate::orientation::Orientation;
 use crate::size::Size;
@@ -10,6 +12,61 @@ pub enum Kind {
     Free,
     Part,
     Structure,
+}
+
+impl Kind {
+    pub fn is_free(self) -> bool
+        ensures { λ r. ⌜ r ≡ isFree self ⌝ }
+    {
+        match self {
+            Kind::Free => true,
+            Kind::Part => false,
+            Kind::Structure => false,
+        }
+    }
+
+    pub fn is_part(self) -> bool
+        ensures { λ r. ⌜ r ≡ isPart self ⌝ }
+    {
+        match self {
+            Kind::Free => false,
+            Kind::Part => true,
+            Kind::Structure => false,
+        }
+    }
+
+    pub fn is_structure(self) -> bool
+        ensures { λ r. ⌜ r ≡ isStructure self ⌝ }
+    {
+        match self {
+            Kind::Free => false,
+            Kind::Part => false,
+            Kind::Structure => true,
+        }
+    }
+
+    // Its number in bytes, and the kind of a listed number.
+    pub fn number(self) -> u8
+        ensures { λ r. ⌜ r ≡ kindNo self ⌝ }
+    {
+        match self {
+            Kind::Free => 0,
+            Kind::Part => 1,
+            Kind::Structure => 2,
+        }
+    }
+
+    pub fn of_number(n: u8) -> Kind
+        ensures { λ r. ⌜ r ≡ kindOf n ⌝ }
+    {
+        if n == 0 {
+            return Kind::Free;
+        }
+        if n == 1 {
+            return Kind::Part;
+        }
+        Kind::Structure
+    }
 }
 
 // What a piece is. The serial is that of its mark; the number is a part's, and 0 otherwise.

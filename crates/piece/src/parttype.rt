@@ -1,5 +1,6 @@
 // A part that a customer asks for. Rust: core/entities/parttype.rs.
 ghost use mathlib.Core.Path.{_≡_};
+ghost use Rattle.piece.specs.Numbers.{turnOf};
 ghost use Rattle.piece.specs.Offers.{allowed, turned};
 use crate::rotation::Rotation;
 use crate::size::Size;
@@ -8,6 +9,21 @@ use crate::size::Size;
 pub enum Turn {
     Either,
     Fixed(Rotation),
+}
+
+impl Turn {
+    // The turn of a listed number.
+    pub fn of_number(n: u8) -> Turn
+        ensures { λ r. ⌜ r ≡ turnOf n ⌝ }
+    {
+        if n == 0 {
+            return Turn::Either;
+        }
+        if n == 1 {
+            return Turn::Fixed(Rotation::Default);
+        }
+        Turn::Fixed(Rotation::Rotated)
+    }
 }
 
 pub struct PartType {
