@@ -10,8 +10,9 @@ use lib.ListN.{length, getD}
 use borrow.Author.Tests.{ltb-true, ltb-false, leb-true, leb-false, eqb-true, eqb-false, lt-ltb, le-ltb}
 use Rattle.hex.specs.Hex.{digitOf, letterOf, pairOf}
 use Rattle.hex.proofs.Pairs.{high-bad, low-bad, both-good}
+use Rattle.frames.specs.declared.Ask.the-variants.{Report}
 use Rattle.frames.specs.declared.Request.{Request}
-use Rattle.frames.specs.declared.Request.the-variants.{Keep, Restore, Report, Malformed}
+use Rattle.frames.specs.declared.Request.the-variants.{OfLayout, Keep, Restore, Malformed}
 use Rattle.frames.specs.Bytes.{pairs, allBytes, charsOf, total, checkOf, framed}
 use Rattle.frames.specs.Fields.{cutNo, turnNo, rotationNo, shapeNo, cutListed, turnListed, rotationListed, shapeListed, cutOf, turnOf}
 use Rattle.frames.specs.Fields.{rotationOf, shapeOf, widths, values, allListed, given}
@@ -132,7 +133,7 @@ open-meant : Meant 1 openForm
 unfolding carriedBy
 open-meant vs (more a (more b (more c (more {v = n} d (more e none))))) h =
     let k = cut-of n (leb-true n 1 (first-true (cutListed n) true h)) in
-    record { carries = inr (rw k refl); fits = (a, record { width = b; height = c }, e) }
+    record { carries = inr (rw k refl); fits = record { number = a; sheet = record { width = b; height = c }; stages = e } }
 
 offers-meant : Meant 2 offersForm
 unfolding carriedBy
@@ -172,7 +173,7 @@ form-meant op =
     (λ e3. by-test (eqb op 4) (λ e. rw (eqb-true op 4 e) remove-meant)
     (λ e4. by-test (eqb op 5) (λ e. rw (eqb-true op 5 e) (bare-meant 5 Keep (inr refl) tt))
     (λ e5. by-test (eqb op 6) (λ e. rw (eqb-true op 6 e) (bare-meant 6 Restore (inr refl) tt))
-    (λ e6. by-test (eqb op 7) (λ e. rw (eqb-true op 7 e) (bare-meant 7 Report (inr refl) tt))
+    (λ e6. by-test (eqb op 7) (λ e. rw (eqb-true op 7 e) (bare-meant 7 (OfLayout Report) (inr refl) tt))
     (λ e7. rw (e1, e2, e3, e4, e5, e6, e7) (bare-meant op Malformed (inl refl) tt))))))))
 
 -- ---- bytes of the length of their op are the frame of what they ask, or ask nothing; and what they ask fits

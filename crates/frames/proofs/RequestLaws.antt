@@ -15,8 +15,9 @@ use Rattle.piece.specs.declared.parttype.Turn.{Turn}
 use Rattle.piece.specs.declared.parttype.Turn.the-variants.{Either, Fixed}
 use Rattle.piece.specs.declared.insertion_blueprint.InsertionShape.{InsertionShape}
 use Rattle.piece.specs.declared.insertion_blueprint.InsertionShape.the-variants.{AlongCurrentCut, AcrossCurrentCut, AlongThenAcross, AcrossThenAlong}
+use Rattle.frames.specs.declared.Ask.the-variants.{Open, Offers, Insert, Remove, Report}
 use Rattle.frames.specs.declared.Request.{Request}
-use Rattle.frames.specs.declared.Request.the-variants.{Open, Offers, Insert, Remove, Keep, Restore, Report, Malformed}
+use Rattle.frames.specs.declared.Request.the-variants.{OfLayout, Keep, Restore, Malformed}
 use Rattle.frames.specs.Bytes.{pairs, allBytes, charsOf, total, checkOf, framed}
 use Rattle.frames.specs.Fields.{cutNo, turnNo, rotationNo, shapeNo, cutListed, turnListed, rotationListed, shapeListed, cutOf, turnOf, rotationOf}
 use Rattle.frames.specs.Fields.{shapeOf, widths, values}
@@ -95,16 +96,17 @@ malformed-back = refl
 
 pub request-back : (q : Request) → RequestFits q → requestOf (frameOf q) ≡ q
 unfolding carriedBy formOf
-request-back (Open l s c t) f =
-    asks 1 openForm _ refl (omega arith) (more (f .0) (more (f .1 .width) (more (f .1 .height) (more (cut-small c) (more (f .2) none))))) (omega arith)
-    ∙ rw (cut-back c .0, cut-back c .1) refl
-request-back (Offers m p) f =
+request-back (OfLayout (Open o)) f =
+    asks 1 openForm _ refl (omega arith)
+    (more (f .number) (more (f .sheet .width) (more (f .sheet .height) (more (cut-small (o .cut)) (more (f .stages) none))))) (omega arith)
+    ∙ rw (cut-back (o .cut) .0, cut-back (o .cut) .1) refl
+request-back (OfLayout (Offers m p)) f =
     asks 2 offersForm _ refl (omega arith) (mark-fits (part-fits none p (f .1)) m (f .0)) (omega arith) ∙ rw (turn-back (p .turn) .0, turn-back (p .turn) .1) refl
-request-back (Insert m p r s) f =
+request-back (OfLayout (Insert m p r s)) f =
     asks 3 insertForm _ refl (omega arith) (mark-fits (part-fits (more (rotation-small r) (more (shape-small s) none)) p (f .1)) m (f .0)) (omega arith)
     ∙ rw (turn-back (p .turn) .0, rotation-back r .0, shape-back s .0, turn-back (p .turn) .1, rotation-back r .1, shape-back s .1) refl
-request-back (Remove m) f = asks 4 removeForm _ refl (omega arith) (mark-fits none m f) (omega arith)
+request-back (OfLayout (Remove m)) f = asks 4 removeForm _ refl (omega arith) (mark-fits none m f) (omega arith)
+request-back (OfLayout Report) f = asks 7 (bare (OfLayout Report)) [] refl (omega arith) none (omega arith)
 request-back Keep f = asks 5 (bare Keep) [] refl (omega arith) none (omega arith)
 request-back Restore f = asks 6 (bare Restore) [] refl (omega arith) none (omega arith)
-request-back Report f = asks 7 (bare Report) [] refl (omega arith) none (omega arith)
 request-back Malformed f = malformed-back

@@ -12,7 +12,8 @@ use Rattle.piece.specs.declared.parttype.Turn.the-variants.{Either}
 use Rattle.piece.specs.declared.insertion_blueprint.InsertionShape.the-variants.{AlongCurrentCut}
 use Rattle.answers.specs.declared.Mark.{Mark}
 use Rattle.answers.specs.declared.Refusal.the-variants.{Gone}
-use Rattle.frames.specs.declared.Request.the-variants.{Open, Insert, Malformed}
+use Rattle.frames.specs.declared.Ask.the-variants.{Open, Insert}
+use Rattle.frames.specs.declared.Request.the-variants.{OfLayout, Malformed}
 use Rattle.frames.specs.Bytes.{pairs, allBytes, charsOf, total}
 use Rattle.frames.specs.Requests.{formOf, lengthOf, askedBy, wellFormed, requestOf}
 use Rattle.frames.specs.Answers.{opened, inserted, refused, malformed, each, contentOf, answerLine}
@@ -24,13 +25,15 @@ codes (c ∷ text) = code c and codes text
 abbrev pub mark : ℕ → ℕ → Mark
 mark place serial = record { layout = 1; place = place; serial = serial }
 
-pub asks-opening : requestOf (codes "010001000000640000003c01035a") ≡ Open 1 (record { width = 100; height = 60 }) Vertical 3
+pub asks-opening :
+    requestOf (codes "010001000000640000003c01035a")
+    ≡ OfLayout (Open (record { number = 1; settings = record { stages = 3; sheet = record { width = 100; height = 60 } }; cut = Vertical }))
 unfolding codes requestOf wellFormed pairs allBytes total lengthOf formOf askedBy digitOf pairOf
 asks-opening = refl
 
 pub asks-insertion :
     requestOf (codes "03000101000000020007000000280000003c0000018d")
-    ≡ Insert (mark 1 2) (record { number = 7; size = record { width = 40; height = 60 }; turn = Either }) Default AlongCurrentCut
+    ≡ OfLayout (Insert (mark 1 2) (record { number = 7; size = record { width = 40; height = 60 }; turn = Either }) Default AlongCurrentCut)
 unfolding codes requestOf wellFormed pairs allBytes total lengthOf formOf askedBy digitOf pairOf
 asks-insertion = refl
 

@@ -11,6 +11,7 @@ use Rattle.piece.specs.declared.rotation.Rotation.the-variants.{Default, Rotate
 use Rattle.piece.specs.declared.parttype.Turn.{Turn}
 use Rattle.piece.specs.declared.parttype.Turn.the-variants.{Either, Fixed}
 use Rattle.piece.specs.declared.parttype.PartType.{PartType}
+use Rattle.piece.specs.declared.settings.Opening.{Opening}
 use Rattle.piece.specs.declared.size.Size.{Size}
 use Rattle.piece.specs.declared.insertion_blueprint.InsertionShape.{InsertionShape}
 use Rattle.piece.specs.declared.insertion_blueprint.InsertionShape.the-variants.{AlongCurrentCut, AcrossCurrentCut, AlongThenAcross, AcrossThenAlong}
@@ -147,15 +148,21 @@ given [] a vs = a
 given (f ∷ fs) k [] = given fs (k 0) []
 given (f ∷ fs) k (v ∷ vs) = given fs (k v) vs
 
--- ---- a size, a mark and a part, from their numbers and back
+-- ---- a size, an opening, a mark and a part, from their numbers and back
 abbrev pub aSize : ℕ → ℕ → Size
 aSize w h = record { width = w; height = h }
+
+abbrev pub anOpening : ℕ → ℕ → ℕ → ℕ → ℕ → Opening
+anOpening n w h c t = record { number = n; settings = record { stages = t; sheet = aSize w h }; cut = cutOf c }
 
 abbrev pub aMark : ℕ → ℕ → ℕ → Mark
 aMark layout place serial = record { layout = layout; place = place; serial = serial }
 
 abbrev pub aPart : ℕ → ℕ → ℕ → ℕ → PartType
 aPart n w h t = record { number = n; size = aSize w h; turn = turnOf t }
+
+abbrev pub openingNos : Opening → List ℕ
+openingNos o = o .number ∷ o .settings .sheet .width ∷ o .settings .sheet .height ∷ cutNo (o .cut) ∷ o .settings .stages ∷ []
 
 abbrev pub markNos : Mark → List ℕ
 markNos m = m .layout ∷ m .place ∷ m .serial ∷ []

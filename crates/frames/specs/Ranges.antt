@@ -4,10 +4,12 @@ use mathlib.Core.List.{List, [], _∷_}
 use Prim.Native.Nat.{_<_, _^_}
 use lib.ListN.{length}
 use Rattle.piece.specs.declared.parttype.PartType.{PartType}
+use Rattle.piece.specs.declared.settings.Opening.{Opening}
 use Rattle.piece.specs.declared.size.Size.{Size}
 use Rattle.answers.specs.declared.Mark.{Mark}
+use Rattle.frames.specs.declared.Ask.the-variants.{Open, Offers, Insert, Remove, Report}
 use Rattle.frames.specs.declared.Request.{Request}
-use Rattle.frames.specs.declared.Request.the-variants.{Open, Offers, Insert, Remove, Keep, Restore, Report, Malformed}
+use Rattle.frames.specs.declared.Request.the-variants.{OfLayout, Keep, Restore, Malformed}
 use Rattle.frames.specs.Answers.{Answer, refused, opened, offered, inserted, removed, done, reported, malformed}
 
 pub record MarkFits (m : Mark) : Type 0 where
@@ -23,14 +25,19 @@ pub record PartFits (p : PartType) : Type 0 where
   pub number : p .number < 2 ^ 16
   pub size : SizeFits (p .size)
 
+pub record OpeningFits (o : Opening) : Type 0 where
+  pub number : o .number < 2 ^ 16
+  pub sheet : SizeFits (o .settings .sheet)
+  pub stages : o .settings .stages < 2 ^ 8
+
 abbrev pub RequestFits : Request → Type 0
-RequestFits (Open layout size cut stages) = (layout < 2 ^ 16) × SizeFits size × (stages < 2 ^ 8)
-RequestFits (Offers mark part) = MarkFits mark × PartFits part
-RequestFits (Insert mark part rotation shape) = MarkFits mark × PartFits part
-RequestFits (Remove mark) = MarkFits mark
+RequestFits (OfLayout (Open opening)) = OpeningFits opening
+RequestFits (OfLayout (Offers mark part)) = MarkFits mark × PartFits part
+RequestFits (OfLayout (Insert mark part rotation shape)) = MarkFits mark × PartFits part
+RequestFits (OfLayout (Remove mark)) = MarkFits mark
+RequestFits (OfLayout Report) = Unit
 RequestFits Keep = Unit
 RequestFits Restore = Unit
-RequestFits Report = Unit
 RequestFits Malformed = Unit
 
 module _ {A : Type 0} where

@@ -4,12 +4,13 @@ use mathlib.Core.List.{List, [], _∷_, _++_}
 use Prim.Native.Nat.{ℕ, _+_, _%_}
 use lib.Dec.{eqb, leb}
 use lib.ListN.{length, getD}
+use Rattle.frames.specs.declared.Ask.the-variants.{Open, Offers, Insert, Remove, Report}
 use Rattle.frames.specs.declared.Request.{Request}
-use Rattle.frames.specs.declared.Request.the-variants.{Open, Offers, Insert, Remove, Keep, Restore, Report, Malformed}
+use Rattle.frames.specs.declared.Request.the-variants.{OfLayout, Keep, Restore, Malformed}
 use Rattle.frames.specs.Bytes.{pairs, allBytes, charsOf, total, framed}
-use Rattle.frames.specs.Fields.{cutNo, rotationNo, shapeNo, cutOf, rotationOf, shapeOf, Field, byte, twoBytes, fourBytes, cutByte, rotationByte}
-use Rattle.frames.specs.Fields.{shapeByte, markFields, partFields, widths, values, allListed, written, Takes, given, aSize, aMark, aPart}
-use Rattle.frames.specs.Fields.{markNos, partNos}
+use Rattle.frames.specs.Fields.{rotationNo, shapeNo, rotationOf, shapeOf, Field, byte, twoBytes, fourBytes, cutByte, rotationByte, shapeByte}
+use Rattle.frames.specs.Fields.{markFields, partFields, widths, values, allListed, written, Takes, given, anOpening, aMark, aPart}
+use Rattle.frames.specs.Fields.{openingNos, markNos, partNos}
 
 -- ---- the table "op | carries": the fields of each op, said once, and the request that their numbers make
 pub record Form : Type 0 where
@@ -17,24 +18,25 @@ pub record Form : Type 0 where
   pub asks : Takes Request fields
 
 abbrev pub openForm : Form
-openForm = record { fields = twoBytes ∷ fourBytes ∷ fourBytes ∷ cutByte ∷ byte ∷ []; asks = λ n w h c t. Open n (aSize w h) (cutOf c) t }
+openForm =
+    record { fields = twoBytes ∷ fourBytes ∷ fourBytes ∷ cutByte ∷ byte ∷ []; asks = λ n w h c t. OfLayout (Open (anOpening n w h c t)) }
 
 abbrev pub offersForm : Form
-offersForm = record { fields = markFields ++ partFields; asks = λ l p s n w h t. Offers (aMark l p s) (aPart n w h t) }
+offersForm = record { fields = markFields ++ partFields; asks = λ l p s n w h t. OfLayout (Offers (aMark l p s) (aPart n w h t)) }
 
 abbrev pub insertForm : Form
 insertForm =
     record {
       fields = markFields ++ (partFields ++ (rotationByte ∷ shapeByte ∷ []));
-      asks = λ l p s n w h t r k. Insert (aMark l p s) (aPart n w h t) (rotationOf r) (shapeOf k);
+      asks = λ l p s n w h t r k. OfLayout (Insert (aMark l p s) (aPart n w h t) (rotationOf r) (shapeOf k));
     }
 
 abbrev pub removeForm : Form
-removeForm = record { fields = markFields; asks = λ l p s. Remove (aMark l p s) }
+removeForm = record { fields = markFields; asks = λ l p s. OfLayout (Remove (aMark l p s)) }
 
 -- the ops that carry nothing; one that is not listed asks nothing
 abbrev pub bareOf : ℕ → Request
-bareOf op = cond (eqb op 5) Keep (cond (eqb op 6) Restore (cond (eqb op 7) Report Malformed))
+bareOf op = cond (eqb op 5) Keep (cond (eqb op 6) Restore (cond (eqb op 7) (OfLayout Report) Malformed))
 
 abbrev pub bare : Request → Form
 bare q = record { fields = []; asks = q }
@@ -89,14 +91,14 @@ abbrev pub carried : ℕ → Form → List ℕ → List ℕ
 carried op f vs = op ∷ written (f .fields) vs
 
 unfoldable pub carriedBy : Request → List ℕ
-carriedBy (Open layout size cut stages) = carried 1 openForm (layout ∷ size .width ∷ size .height ∷ cutNo cut ∷ stages ∷ [])
-carriedBy (Offers mark part) = carried 2 offersForm (markNos mark ++ partNos part)
-carriedBy (Insert mark part rotation shape) =
+carriedBy (OfLayout (Open opening)) = carried 1 openForm (openingNos opening)
+carriedBy (OfLayout (Offers mark part)) = carried 2 offersForm (markNos mark ++ partNos part)
+carriedBy (OfLayout (Insert mark part rotation shape)) =
     carried 3 insertForm (markNos mark ++ (partNos part ++ (rotationNo rotation ∷ shapeNo shape ∷ [])))
-carriedBy (Remove mark) = carried 4 removeForm (markNos mark)
+carriedBy (OfLayout (Remove mark)) = carried 4 removeForm (markNos mark)
+carriedBy (OfLayout Report) = carried 7 (bare (OfLayout Report)) []
 carriedBy Keep = carried 5 (bare Keep) []
 carriedBy Restore = carried 6 (bare Restore) []
-carriedBy Report = carried 7 (bare Report) []
 carriedBy Malformed = []
 
 abbrev pub frameOf : Request → List ℕ

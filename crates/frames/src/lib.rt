@@ -2,21 +2,17 @@
 // Rests on hex (digits), piece (parts, sizes, shapes) and answers (marks, refusals).
 use answers::Mark;
 use piece::insertion_blueprint::InsertionShape;
-use piece::orientation::Orientation;
 use piece::parttype::PartType;
 use piece::rotation::Rotation;
-use piece::size::Size;
+use piece::settings::Opening;
 
 pub mod read;
 pub mod write;
 
-// What a line asks. A mark's place is one byte in a frame.
-pub enum Request {
+// What a line asks of the layout. A mark's place is one byte in a frame.
+pub enum Ask {
     Open {
-        layout: u16,
-        size: Size,
-        cut: Orientation,
-        stages: u8,
+        opening: Opening,
     },
     Offers {
         mark: Mark,
@@ -31,8 +27,13 @@ pub enum Request {
     Remove {
         mark: Mark,
     },
+    Report,
+}
+
+// What a line asks: something of the layout, to keep the layout, or to restore the one that is kept; or it is malformed.
+pub enum Request {
+    OfLayout(Ask),
     Keep,
     Restore,
-    Report,
     Malformed,
 }

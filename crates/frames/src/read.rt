@@ -6,6 +6,7 @@ ghost use Rattle.frames.specs.Bytes.{twoAt, fourAt};
 ghost use Rattle.frames.specs.Decoding.{Decodes};
 ghost use Rattle.frames.specs.Fields.{cutOf, turnOf, rotationOf, shapeOf, markFields, partFields, widths, sizeAt, markAt, partAt};
 ghost use Rattle.frames.specs.Requests.{openOf, offersOf, insertOf, removeOf, lengthOf, askedBy, requestOf};
+use crate::Ask;
 use crate::Request;
 use answers::Mark;
 use piece::insertion_blueprint::InsertionShape;
@@ -13,6 +14,8 @@ use piece::orientation::Orientation;
 use piece::parttype::PartType;
 use piece::parttype::Turn;
 use piece::rotation::Rotation;
+use piece::settings::Opening;
+use piece::settings::Settings;
 use piece::size::Size;
 
 // The longest line, in characters.
@@ -220,12 +223,16 @@ fn open(b: &[u8; 32]) -> Request
     if 1 < cut {
         return Request::Malformed;
     }
-    Request::Open {
-        layout: two_at(b, FIRST),
-        size: size_at(b, OPEN_SIZE),
-        cut: cut_of(cut),
-        stages: b[OPEN_STAGES],
-    }
+    Request::OfLayout(Ask::Open {
+        opening: Opening {
+            number: two_at(b, FIRST),
+            settings: Settings {
+                stages: b[OPEN_STAGES],
+                sheet: size_at(b, OPEN_SIZE),
+            },
+            cut: cut_of(cut),
+        },
+    })
 }
 
 fn offers(b: &[u8; 32]) -> Request
@@ -235,10 +242,10 @@ fn offers(b: &[u8; 32]) -> Request
     if 2 < turn {
         return Request::Malformed;
     }
-    Request::Offers {
+    Request::OfLayout(Ask::Offers {
         mark: mark_at(b, FIRST),
         part: part_at(b, OFFERS_PART),
-    }
+    })
 }
 
 fn insert(b: &[u8; 32]) -> Request
@@ -259,20 +266,20 @@ fn insert(b: &[u8; 32]) -> Request
     if 4 < shape {
         return Request::Malformed;
     }
-    Request::Insert {
+    Request::OfLayout(Ask::Insert {
         mark: mark_at(b, FIRST),
         part: part_at(b, INSERT_PART),
         rotation: rotation_of(rotation),
         shape: shape_of(shape),
-    }
+    })
 }
 
 fn remove(b: &[u8; 32]) -> Request
     ensures { λ r. ⌜ r ≡ removeOf (now (b .entry)) ⌝ }
 {
-    Request::Remove {
+    Request::OfLayout(Ask::Remove {
         mark: mark_at(b, FIRST),
-    }
+    })
 }
 
 // Op and check among its bytes; an op that is not listed carries nothing.
@@ -298,7 +305,7 @@ fn asked_by(op: u8, b: &[u8; 32]) -> Request
         4 => remove(b),
         5 => Request::Keep,
         6 => Request::Restore,
-        7 => Request::Report,
+        7 => Request::OfLayout(Ask::Report),
         _ => Request::Malformed,
     }
 }

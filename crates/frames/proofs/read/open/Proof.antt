@@ -12,13 +12,9 @@ returns c = simp (lt-leb _ _ (c .if1 .taken))
 returns-2 : tie.Need-returns-2
 unfolding openOf
 returns-2 c =
-    let s = c .before .before in
-    simp (
-      le-leb _ _ (s .before .before .if1 .left),
-      s .before .two-at .ensures,
-      s .size-at .ensures,
-      c .before .cut-of .ensures,
-    )
+    let s = c .before in
+    let n = s .before .before in
+    simp (le-leb _ _ (n .before .if1 .left), n .two-at .ensures, s .size-at .ensures, c .cut-of .ensures)
 
 pub open-spec : {M : Type 1} → statement M
 open-spec =
@@ -27,7 +23,7 @@ open-spec =
     (λ c. search needs)  -- element-copy-out-cut
     returns
     (λ c κs. search needs)  -- two-at-requires
+    (λ c. search needs)  -- element-copy-out-t4
     (λ c κs. search needs)  -- size-at-requires
     (λ c κs. search needs)  -- cut-of-requires
-    (λ c. search needs)  -- element-copy-out-t5
     returns-2)
