@@ -56,10 +56,6 @@ pub leaves-count : (b : Booking) (d : Datum) (q : ℕ) (none : Bool) → length 
 unfolding block
 leaves-count b d q none = planted-count b q none (b .shape) (d .level) (d .cut) (d .size) (b .size)
 
-pub new-count : (b : Booking) (d : Datum) (q : ℕ) (none : Bool) → heldNew (leaves q none (block b d)) .count ≡ newNodes (b .shape)
-unfolding heldNew
-new-count b d q none = leaves-count b d q none
-
 -- and at most two of them are free
 planted-frees : (b : Booking) (q : ℕ) (none : Bool) (shape : InsertionShape) (level : ℕ) (c : Orientation) (piece size : Size) →
     length (freesOf (leaves q none (planted b level c (blockOf shape c piece size)))) ≤ 2

@@ -17,7 +17,7 @@ use Rattle.tree.proofs.Rows.{same?, in-eq, at-in, after-nil}
 use Rattle.tree.proofs.Kept.{Where, Alone, free-alone}
 use Rattle.tree.proofs.Places.{in-less, gone}
 use Rattle.tree.proofs.Stays.{at-book}
-use Rattle.tree.proofs.Blocks.{block-in, block-distinct}
+use Rattle.tree.proofs.Blocks.{block-in}
 use Rattle.tree.proofs.BookKept.{book-distinct}
 use Rattle.tree.proofs.Bookings.{at-unique}
 use Rattle.table.proofs.Unlink.{less-at}
@@ -104,9 +104,6 @@ module _ (limit stages : ℕ) (sheet : Size) (w : Tree) (sound : Sound limit sta
       block-apart i h g =
           let z = block-in b d i h in
           less-gone (in-eq (less x w) (z .2 ∙ new .unheld (z .0) (z .1) (in-eq w (z .2) (less-in i g))) g)
-
-      pub block-one : (i : ℕ) (e f : Datum) → At i e (block b d) → At i f (block b d) → e ≡ f
-      block-one i e f g h = sym (at-unique i e f (block b d) (block-distinct b d (new .apart)) g h)
 
       pub book-one : (i : ℕ) (e f : Datum) → At i e (book x b w) → At i f (book x b w) → e ≡ f
       book-one i e f g h = sym (at-unique i e f (book x b w) (book-distinct limit x b w (sound .distinct) new) g h)

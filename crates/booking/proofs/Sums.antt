@@ -12,20 +12,19 @@ use Rattle.piece.specs.declared.orientation.Orientation.{Orientation}
 use Rattle.piece.specs.declared.size.Size.{Size}
 use Rattle.piece.specs.declared.node.Datum.{Datum}
 use Rattle.piece.specs.declared.node.Kind.{Kind}
-use Rattle.piece.specs.declared.node.Kind.the-variants.{Free, Part, Structure}
+use Rattle.piece.specs.declared.node.Kind.the-variants.{Free}
 use Rattle.piece.specs.declared.insertion_blueprint.InsertionShape.{InsertionShape}
 use Rattle.piece.specs.declared.insertion_blueprint.InsertionShape.the-variants.{AlongCurrentCut, AcrossCurrentCut, AlongThenAcross, AcrossThenAlong}
-use Rattle.piece.specs.Sides.{other, sized, laid, area}
-use Rattle.piece.specs.Row.{Row, nil, grow}
-use Rattle.piece.specs.Insertion.{Made, blockOf, table, newNodes, ownArea, covered}
+use Rattle.piece.specs.Sides.{sized, laid, area}
+use Rattle.piece.specs.Row.{nil, grow}
+use Rattle.piece.specs.Insertion.{blockOf, table, newNodes}
 use Rattle.piece.specs.Offers.{along, across, only, shapes}
 use Rattle.piece.proofs.Sizes.{laid-twice}
-use Rattle.piece.proofs.Blocks.{block-fills}
-use Rattle.tree.specs.Tree.{Tree, In, At, Distinct, count, isFree, isPart}
+use Rattle.tree.specs.Tree.{Tree, In, At, Distinct, count, isPart}
 use Rattle.tree.specs.Sound.{Sound}
 use Rattle.tree.specs.Booking.{Booking, planted, block, book}
 use Rattle.tree.specs.Accepted.{Fitting}
-use Rattle.tree.specs.Figures.{areaOf, partArea, freeArea}
+use Rattle.tree.specs.Figures.{areaOf, partArea}
 use Rattle.tree.specs.Steps.{less}
 use Rattle.tree.proofs.Rows.{same?, at-in, after-nil}
 use Rattle.tree.proofs.Kept.{Where, Alone, free-alone}
@@ -87,14 +86,6 @@ module _ (al ac : Bool) where
           (only (ltb level stages) AlongThenAcross ++ only (ltb (level + 1) stages) AcrossThenAlong)) → Suits al ac s
       second = suits-cond (ac && ltb level stages) AcrossCurrentCut s _ (λ e. and-eq-true-iff ac (ltb level stages) .0 e .0) third
 
--- every part of the block has this size
-abbrev PartSized : Size → Row Made → Type 0
-PartSized s nil = Unit {0}
-PartSized s (grow i m k r) = (m .kind ≡ Part → m .size ≡ s) × PartSized s k × PartSized s r
-
-not-part : {A : Type 0} (κ : Kind) → isPart κ ≡ false → κ ≡ Part → A
-not-part κ n e = let z : _≡_ {A = ℕ} 0 1 = cc (n, ap isPart e) in absurd (omega arith)
-
 -- the part is as wide as the table writes it, and as high
 same-sides : (c : Orientation) (part : Size) (w h : ℕ) → w ≡ laid c part .width → h ≡ laid c part .height → laid c (sized w h) ≡ part
 same-sides c part w h e f = rw (e, f) (laid-twice c part)
@@ -113,15 +104,6 @@ module _ (c : Orientation) (piece part : Size) where
   part-side AlongThenAcross e = laid-twice c part
   part-side AcrossThenAlong e = laid-twice c part
 
-  table-sized : (s : InsertionShape) → laid c (partSide s) ≡ part → PartSized part (blockOf s c piece part)
-  unfolding blockOf table
-  table-sized AlongCurrentCut e = ((λ z. e), tt, (not-part Free refl, tt, tt))
-  table-sized AcrossCurrentCut e = (not-part Structure refl, ((λ z. e), tt, (not-part Free refl, tt, tt)), tt)
-  table-sized AlongThenAcross e =
-      (not-part Structure refl, ((λ z. e), tt, (not-part Free refl, tt, tt)), (not-part Free refl, tt, tt))
-  table-sized AcrossThenAlong e =
-      (not-part Structure refl, (not-part Structure refl, ((λ z. e), tt, (not-part Free refl, tt, tt)), (not-part Free refl, tt, tt)), tt)
-
   table-part : (b : Booking) (l : ℕ) (s : InsertionShape) → partArea (planted b l c (blockOf s c piece part)) ≡ area (laid c (partSide s))
   unfolding blockOf table
   table-part b l AlongCurrentCut = omega arith
@@ -129,46 +111,14 @@ module _ (c : Orientation) (piece part : Size) where
   table-part b l AlongThenAcross = omega arith
   table-part b l AcrossThenAlong = omega arith
 
-planted-sized : (b : Booking) (s : Size) (l : ℕ) (c : Orientation) (i : ℕ) (e : Datum) (w : Row Made) → PartSized s w
-    → At i e (planted b l c w) → e .kind ≡ Part → e .size ≡ s
-planted-sized b s l c i e nil h g z = absurd g
-planted-sized b s l c i e (grow j m k r) h (inl g) z =
-    ap (λ (n : Datum). n .size) (g .1) ∙ h .0 (sym (ap (λ (n : Datum). n .kind) (g .1)) ∙ z)
-planted-sized b s l c i e (grow j m k r) h (inr (inl g)) z = planted-sized b s (l + 1) (other c) i e k (h .1) g z
-planted-sized b s l c i e (grow j m k r) h (inr (inr g)) z = planted-sized b s l c i e r (h .2) g z
-
-own-areas : (κ : Kind) (s : Size) → cond (isPart κ) (area s) 0 + cond (isFree κ) (area s) 0 ≡ ownArea κ s
-own-areas Free s = omega arith
-own-areas Part s = omega arith
-own-areas Structure s = omega arith
-
-planted-areas : (b : Booking) (l : ℕ) (c : Orientation) (w : Row Made) → partArea (planted b l c w) + freeArea (planted b l c w) ≡ covered w
-planted-areas b l c nil = refl
-planted-areas b l c (grow i m k r) =
-    let f = planted-areas b (l + 1) (other c) k in let g = planted-areas b l c r in omega (arith, own-areas (m .kind) (m .size))
-
 module _ (stages : ℕ) (d : Datum) (b : Booking) (fit : Fitting stages d b) where
   side : laid (d .cut) (partSide (d .cut) (d .size) (b .size) (b .shape)) ≡ b .size
   side = part-side (d .cut) (d .size) (b .size) (b .shape) (offered-suits _ _ (d .level) stages (b .shape) (fit .offered))
 
-  -- the block's part has the booked size
-  pub block-part : (i : ℕ) (e : Datum) → At i e (block b d) → e .kind ≡ Part → e .size ≡ b .size
-  unfolding block
-  block-part i e h z =
-      planted-sized b (b .size) (d .level) (d .cut) i e (blockOf (b .shape) (d .cut) (d .size) (b .size))
-      (table-sized (d .cut) (d .size) (b .size) (b .shape) side) h z
-
-  -- and it is the only one
+  -- the block has one part, and that has the booked size
   pub block-part-area : partArea (block b d) ≡ area (b .size)
   unfolding block
   block-part-area = table-part (d .cut) (d .size) (b .size) b (d .level) (b .shape) ∙ ap area side
-
-  -- and the rest of the free piece is free
-  pub block-areas : partArea (block b d) + freeArea (block b d) ≡ area (d .size)
-  unfolding block
-  block-areas =
-      planted-areas b (d .level) (d .cut) (blockOf (b .shape) (d .cut) (d .size) (b .size))
-      ∙ block-fills (b .shape) (d .cut) (d .size) (b .size) (fit .inside)
 
 -- ---- the sums of a booked tree
 
@@ -201,9 +151,3 @@ module _ (limit stages : ℕ) (sheet : Size) (w : Tree) (sound : Sound limit sta
           let z = book-area isPart in
           let y : cond (isPart (d .kind)) (area (d .size)) 0 ≡ 0 = rw free in
           omega (arith, block-part-area stages d b fit)
-
-      pub book-free-area : freeArea (book x b w) + area (b .size) ≡ freeArea w
-      book-free-area =
-          let z = book-area isFree in
-          let y : cond (isFree (d .kind)) (area (d .size)) 0 ≡ area (d .size) = rw free in
-          omega (arith, block-areas stages d b fit, block-part-area stages d b fit)

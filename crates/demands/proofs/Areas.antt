@@ -126,12 +126,6 @@ module _ (l k : Layout) (a : Restored) (sized : Sized l) (sized′ : Sized k) wh
   areas-after-restore h =
       ⊎-elim (λ y. absurd (y .0 (h .done))) (λ y. put-back (y .0) (y .1) (y .2)) (restored-is l k a (h .says))
 
-  -- accepted or refused, where the snapshot is one of the same sheet
-  pub areas-after-any-restore : soundB l ≡ true → k .sheet ≡ l .sheet → a ≡ restoreOf l k → AreasCover (a .layout) (l .sheet)
-  areas-after-any-restore sound same e =
-      ⊎-elim (λ y. subst (λ (n : Layout). AreasCover n (l .sheet)) (sym (y .1)) (areas-cover-sound l sized sound))
-      (λ y. subst (AreasCover (a .layout)) same (put-back (y .0) (y .1) (y .2))) (restored-is l k a e)
-
 -- ---- after an opening
 
 -- what was opened

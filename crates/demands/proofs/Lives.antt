@@ -322,10 +322,6 @@ one-number life = run-number (life-run life)
 pub newest-number : {n : Layout} {ls : List Layout} → Life (n ∷ ls) → (k : Layout) → OneOf k (n ∷ ls) → k .number ≡ n .number
 newest-number {n} life k o = one-number life k n o (inl refl)
 
--- the newest state has the greatest last serial: it never falls
-pub newest-serial : {n : Layout} {ls : List Layout} → Life (n ∷ ls) → (k : Layout) → OneOf k (n ∷ ls) → k .serial ≤ n .serial
-newest-serial life = run-most (life-run life)
-
 pub serials-rise : {ls : List Layout} → Life ls → (k l : Layout) → Later k l ls → k .serial ≤ l .serial
 serials-rise life = run-rises (life-run life)
 

@@ -27,7 +27,6 @@ use Rattle.layout.specs.SoundLayout.{SoundLayout, Sized}
 use Rattle.layout.specs.Refusing.{orElse}
 use Rattle.layout.specs.Remove.{RemoveDone, RemoveSays, Takeable, goNo, goingNo, numbersLeft, numbersOut, placeFor}
 use Rattle.layout.specs.Remove.{refusedRemove, removeIs, removeNo, roomNo}
-use Rattle.layout.proofs.Exactly.{sound-shown}
 use Rattle.layout.proofs.Marks.{Names}
 use Rattle.layout.proofs.RemoveEnds.{takeable}
 use Rattle.layout.proofs.TakenOut.{numbers-fewer}
@@ -86,11 +85,6 @@ module _ (l : Layout) (m : Mark) (room : ℕ) (a : Removed) (says : RemoveSays l
   pub refused-back : (e : Refusal) → a .outcome ≡ Refused e → a ≡ refusedRemove l e
   refused-back e d = refused-means (removeNo l m room) l (m .place) a e told d .1
 
-  -- and the buffer is as it was
-  pub refused-untouched : (e : Refusal) → a .outcome ≡ Refused e → (out : List ℕ) → length out ≡ room → numbersLeft l m out ≡ out
-  unfolding numbersLeft
-  refused-untouched e d out n = rw (n, refused-means (removeNo l m room) l (m .place) a e told d .0) refl
-
   module _ (done : a .outcome ≡ Done) where
     pub remove-accepted : (removeNo l m room ≡ none) × RemoveDone l (m .place) a
     remove-accepted = done-means (removeNo l m room) l (m .place) a told done
@@ -101,9 +95,6 @@ module _ (l : Layout) (m : Mark) (room : ℕ) (a : Removed) (says : RemoveSays l
     -- the next layout is sound, and passes the check of the next call
     pub removed-sound : SoundLayout (a .layout)
     removed-sound = removed-done .next .sound
-
-    pub removed-checked : soundB (a .layout) ≡ true
-    removed-checked = sound-shown (a .layout) (removed-done .next .sized) removed-sound
 
     -- what did not go stands where it stood, with its serial and all else that it is
     pub stays : (i : ℕ) (e : Datum) → At i e (cleared (m .place) (tree l)) → At i e (tree (a .layout))

@@ -22,10 +22,9 @@ use Rattle.booking.proofs.BlockMarks.{marks-are}
 use Rattle.layout.specs.declared.layout.Layout.{Layout}
 use Rattle.layout.specs.declared.insert.Inserted.{Inserted}
 use Rattle.layout.specs.declared.replies.Outcome.the-variants.{Done, Refused}
-use Rattle.layout.specs.Check.{limit, tree, soundB}
+use Rattle.layout.specs.Check.{limit, tree}
 use Rattle.layout.specs.SoundLayout.{SoundLayout, Sized}
 use Rattle.layout.specs.Insert.{InsertDone, InsertSays, bookingFor, insertIs, insertNo, pieceAt, refusedInsert}
-use Rattle.layout.proofs.Exactly.{sound-shown}
 use Rattle.layout.proofs.Admitted.{insertable}
 
 -- "count; free marks in creation order": no shape makes more than two free pieces
@@ -70,9 +69,6 @@ module _ (l : Layout) (m : Mark) (p : PartType) (r : Rotation) (s : InsertionSha
 
   pub inserted-sound : a .outcome ≡ Done → SoundLayout (a .layout)
   inserted-sound h = insert-accepted h .1 .next .sound
-
-  pub inserted-checked : a .outcome ≡ Done → soundB (a .layout) ≡ true
-  inserted-checked h = let n = insert-accepted h .1 .next in sound-shown (a .layout) (n .sized) (n .sound)
 
   -- "Node marks stay valid": what is not taken stands where it stood
   pub untouched-by-insertion : Sized l → a .outcome ≡ Done → (i : ℕ) (e : Datum) → At i e (tree l) → (i ≡ m .place → ⊥) → At i e (tree (a .layout))

@@ -142,14 +142,6 @@ refused l n e = rw (flags-none limit l n e, e) refl
 -- ---- what the answer says
 
 module _ (bound : ℕ) (l : List ℕ) (n : ℕ) where
-  pub flags-length : length (flagsOf bound l n) ≡ bound
-  unfolding flagsOf
-  flags-length = go (okB bound l n)
-    where
-      go : (b : Bool) → length (cond b (column (flagAt l n) bound 0) (zeros bound)) ≡ bound
-      go true = length-column (flagAt l n) bound 0
-      go false = length-replicate bound 0
-
   -- a list is as it should be exactly if its entries are there, are below the bound and differ
   pub ok-all : n ≤ bound → ((i : ℕ) → i < n → getD l i 0 < bound)
       → ((i j : ℕ) → i < n → j < n → getD l i 0 ≡ getD l j 0 → i ≡ j) → okB bound l n ≡ true
@@ -192,9 +184,6 @@ module _ (bound : ℕ) (l : List ℕ) (n : ℕ) where
     -- it is 1 exactly if an entry names the place, and else 0
     pub flag-named : (p i : ℕ) → p < bound → i < n → getD l i 0 ≡ p → getD (flagsOf bound l n) p 0 ≡ 1
     flag-named p i h b e = flag-is p h ∙ rw (named-at l n p i b e) refl
-
-    pub flag-unnamed : (p : ℕ) → p < bound → ((i : ℕ) → i < n → getD l i 0 ≡ p → ⊥) → getD (flagsOf bound l n) p 0 ≡ 0
-    flag-unnamed p h m = flag-is p h ∙ rw (named-nowhere l n p m) refl
 
     pub flag-one : (p : ℕ) → p < bound → getD (flagsOf bound l n) p 0 ≡ 1 → (i : ℕ) × (i < n) × (getD l i 0 ≡ p)
     flag-one p h e = go (test (unnamed l n p))

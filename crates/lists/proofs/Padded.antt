@@ -7,7 +7,7 @@ use native.Mathlib.Numerals.{add-one}
 use native.Mathlib.Omega.{arith}
 use native.Mathlib.Decide.{decLt}
 use lib.ListN.{getD, set, length, take, drop, length-append, length-replicate, length-drop, length-set}
-use lib.ListN.{take-append-drop, drop-of-length-le, List·getD-append, List·getD-eq-default}
+use lib.ListN.{drop-of-length-le, List·getD-append, List·getD-eq-default}
 use lib.Seq.{length-take-le, take-append-le, drop-append-le, take-append-seam, drop-append-seam, drop-append-add, getD-append-add, take-at}
 use lib.Seq.{take-length, drop-length, sets-eq, set-append-left, set-split, getD-drop, ext-getD}
 use borrow.Author.Tests.{lt-ltb, le-ltb, eq-eqb, eqb-true}
@@ -78,11 +78,6 @@ module _ (bound : ℕ) (xs : List ℕ) where
           (rw e at (getD-append-add xs (zeros (bound - length xs)) (i - length xs) 0))
           ∙ getD-zeros (bound - length xs) (i - length xs)
           ∙ sym (List·getD-eq-default xs 0 (omega arith))
-
--- two padded lists with as many entries are the same only where their entries are
-pub padded-inj : (bound : ℕ) (xs ys : List ℕ) → length xs ≡ length ys → padded bound xs ≡ padded bound ys → xs ≡ ys
-padded-inj bound xs ys e p =
-    sym (take-padded bound xs) ∙ ap (λ (l : List ℕ). take (length xs) l) p ∙ rw e (take-padded bound ys)
 
 -- ---- the steps on a padded list
 
@@ -188,14 +183,3 @@ module _ (bound : ℕ) (l : List ℕ) (n : ℕ) where
         here i a b =
             let q : n + (i - n) ≡ i = omega arith in
             (rw q at (sym (getD-drop n l (i - n) 0))) ∙ ap (λ (r : List ℕ). getD r (i - n) 0) d ∙ getD-zeros (bound - n) (i - n)
-
-    -- a list with a tail of zeros is the padded list of its entries
-    pub zero-tail-padded : n ≤ bound → zeroTail bound l n ≡ true → l ≡ padded bound (take n l)
-    unfolding padded
-    zero-tail-padded h t =
-        let z : length (take n l) ≡ n = length-take-le n l (omega arith) in
-        sym (take-append-drop n l) ∙ rw (zero-tail-drop t, z) refl
-
-pub padded-zero-tail : (bound : ℕ) (xs : List ℕ) → zeroTail bound (padded bound xs) (length xs) ≡ true
-padded-zero-tail bound xs =
-    zero-tail-all bound (padded bound xs) (length xs) (λ i a b. getD-padded bound xs i ∙ List·getD-eq-default xs 0 a)

@@ -5,7 +5,7 @@ use mathlib.Core.List.{List}
 use Prim.Native.Nat.{ℕ, _+_, _*_, _-_, _≤_}
 use native.Mathlib.Nat.{add-mul}
 use native.Mathlib.Omega.{arith}
-use lib.ListN.{length, take, getD}
+use lib.ListN.{length, take}
 use Rattle.piece.specs.declared.orientation.Orientation.{Orientation}
 use Rattle.piece.specs.declared.size.Size.{Size}
 use Rattle.piece.specs.declared.node.Kind.{Kind}
@@ -18,7 +18,7 @@ use Rattle.piece.specs.Row.{Row, nil, grow}
 use Rattle.piece.specs.Offers.{fits}
 use Rattle.piece.specs.Insertion.{Made, table, newNodes, laidAll, blockOf, ownArea, covered, outside, listed, noNode, held, blueprintOf}
 use Rattle.piece.proofs.Sizes.{area-laid, fits-laid, fits-sides}
-use Rattle.piece.proofs.Padded.{padded-at, padded-whole}
+use Rattle.piece.proofs.Padded.{padded-whole}
 
 pub block-length : (s : InsertionShape) (q : ℕ) (c d : Orientation) (piece part : Size) →
     length (listed q d (blockOf s c piece part)) ≡ newNodes s
@@ -34,11 +34,6 @@ new-nodes-few AcrossCurrentCut = omega arith
 new-nodes-few AlongThenAcross = omega arith
 new-nodes-few AcrossThenAlong = omega arith
 
--- each entry of the code's list is the node of that place, and zero past the last
-pub held-at : (l : List InsertionNode) → length l ≤ 5 → (i : ℕ) → getD (held l .nodes) i noNode ≡ getD l i noNode
-unfolding held
-held-at l h i = padded-at noNode 5 5 l h i
-
 -- the nodes are the list's first entries, as many as the count says
 pub held-whole : (l : List InsertionNode) → length l ≤ 5 → take (held l .count) (held l .nodes) ≡ l
 unfolding held
@@ -48,12 +43,6 @@ module _ (s : InsertionShape) (c : Orientation) (piece part : Size) where
   pub blueprint-count : blueprintOf s c piece part .count ≡ newNodes s
   unfolding blueprintOf held
   blueprint-count = block-length s outside c c piece part
-
-  pub blueprint-at : (i : ℕ) →
-      getD (blueprintOf s c piece part .nodes) i noNode ≡ getD (listed outside c (blockOf s c piece part)) i noNode
-  unfolding blueprintOf
-  blueprint-at i =
-      held-at (listed outside c (blockOf s c piece part)) (rw (block-length s outside c c piece part) (new-nodes-few s)) i
 
 own-area-laid : (c : Orientation) (k : Kind) (s : Size) → ownArea k (laid c s) ≡ ownArea k s
 own-area-laid c Free s = area-laid c s

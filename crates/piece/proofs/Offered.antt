@@ -5,7 +5,7 @@ use mathlib.Core.List.{List, [], _∷_, _++_, append-nil, append-assoc}
 use Prim.Native.Nat.{ℕ, suc, _+_, _≤_, _<_}
 use native.Mathlib.Omega.{arith}
 use borrow.Author.Needs.{needs}
-use lib.ListN.{length, take, getD, length-append}
+use lib.ListN.{length, take, length-append}
 use Rattle.piece.specs.declared.rotation.Rotation.{Rotation}
 use Rattle.piece.specs.declared.rotation.Rotation.the-variants.{Default, Rotated}
 use Rattle.piece.specs.declared.parttype.PartType.{PartType}
@@ -14,7 +14,7 @@ use Rattle.piece.specs.declared.node.Datum.{Datum}
 use Rattle.piece.specs.declared.insertion_blueprint.InsertionShape.{InsertionShape}
 use Rattle.piece.specs.declared.insertion_option.Offer.{Offer}
 use Rattle.piece.specs.Offers.{only, shapes, inRotation, offersIn, offersOf, noOffer, held, noOffers, withOffer, withOffers}
-use Rattle.piece.proofs.Padded.{padded-at, padded-whole}
+use Rattle.piece.proofs.Padded.{padded-whole}
 
 -- whichever way a test goes
 either : {A : Type 0} (n : ℕ) (b : Bool) (x y : List A) → length x ≤ n → length y ≤ n → length (cond b x y) ≤ n
@@ -51,11 +51,6 @@ offers-few piece part settings =
 pub held-count : (l : List Offer) → held l .count ≡ length l
 unfolding held
 held-count l = refl
-
--- each entry is the offer of that place, and zero past the last
-pub held-at : (l : List Offer) → length l ≤ 4 → (i : ℕ) → getD (held l .list) i noOffer ≡ getD l i noOffer
-unfolding held
-held-at l h i = padded-at noOffer 4 4 l h i
 
 -- the offers are the list's first entries, as many as the count says
 pub held-whole : (l : List Offer) → length l ≤ 4 → take (held l .count) (held l .list) ≡ l

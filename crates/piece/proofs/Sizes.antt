@@ -1,4 +1,4 @@
--- Laws of sizes: what stays of a size, whatever cut or rotation it is laid by, and how great its area can be.
+-- Laws of sizes: what stays of a size, whatever cut it is laid by, and how great its area can be.
 use mathlib.Core.Path.{_≡_, refl, subst⁻¹}
 use mathlib.Core.Bool.{Bool, true, false, _&&_, and-comm, false≢true}
 use Prim.Native.Nat.{ℕ, _+_, _*_, _^_, _≤_, _<_}
@@ -9,11 +9,9 @@ use lib.Pow.{pow-add, pow-pos}
 use borrow.Author.Tests.{leb-true}
 use Rattle.piece.specs.declared.orientation.Orientation.{Orientation}
 use Rattle.piece.specs.declared.orientation.Orientation.the-variants.{Horizontal, Vertical}
-use Rattle.piece.specs.declared.rotation.Rotation.{Rotation}
-use Rattle.piece.specs.declared.rotation.Rotation.the-variants.{Default, Rotated}
 use Rattle.piece.specs.declared.size.Size.{Size}
 use Rattle.piece.specs.Sides.{other, exchanged, laid, area}
-use Rattle.piece.specs.Offers.{turned, fits}
+use Rattle.piece.specs.Offers.{fits}
 
 pub other-twice : (c : Orientation) → other (other c) ≡ c
 other-twice Horizontal = refl
@@ -30,10 +28,6 @@ area-exchanged s = mul-comm (s .height) (s .width)
 pub area-laid : (c : Orientation) (s : Size) → area (laid c s) ≡ area s
 area-laid Horizontal s = refl
 area-laid Vertical s = area-exchanged s
-
-pub area-turned : (r : Rotation) (s : Size) → area (turned r s) ≡ area s
-area-turned Default s = refl
-area-turned Rotated s = area-exchanged s
 
 -- a part fits a piece exactly where it fits as the tables write both
 pub fits-laid : (c : Orientation) (piece part : Size) → fits (laid c piece) (laid c part) ≡ fits piece part

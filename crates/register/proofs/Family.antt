@@ -34,11 +34,11 @@ use Rattle.tree.proofs.Bookings.{at-unique}
 use Rattle.table.specs.declared.Node.{Node}
 use Rattle.table.specs.Table.{at, head, Rep, Holds}
 use Rattle.table.specs.Unheld.{isUnheld, lowestFrom}
-use Rattle.table.proofs.Kids.{kids-of, kids-in, kids-under, kids-distinct, kids-self, after-apart, Spot, spot-in}
+use Rattle.table.proofs.Kids.{kids-of, kids-in, kids-under, kids-distinct, after-apart, Spot, spot-in}
 use Rattle.table.proofs.Kids.{put, put-new, in-put, put-kids, put-count}
 use Rattle.table.proofs.Rep.{shows}
 use Rattle.table.proofs.Links.{in-at, holds-held}
-use Rattle.table.proofs.Unlink.{less-put, less-kids, less-at}
+use Rattle.table.proofs.Unlink.{less-put, less-kids}
 use Rattle.table.proofs.Removal.{cleared-put, cleared-at}
 use Rattle.table.proofs.Pigeon.{low, low-most, low-more, low-filled}
 use Rattle.table.proofs.Steps as steps
@@ -154,9 +154,6 @@ module _ (limit : ℕ) (settings : Settings) (w : Tree) (sound : Sound limit set
   pub parent-low : parentOf limit x w < limit
   parent-low = sound .placed q parent-held
 
-  pub parent-other : parentOf limit x w ≡ x → ⊥
-  parent-other e = kids-self q row w (sound .distinct) under (in-second q a (grow x (s .datum) (s .below) b) (inl e))
-
   pub parent-solid : (e : Datum) → At (parentOf limit x w) e w → e .kind ≡ Structure
   parent-solid e h =
       let o = topped-solid settings q row some w (sound .topped) under in
@@ -168,11 +165,6 @@ module _ (limit : ℕ) (settings : Settings) (w : Tree) (sound : Sound limit set
   -- it stays, as it is, when x has gone
   pub parent-left : In (parentOf limit x w) (less x w)
   parent-left = kids-in q (after a b) (less x w) (less-kids q x a (s .datum) (s .below) b w (sound .distinct) under)
-
-  pub parent-left-at : (e : Datum) → At (parentOf limit x w) e w → At (parentOf limit x w) e (less x w)
-  parent-left-at e h =
-      let o = in-at q (less x w) parent-left in
-      rw (at-unique q (o .0) e w (sound .distinct) (less-at q (o .0) x w (o .1)) h) (o .1)
 
   -- if x has no children, x goes alone
   module _ (leaf : s .below ≡ nil) where
@@ -248,23 +240,6 @@ childless-is q k (grow p d l r) dis (inr (inl h)) =
 childless-is q k (grow p d l r) dis (inr (inr h)) =
     let i = kids-in q k r h in
     rw (ne-eqb p q (λ e. dis .1 (in-eq r (sym e) i)), childless-absent q l (λ y. dis .2 q y i)) (childless-is q k r (dis .4) h)
-
-nil-is : (k : Tree) → isNil k ≡ true → k ≡ nil
-nil-is nil e = refl
-nil-is (grow p d k r) e = absurd (clash e)
-
-pub childless-none : (q : ℕ) (k w : Tree) → Distinct w → Kids q k w → childless q w ≡ true → k ≡ nil
-childless-none q k w dis h e = nil-is k (sym (childless-is q k w dis h) ∙ e)
-
-pub none-childless : (q : ℕ) (w : Tree) → Distinct w → Kids q nil w → childless q w ≡ true
-none-childless q w dis h = childless-is q nil w dis h
-
-pub childless-false : (q : ℕ) (k w : Tree) → Distinct w → Kids q k w → (k ≡ nil → ⊥) → childless q w ≡ false
-childless-false q k w dis h n = childless-is q k w dis h ∙ go k n
-  where
-    go : (k : Tree) → (k ≡ nil → ⊥) → isNil k ≡ false
-    go nil m = absurd (m refl)
-    go (grow p d l r) m = refl
 
 -- the table shows it
 no-first : (limit : ℕ) (t : List Node) (q : ℕ) (k : Tree) → Rep limit t q limit k → leb limit (head limit k) ≡ isNil k

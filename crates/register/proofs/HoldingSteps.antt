@@ -4,8 +4,7 @@
 use mathlib.Core.Path.{_≡_, refl, sym, ap, _∙_}
 use mathlib.Core.List.{List, [], _∷_}
 use mathlib.Core.Logic.{_⊎_, inl, inr, ⊎-elim}
-use Prim.Native.Nat.{ℕ, suc, _<_, _≤_}
-use native.Mathlib.Decide.{ℕ-discrete}
+use Prim.Native.Nat.{ℕ, _<_, _≤_}
 use native.Mathlib.Omega.{arith}
 use lib.ListN.{getD, length}
 use Rattle.piece.specs.declared.node.Datum.{Datum}
@@ -169,39 +168,6 @@ renamed-in f i e (grow p d k r) (inl y) = inl (ap f (y .0))
 renamed-in f i e (grow p d k r) (inr (inl y)) = inr (inl (renamed-in f i e k y))
 renamed-in f i e (grow p d k r) (inr (inr y)) = inr (inr (renamed-in f i e r y))
 
--- the same, but the piece d at p is named n
-module _ (f : ℕ → ℕ) (n p : ℕ) (d : Datum) where
-  abbrev marked : (w : Tree) → At p d w → Tree
-  marked nil h = nil
-  marked (grow q e k r) (inl h) = grow n e (renamed f k) (renamed f r)
-  marked (grow q e k r) (inr (inl h)) = grow (f q) e (marked k h) (renamed f r)
-  marked (grow q e k r) (inr (inr h)) = grow (f q) e (renamed f k) (marked r h)
-
-  marked-count : (w : Tree) (h : At p d w) → count (marked w h) ≡ count w
-  marked-count nil h = refl
-  marked-count (grow q e k r) (inl h) = omega (arith, renamed-count f k, renamed-count f r)
-  marked-count (grow q e k r) (inr (inl h)) = omega (arith, marked-count k h, renamed-count f r)
-  marked-count (grow q e k r) (inr (inr h)) = omega (arith, renamed-count f k, marked-count r h)
-
-  marked-here : (w : Tree) (h : At p d w) → In n (marked w h)
-  marked-here nil h = h
-  marked-here (grow q e k r) (inl h) = inl refl
-  marked-here (grow q e k r) (inr (inl h)) = inr (inl (marked-here k h))
-  marked-here (grow q e k r) (inr (inr h)) = inr (inr (marked-here r h))
-
-  -- another piece has its new name
-  marked-in : (i : ℕ) (e : Datum) → (e ≡ d → ⊥) → (w : Tree) (h : At p d w) → At i e w → In (f i) (marked w h)
-  marked-in i e o nil h y = y
-  marked-in i e o (grow q g k r) (inl h) (inl y) = absurd (o (y .1 ∙ sym (h .1)))
-  marked-in i e o (grow q g k r) (inl h) (inr (inl y)) = inr (inl (renamed-in f i e k y))
-  marked-in i e o (grow q g k r) (inl h) (inr (inr y)) = inr (inr (renamed-in f i e r y))
-  marked-in i e o (grow q g k r) (inr (inl h)) (inl y) = inl (ap f (y .0))
-  marked-in i e o (grow q g k r) (inr (inl h)) (inr (inl y)) = inr (inl (marked-in i e o k h y))
-  marked-in i e o (grow q g k r) (inr (inl h)) (inr (inr y)) = inr (inr (renamed-in f i e r y))
-  marked-in i e o (grow q g k r) (inr (inr h)) (inl y) = inl (ap f (y .0))
-  marked-in i e o (grow q g k r) (inr (inr h)) (inr (inl y)) = inr (inl (renamed-in f i e k y))
-  marked-in i e o (grow q g k r) (inr (inr h)) (inr (inr y)) = inr (inr (marked-in i e o r h y))
-
 -- a tree that has each place below n has no fewer pieces
 filled : (n : ℕ) (w : Tree) → ((i : ℕ) → i < n → In i w) → n ≤ count w
 filled n w full = omega (arith, low-filled 0 n w (omega arith) (λ j a b. full j b), low-most n w)
@@ -227,18 +193,3 @@ module _ (P : Datum → Type 0) (w : Tree) (l : List ℕ) (h : Holding P (pieces
         low = λ k b. let g = h .each k b in placed (getD l k 0) (at-in (getD l k 0) (g .0) w (g .1));
         once = h .once;
       }
-
-  -- and the piece that the list lacks comes last
-  pub holding-room : (p : ℕ) (d : Datum) → At p d w → (P d → ⊥) → length l < count w
-  holding-room p d y o = rw (marked-count (spot l) (length l) p d w y) at (filled (suc (length l)) (marked (spot l) (length l) p d w y) full)
-    where
-      full : (k : ℕ) → k < suc (length l) → In k (marked (spot l) (length l) p d w y)
-      full k b = go (ℕ-discrete k (length l))
-        where
-          go : Dec (k ≡ length l) → In k (marked (spot l) (length l) p d w y)
-          go (yes e) = rw e (marked-here (spot l) (length l) p d w y)
-          go (no e) =
-              let c : k < length l = omega arith in
-              let g = h .each k c in
-              let n : g .0 ≡ d → ⊥ = λ s. o (rw s at (g .2)) in
-              rw (spot-back k c) at (marked-in (spot l) (length l) p d (getD l k 0) (g .0) n w y (g .1))

@@ -12,11 +12,10 @@ use lib.Dec.{ltb}
 use lib.ListN.{getD, set, length, length-append, drop-of-length-le}
 use lib.Seq.{take-all}
 use borrow.Author.Tests.{lt-ltb, le-ltb}
-use Rattle.tree.specs.ListSteps.{spot, cut, strike, push, berth, put, cutAll, strikeAll, putAll}
+use Rattle.tree.specs.ListSteps.{spot, cut, strike, push, berth, put, cutAll, strikeAll}
 use Rattle.lists.specs.Lists.{limit, padded, putIn, takeOut, swapOut, swapped}
 use Rattle.lists.specs.Search.{firstFrom, indexOf}
 use Rattle.lists.proofs.Scan.{first-most}
-use Rattle.lists.proofs.Found.{index-most}
 use Rattle.lists.proofs.Padded.{getD-padded, take-padded, put-in-length, put-in-padded, take-out-length, take-out-padded}
 use Rattle.lists.proofs.Padded.{swapped-length, swap-out-padded, append-padded}
 use Rattle.walks.specs.Along.{entries}
@@ -61,9 +60,6 @@ first-same f g e zero i = refl
 first-same f g e (suc n) i = rw (e i, first-same f g e n (i + 1)) refl
 
 module _ (xs : List ℕ) (p : ℕ) where
-  pub spot-most : spot xs p ≤ length xs
-  spot-most = index-most xs (length xs) p
-
   -- the zeros behind the entries are not looked at
   spot-padded : indexOf (padded limit xs) (length xs) p ≡ spot xs p
   unfolding indexOf
@@ -117,10 +113,6 @@ module _ (areas : ℕ → ℕ) (xs : List ℕ) (p : ℕ) where
   pub put-length : length (put areas xs p) ≡ length xs + 1
   unfolding put
   put-length = put-in-length limit xs (berth areas xs p) p berth-most
-
-pub put-all-length : (areas : ℕ → ℕ) (xs ps : List ℕ) → length (putAll areas xs ps) ≡ length xs + length ps
-put-all-length areas xs [] = omega arith
-put-all-length areas xs (p ∷ ps) = omega (arith, put-length areas xs p, put-all-length areas (put areas xs p) ps)
 
 -- ---- the steps of the code, on a list that is held so
 

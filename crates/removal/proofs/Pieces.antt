@@ -205,10 +205,6 @@ module _ (limit stages : ℕ) (sheet : Size) (t : List Node) (w : Tree) (sound :
   going-in i y =
       kids-under (o .parent) (whole t x (z .piece) w o) i w (o .kids) (goes-row t x (z .piece) w (h .distinct) o i y)
 
-  -- x goes
-  pub going-own : Names x (going t x w)
-  going-own = goes-own t x (z .piece) w (h .distinct) o x (inl refl)
-
   -- x hangs under a place, and so does the last piece of its row
   pub parent-low : at t x .parent < limit
   parent-low = rw (o .hangs) (shows limit t limit limit (o .parent) (whole t x (z .piece) w o) w (h .rep) (o .kids) .low)
@@ -263,6 +259,3 @@ module _ (limit stages : ℕ) (sheet : Size) (t : List Node) (w : Tree) (sound :
             at-unique i e (g .0) (remove x n (last + 1) w) apart y (at-remove x n (last + 1) i (g .0) w (g .1))
             in
             inl (rw same at (g .1))
-
-    pub pieces-remove : (i : ℕ) (e : Datum) → At i e (cleared x w) ⊎ ((i ≡ n) × (e ≡ newFree t x last)) → At i e (remove x n (last + 1) w)
-    pieces-remove i e y = ⊎-elim (at-remove x n (last + 1) i e w) (λ v. rw (v .0, v .1) new-there) y

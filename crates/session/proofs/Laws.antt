@@ -2,7 +2,6 @@
 -- how the input was cut into chunks. Rests on specs/Desk and on the laws of `lines`.
 use mathlib.Core.Path.{_≡_, refl, sym, ap, _∙_}
 use mathlib.Core.Bool.{Bool, true, false, cond}
-use mathlib.Core.Logic.{_↔_}
 use mathlib.Core.List.{List, _++_}
 use Prim.Native.Nat.{ℕ, suc, _+_, _≤_}
 use native.Mathlib.Omega.{arith}
@@ -102,10 +101,6 @@ unfolding linesGiven
 input-run {cs} q z =
     let a = served-run q in
     rw (← lines-given cs, ← a .pending) (runs-on (a .runs) (z .turned .runs))
-
--- so the answers to the lines that chunks give are those to the lines of the text
-pub given-runs : (s u : Session) (cs : List (List ℕ)) (xs : List Answer) → Runs s (linesGiven cs) xs u ↔ Runs s (linesOf (joined cs)) xs u
-given-runs s u cs xs = ((λ r. rw (← lines-given cs) r), λ r. rw (lines-given cs) r)
 
 -- and those of two ways to cut a text agree
 pub cut-any-way : {s u : Session} {xs : List Answer} (cs ds : List (List ℕ)) → joined cs ≡ joined ds → Runs s (linesGiven cs) xs u

@@ -1,7 +1,7 @@
--- The clauses on the two lists: what their tests say, and that entries in order all differ.
+-- The clauses on the two lists: what their tests say.
 use mathlib.Core.Path.{_≡_, refl, sym, ap, _∙_}
 use mathlib.Core.List.{List}
-use mathlib.Core.Bool.{Bool, true, false, _&&_, _||_, not}
+use mathlib.Core.Bool.{Bool, true, false, _&&_, _||_}
 use mathlib.Core.Logic.{_⊎_, inl, inr, ⊎-elim}
 use Prim.Native.Nat.{ℕ, zero, suc, _+_, _<_, _≤_}
 use native.Mathlib.Nat.{not-suc-le-zero}
@@ -41,12 +41,6 @@ module _ (limit : ℕ) (free : Bool) (serial kind f : List ℕ) where
   covers-shown h =
       every-all (coveredAt free serial kind f) limit (λ i l. agree-shown (wanted free serial kind i) (eqb (getD f i 0) 1) (h i l))
 
-  pub flag-wanted : coversB limit free serial kind f ≡ true → (i : ℕ) → i < limit → getD f i 0 ≡ 1 → wanted free serial kind i ≡ true
-  flag-wanted e i h z = covers-says e i h ∙ eq-eqb (getD f i 0) 1 z
-
-  pub wanted-flag : coversB limit free serial kind f ≡ true → (i : ℕ) → i < limit → wanted free serial kind i ≡ true → getD f i 0 ≡ 1
-  wanted-flag e i h z = eqb-true (getD f i 0) 1 (sym (covers-says e i h) ∙ z)
-
 or-says : (a b : Bool) → (a || b) ≡ true → (a ≡ true) ⊎ (b ≡ true)
 or-says true b e = inl refl
 or-says false b e = inr e
@@ -74,10 +68,6 @@ ahead-trans a s b t d u (inl h) (inl k) = inl (omega arith)
 ahead-trans a s b t d u (inl h) (inr k) = inl (omega arith)
 ahead-trans a s b t d u (inr h) (inl k) = inl (omega arith)
 ahead-trans a s b t d u (inr h) (inr k) = inr (omega arith, omega arith)
-
-pub ahead-apart : (a s : ℕ) → Ahead a s a s → ⊥
-ahead-apart a s (inl h) = omega arith
-ahead-apart a s (inr h) = omega arith
 
 -- the piece at p before the one at q, and the entry at j before the one at k
 abbrev pub Before : List ℕ → List ℕ → ℕ → ℕ → Type 0
@@ -139,7 +129,3 @@ module _ (area serial l : List ℕ) (n : ℕ) where
       go : Dec (j ≡ m) → (j < m → m < n → InOrder area serial l j m) → InOrder area serial l j (suc m)
       go (yes z) ih = rw z next
       go (no z) ih = ahead-trans _ _ _ _ _ _ (ih (omega arith) (omega arith)) next
-
-  -- so that entries differ
-  pub sorted-apart : sortedB area serial l n ≡ true → (j k : ℕ) → j < k → k < n → getD l j 0 ≡ getD l k 0 → ⊥
-  sorted-apart e j k h m z = ahead-apart _ _ (rw z at (sorted-all e k j h m))

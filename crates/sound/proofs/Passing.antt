@@ -1,11 +1,9 @@
--- A table that holds a sound tree passes the tests of the soundness check: the other half of Means. Together: the tests say yes exactly when
--- the table holds a sound tree with serials of at least 1.
+-- A table that holds a sound tree passes the tests of the soundness check: the other half of Means.
 use mathlib.Core.Path.{_≡_, refl, sym, ap, _∙_, subst}
 use mathlib.Core.List.{List}
-use mathlib.Core.Logic.{inl, inr, ⊎-elim, _↔_}
+use mathlib.Core.Logic.{inl, inr, ⊎-elim}
 use Prim.Native.Nat.{ℕ, zero, suc, _+_, _<_}
 use native.Mathlib.Omega.{arith}
-use lib.ListN.{length}
 use Rattle.piece.specs.declared.size.Size.{Size}
 use Rattle.piece.specs.declared.node.Datum.{Datum}
 use Rattle.piece.specs.declared.node.Kind.{Kind}
@@ -13,19 +11,19 @@ use Rattle.piece.specs.declared.node.Kind.the-variants.{Free, Part, Structure}
 use Rattle.piece.specs.Sides.{other}
 use Rattle.piece.specs.Row.{nil, grow}
 use Rattle.tree.specs.Tree.{Tree, In, At, count}
-use Rattle.tree.specs.Sound.{Domain, extent, StructurePiece, Kinded, Children, Topped, Sound}
+use Rattle.tree.specs.Sound.{extent, StructurePiece, Kinded, Children, Topped}
 use Rattle.tree.specs.Steps.{Deep}
 use Rattle.tree.proofs.Rows.{in?}
 use Rattle.table.specs.declared.Node.{Node}
 use Rattle.table.specs.Table.{mk, zeroNode, at, Held, head, last, Rep, Holds}
-use Rattle.table.specs.Build.{treeOf, Linkage}
+use Rattle.table.specs.Build.{Linkage}
 use Rattle.table.proofs.Build.{in-held}
 use Rattle.table.proofs.Unique.{holds-room, tree-is}
 use Rattle.table.proofs.Links.{holds-linkage}
 use Rattle.sound.specs.Rows.{step, room}
 use Rattle.sound.proofs.PlacesSay.{KindNode, Place, places-says, TopNode, top-says}
 use Rattle.sound.proofs.RowsSay.{ChildNode, Siblings, step-is, RowOf, rows-says}
-use Rattle.sound.proofs.Means.{Passes, passes-holds, passes-sound, passes-serials}
+use Rattle.sound.proofs.Means.{Passes}
 
 -- the rows of a sound tree are one level deeper each
 children-deep : (stages : ℕ) (q : Datum) (r : Tree) → Children stages q r → Deep (q .level + 1) r
@@ -169,16 +167,3 @@ module _ (limit stages : ℕ) (sheet : Size) (t : List Node) where
   sound-passes w h s serials =
       let g = top-shape stages sheet w s in
       passes-grow (g .0) (g .1) (rw (g .2) at h) (rw (g .2) at s) (rw (g .2) at serials)
-
-  pub passes-exactly : length t ≡ limit → 0 < limit → stages < limit → Domain stages sheet
-      → Passes limit stages sheet t
-      ↔ ((w : Tree) × Holds limit t w × Sound limit stages sheet w × ((i : ℕ) (e : Datum) → At i e w → 0 < e .serial))
-  passes-exactly len some less dom = (
-    (λ p. (
-      treeOf limit t,
-      passes-holds limit stages sheet t len some less p,
-      passes-sound limit stages sheet t len some less p dom,
-      passes-serials limit stages sheet t len some less p,
-    )),
-    λ g. sound-passes (g .0) (g .1) (g .2 .topped) (g .3),
-  )

@@ -2,7 +2,7 @@
 use mathlib.Core.Path.{_≡_, refl, sym, _∙_}
 use mathlib.Core.List.{List}
 use mathlib.Core.Bool.{Bool, true, false, cond}
-use Prim.Native.Nat.{ℕ, zero, suc, _+_, _<_, _≤_}
+use Prim.Native.Nat.{ℕ, zero, suc, _+_, _≤_}
 use native.Mathlib.Numerals.{add-one}
 use native.Mathlib.Omega.{arith}
 use native.Mathlib.Decide.{ℕ-discrete}
@@ -30,11 +30,6 @@ module _ (serial : List ℕ) where
       go true h = omega arith
       go false h = omega arith
 
-  -- the count over more places is no smaller
-  pub held-grows : (m n : ℕ) → n ≤ m → heldIn serial n ≤ heldIn serial m
-  unfolding heldIn
-  held-grows = grows (heldIn serial) (λ n. omega arith)
-
 module _ (k : ℕ) (kind area : List ℕ) where
   pub area-none : areaIn k kind area 0 ≡ 0
   unfolding areaIn
@@ -52,9 +47,6 @@ module _ (k : ℕ) (kind area : List ℕ) where
   pub area-grows : (m n : ℕ) → n ≤ m → areaIn k kind area n ≤ areaIn k kind area m
   unfolding areaIn
   area-grows = grows (areaIn k kind area) (λ n. omega arith)
-
-  pub area-le : (n m : ℕ) → areaIn k kind area n ≤ areaIn k kind area (n + m)
-  area-le n m = area-grows (n + m) n (omega arith)
 
 -- nothing is left exactly where the sum is `used`
 pub none-left : (left sum used : ℕ) → left + sum ≡ used → eqb left 0 ≡ eqb sum used

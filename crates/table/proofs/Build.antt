@@ -17,7 +17,7 @@ use Rattle.table.specs.declared.Node.{Node}
 use Rattle.table.specs.Table.{mk, at, Held, head, last, Rep, Holds}
 use Rattle.table.specs.Build.{chain, kids, treeOf, Linked, Among, Local, Linkage}
 use Rattle.table.proofs.Kids.{kids-of, kids-under}
-use Rattle.table.proofs.Rep.{shows, bound, limit-out}
+use Rattle.table.proofs.Rep.{shows, limit-out}
 
 module _ (limit : ℕ) (t : List Node) where
   pub chain-none : (sub : ℕ → Tree) (m p : ℕ) → limit ≤ p → chain limit sub m t p ≡ nil
@@ -203,9 +203,6 @@ module _ (limit : ℕ) (t : List Node) (s : Linkage limit t) where
   pub in-held : (i : ℕ) → In i (treeOf limit t) → Held t i
   unfolding treeOf
   in-held i h = ⊎-elim (λ e. rw e (s .top)) (λ z. ⊎-elim (read .held i) absurd z) h
-
-  pub in-low : (i : ℕ) → In i (treeOf limit t) → i < limit
-  in-low i h = bound limit t limit limit i (treeOf limit t) rep-tree h
 
   pub linkage-holds : Holds limit t (treeOf limit t)
   linkage-holds =

@@ -129,11 +129,6 @@ module _ (x : ℕ) where
   spot-in (grow p d k r) ro (inr (inl h)) n = spot p d k r h
   spot-in (grow p d k r) ro (inr (inr h)) n = absurd (rw (ro .1) at h)
 
-pub spot-kids : (x : ℕ) (w : Tree) (s : Spot x w) → Kids x (s .below) w
-spot-kids x w s =
-    kids-kids (s .parent) (after (s .before) (grow x (s .datum) (s .below) (s .behind))) x (s .below) w (s .kids)
-    (kids-row x (s .before) (s .datum) (s .below) (s .behind))
-
 -- A step that looks for the place x leaves every other piece.
 module _ (x : ℕ) (g : Tree → Tree) (end : g nil ≡ nil)
     (pass : (p : ℕ) (d : Datum) (k r : Tree) → (p ≡ x → ⊥) → g (grow p d k r) ≡ grow p d (g k) (g r)) where

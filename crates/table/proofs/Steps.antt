@@ -1,9 +1,9 @@
--- The table of a sound tree: the tree is the one that is read from it, it passes the local check, and a booking and a removal, made on it step
--- by step, leave a table that holds the tree that document 01's rule gives. This is what the layout's calls rest on.
+-- The table of a sound tree: the tree is the one that is read from it, and a booking and a removal, made on it step by step, leave
+-- a table that holds the tree that document 01's rule gives. This is what the layout's calls rest on.
 use mathlib.Core.Path.{_≡_, refl, sym, ap, _∙_, subst}
 use mathlib.Core.List.{List, _++_}
 use mathlib.Core.Logic.{inl, inr}
-use Prim.Native.Nat.{ℕ, _+_, _<_}
+use Prim.Native.Nat.{ℕ, _<_}
 use Rattle.piece.specs.declared.node.Datum.{Datum}
 use Rattle.piece.specs.declared.node.Kind.the-variants.{Free}
 use Rattle.piece.specs.declared.settings.Settings.{Settings}
@@ -14,19 +14,18 @@ use Rattle.tree.specs.Booking.{Booking, block, book}
 use Rattle.tree.specs.Removal.{freed, board, remove, cleared}
 use Rattle.tree.specs.Accepted.{Fresh}
 use Rattle.tree.specs.Apart.{Removable}
-use Rattle.tree.specs.Steps.{less, Rooted, Kids, Deep, Marked, leaving}
+use Rattle.tree.specs.Steps.{less, Rooted, Kids, leaving}
 use Rattle.tree.proofs.Rows.{at-in}
 use Rattle.tree.proofs.Kept.{Where, This, Alone, only, not-top, free-kind, free-alone}
 use Rattle.tree.proofs.Blocks.{block-in, block-distinct}
 use Rattle.table.specs.declared.Node.{Node}
 use Rattle.table.specs.Table.{at, Holds, append, unlink}
-use Rattle.table.specs.Build.{treeOf, Linkage}
+use Rattle.table.specs.Build.{treeOf}
 use Rattle.table.specs.Steps.{plant, freeLastDatum, going, unlinkAll}
 use Rattle.table.proofs.Kids.{Spot, spot-in}
 use Rattle.table.proofs.Rep.{shows, piece-at}
 use Rattle.table.proofs.Unlink.{less-in, unlink-holds}
 use Rattle.table.proofs.Unique.{tree-is}
-use Rattle.table.proofs.Links.{holds-linkage}
 use Rattle.table.proofs.Booking.{book-holds}
 use Rattle.table.proofs.Removal.{freeEnd, FreeLeaves, subtree-is, end-is, clear-holds, remove-holds}
 
@@ -35,15 +34,6 @@ module _ (settings : Settings) where
   pub topped-rooted : (w : Tree) → Topped settings w → Rooted w
   topped-rooted nil h = h
   topped-rooted (grow p d k r) h = (h .0 .place, h .0 .alone)
-
-  children-deep : (q : Datum) (k : Tree) → Children settings q k → Deep (q .level + 1) k
-  children-deep q nil h = tt
-  children-deep q (grow p d k r) h = (h .0 .level, rw (h .0 .level) at (children-deep d k (h .2)), children-deep q r (h .3))
-
-  pub topped-deep : (w : Tree) → Topped settings w → Deep 0 w
-  topped-deep nil h = tt
-  topped-deep (grow p d k r) h =
-      (h .0 .level, rw (h .0 .level) at (children-deep d k (h .1)), rw (h .0 .alone) tt)
 
   children-leaves : (q : Datum) (k : Tree) → Children settings q k → FreeLeaves k
   children-leaves q nil h = tt
@@ -82,22 +72,12 @@ module _ (x : ℕ) (P : Datum → Tree → Tree → Type 0) where
       where-row (s .before) (s .datum) (s .below) (s .behind)
       (where-kids (s .parent) (after (s .before) (grow x (s .datum) (s .below) (s .behind))) w h (s .kids))
 
-deep-row : (a : Tree) (x : ℕ) (d : Datum) (l b : Tree) (level : ℕ) → Deep level (after a (grow x d l b)) → d .level ≡ level
-deep-row nil x d l b level h = h .0
-deep-row (grow p e k r) x d l b level h = deep-row r x d l b level (h .2)
-
 module _ (limit : ℕ) (settings : Settings) (t : List Node) (w : Tree) (sound : Sound limit settings w) (h : Holds limit t w) where
   rooted : Rooted w
   rooted = topped-rooted settings w (sound .topped)
 
-  deep : Deep 0 w
-  deep = topped-deep settings w (sound .topped)
-
   pub sound-tree : treeOf limit t ≡ w
   sound-tree = tree-is limit t w rooted h
-
-  pub sound-linkage : Marked w → Linkage limit t
-  sound-linkage marked = holds-linkage limit t w rooted h deep marked
 
   -- the parent that the table shows
   pub parent-is : (x : ℕ) (s : Spot x w) → at t x .parent ≡ s .parent

@@ -1,21 +1,19 @@
--- What the lowest unheld place from n on is: unheld, with each place before it held; and in a table that holds a tree with room left, the lowest
--- place from n on that is none of the tree's. Assumes nothing.
+-- What the lowest unheld place from n on is: each place before it is held; and in a table that holds a tree it is a place where the tree leaves
+-- room. Assumes nothing.
 use mathlib.Core.Path.{_≡_, refl, ap}
 use mathlib.Core.Bool.{true, false}
 use mathlib.Core.List.{List}
 use mathlib.Core.Logic.{⊎-elim}
 use Prim.Native.Nat.{ℕ, suc, _+_, _-_, _<_, _≤_}
 use native.Mathlib.Omega.{arith}
-use borrow.Author.Tests.{eqb-true, eqb-false}
+use borrow.Author.Tests.{eqb-false}
 use Rattle.lists.specs.Search.{firstFrom}
-use Rattle.lists.proofs.Scan.{first-from, first-most, first-holds, first-before}
+use Rattle.lists.proofs.Scan.{first-from, first-most, first-before}
 use Rattle.tree.specs.Tree.{Tree, In, count}
-use Rattle.tree.specs.Steps.{Marked}
 use Rattle.tree.proofs.Rows.{in?}
 use Rattle.table.specs.declared.Node.{Node}
 use Rattle.table.specs.Table.{at, Held, Holds}
 use Rattle.table.specs.Unheld.{isUnheld, lowestFrom}
-use Rattle.table.proofs.Links.{holds-held}
 use Rattle.table.proofs.Pigeon.{low-most, low-filled}
 
 module _ (limit : ℕ) (t : List Node) (n : ℕ) where
@@ -40,27 +38,10 @@ module _ (limit : ℕ) (t : List Node) (n : ℕ) where
   unfolding lowestFrom
   lowest-most h = omega (arith, first-most (isUnheld t) (limit - n) n)
 
-  pub lowest-unheld : lowestFrom limit t n < limit → at t (lowestFrom limit t n) .datum .serial ≡ 0
-  unfolding lowestFrom
-  lowest-unheld h =
-      eqb-true _ _ (first-holds (isUnheld t) (limit - n) n (omega (arith, first-from (isUnheld t) (limit - n) n)))
-
   pub lowest-first : (j : ℕ) → n ≤ j → j < lowestFrom limit t n → Held t j
   unfolding lowestFrom
   lowest-first j l h =
       let no = eqb-false (at t j .datum .serial) 0 (first-before (isUnheld t) (limit - n) n j l h) in omega arith
-
-  -- an unheld place from n on is no lower
-  pub lowest-least : (i : ℕ) → n ≤ i → at t i .datum .serial ≡ 0 → lowestFrom limit t n ≤ i
-  lowest-least i l e = let no : i < lowestFrom limit t n → ⊥ = λ h. omega (arith, lowest-first i l h) in omega arith
-
-  -- it is a place if one is unheld
-  pub lowest-some : (i : ℕ) → n ≤ i → i < limit → at t i .datum .serial ≡ 0 → lowestFrom limit t n < limit
-  lowest-some i l h e = omega (arith, lowest-least i l e)
-
-  -- and the limit says that all are held
-  pub lowest-none : lowestFrom limit t n ≡ limit → (i : ℕ) → n ≤ i → i < limit → Held t i
-  lowest-none e i l h = lowest-first i l (omega arith)
 
   module _ (w : Tree) (h : Holds limit t w) where
     -- each lower place from n on is one of the tree's
@@ -71,11 +52,6 @@ module _ (limit : ℕ) (t : List Node) (n : ℕ) where
         gone m =
             let z = ap (λ (e : Node). e .datum .serial) (h .rest j (omega (arith, lowest-most b)) m) in
             omega (arith, lowest-first j l o)
-
-    module _ (marked : Marked w) where
-      -- the place itself is not
-      pub lowest-new : lowestFrom limit t n < limit → In (lowestFrom limit t n) w → ⊥
-      lowest-new l y = omega (arith, lowest-unheld l, holds-held limit t w h marked (lowestFrom limit t n) y)
 
     -- and it is a place if the tree leaves room from n on
     pub lowest-room : n + count w < limit → lowestFrom limit t n < limit

@@ -10,15 +10,15 @@ use borrow.Author.Tests.{le-leb, lt-leb, eq-eqb, ne-eqb}
 use Rattle.piece.specs.declared.node.Datum.{Datum}
 use Rattle.piece.specs.Row.{nil, grow}
 use Rattle.tree.specs.Tree.{Tree, In, At, Distinct, after}
-use Rattle.tree.specs.Steps.{less, Rooted, Kids}
+use Rattle.tree.specs.Steps.{less, Kids}
 use Rattle.tree.proofs.Rows.{same?, in-eq, in?, in-after, in-first, in-second, distinct-after}
 use Rattle.table.specs.declared.Node.{Node}
 use Rattle.table.specs.Table.{mk, zeroNode, at, head, last, Rep, Holds, unlink}
 use Rattle.table.proofs.Touch.{Cut, cut}
 use Rattle.table.proofs.Kids.{kids-in, kids-under, kids-distinct, kids-self, put, put-kids, put-new, put-in, in-put, put-distinct}
-use Rattle.table.proofs.Kids.{pass-piece, after-apart, after-first, after-second, spot-in, spot-kids}
+use Rattle.table.proofs.Kids.{pass-piece, after-apart, after-first, after-second}
 use Rattle.table.proofs.Rep.{Shows, shows, Part, bound, limit-out, last-cases, head-cases, last-after, rep-part, part-rep, split, joined}
-use Rattle.table.proofs.Rep.{renext, reprev, rep-put, no-child}
+use Rattle.table.proofs.Rep.{renext, reprev, rep-put}
 
 -- the piece x goes: its parent's children are the others
 pub less-put : (q x : ℕ) (a : Tree) (d : Datum) (l b w : Tree) → Distinct w → Kids q (after a (grow x d l b)) w → less x w ≡ put q (after a b) w
@@ -202,12 +202,3 @@ module _ (limit : ℕ) (t : List Node) (q x : ℕ) (a : Tree) (d : Datum) (b w :
           (λ e. ⊎-elim (λ z. omega arith) (λ z. o (under i (in-a i (in-eq a (sym e) z)))) before)
           (λ e. ⊎-elim (λ z. omega arith) (λ z. o (under i (in-b i (in-eq b (sym e) z)))) behind)
           ∙ h .rest i l o
-
--- the same, where the table says that x is a leaf
-pub unlink-leaf : (limit : ℕ) (t : List Node) (x : ℕ) (w : Tree) → Rooted w → Holds limit t w → In x w → (x ≡ 0 → ⊥) → at t x .first ≡ limit
-    → Holds limit (unlink limit t x) (less x w)
-unlink-leaf limit t x w ro h i n leaf =
-    let s = spot-in x w ro i n in
-    let o = shows limit t limit limit x (s .below) w (h .rep) (spot-kids x w s) in
-    let e : s .below ≡ nil = no-child limit t x limit (s .below) (o .rep) (sym (o .first) ∙ leaf) in
-    unlink-holds limit t (s .parent) x (s .before) (s .datum) (s .behind) w h (rw e at (s .kids))

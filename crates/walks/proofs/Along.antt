@@ -150,9 +150,6 @@ module _ (limit : ℕ) (t : List Node) (q pv : ℕ) (r : Tree) (rep : Rep limit 
   pub numbers-row : numbersAlong t (preorder r) ≡ numbers r
   numbers-row = numbers-shown limit t r (rep-shown limit t q pv r rep)
 
-  pub numbers-row-last : PartsEnd r → numbersAlong t (childrenFirst r) ≡ numbers r
-  numbers-row-last ends = numbers-last limit t r (rep-shown limit t q pv r rep) ends
-
 module _ (limit : ℕ) (t : List Node) (w : Tree) (holds : Holds limit t w) where
   tree-shown : Shown limit t w
   tree-shown = rep-shown limit t limit limit w (holds .rep)
