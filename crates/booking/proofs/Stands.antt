@@ -41,7 +41,8 @@ use Rattle.register.proofs.Family.{parent-is, parent-low, parent-solid, parent-
 use Rattle.booking.specs.declared.new_nodes.NewNode.{NewNode}
 use Rattle.booking.specs.declared.new_nodes.Site.{Site}
 use Rattle.booking.specs.NewNodes.{appendEach, bookingAt, deepest, enrolments, freesOf, heldNew, leaves, noNew, those}
-use Rattle.booking.specs.Book.{lowestOf, newPlaces, noChild, siteOf, newAt, lessParent, bookedWith, booked, Bookable}
+use Rattle.booking.specs.Book.{lowestOf, newPlaces, noChild, siteOf, newAt, lessParent, bookedWith, booked}
+use Rattle.booking.specs.Inner.{Bookable}
 use Rattle.booking.proofs.Made.{made-is, leaves-count, held-those}
 use Rattle.booking.proofs.Planted.{booked-holds}
 use Rattle.booking.proofs.Pieces.{less-was}

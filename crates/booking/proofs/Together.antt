@@ -23,7 +23,8 @@ use Rattle.booking.specs.declared.new_nodes.NewNodes.{NewNodes}
 use Rattle.booking.specs.declared.new_nodes.NewNode.{NewNode}
 use Rattle.booking.specs.declared.new_nodes.Site.{Site}
 use Rattle.booking.specs.NewNodes.{appendEach, enrolments, freesOf, noNew, those}
-use Rattle.booking.specs.Book.{Bookable, booked, bookedWith, lessParent, newAt, newOf, newPlaces, siteLeft, siteOf}
+use Rattle.booking.specs.Book.{booked, bookedWith, lessParent, newAt, newOf, newPlaces, siteLeft, siteOf}
+use Rattle.booking.specs.Inner.{Bookable}
 use Rattle.booking.proofs.Made.{new-at-count}
 
 each-length : (ns : List NewNode) (t : List Node) → length (appendEach limit t ns) ≡ length t

@@ -2,19 +2,19 @@
 -- 01's booking.
 use mathlib.Core.Bool.{Bool, cond}
 use mathlib.Core.List.{List, [], _∷_, _++_}
-use Prim.Native.Nat.{ℕ, zero, suc, _+_, _≤_, _<_}
+use Prim.Native.Nat.{ℕ, zero, suc, _+_}
 use lib.Dec.{leb}
-use lib.ListN.{getD, length, replicate}
+use lib.ListN.{replicate}
 use Rattle.piece.specs.declared.size.Size.{Size}
 use Rattle.piece.specs.declared.insertion_blueprint.InsertionShape.{InsertionShape}
-use Rattle.piece.specs.Insertion.{blockOf, listed, newNodes, outside}
+use Rattle.piece.specs.Insertion.{blockOf, listed, outside}
 use Rattle.tree.specs.ListSteps.{cut, putAll, strike}
 use Rattle.table.specs.declared.Node.{Node}
 use Rattle.table.specs.Table.{at, unlink}
 use Rattle.table.specs.Unheld.{lowestFrom}
 use Rattle.lists.specs.Lists.{limit}
 use Rattle.register.specs.declared.LayoutNodes.{LayoutNodes}
-use Rattle.register.specs.Listings.{Kept, areaIn, entriesOf, listing}
+use Rattle.register.specs.Listings.{areaIn, entriesOf, listing}
 use Rattle.booking.specs.declared.new_nodes.NewNodes.{NewNodes}
 use Rattle.booking.specs.declared.new_nodes.Site.{Site}
 use Rattle.booking.specs.declared.book.Booked.{Booked}
@@ -84,18 +84,3 @@ bookedWith n left x new =
 unfoldable pub booked : LayoutNodes → ℕ → InsertionShape → Size → (number last : ℕ) → Booked
 booked n x shape size number last =
     let left = unlink limit (n .nodes) x in bookedWith n left x (newAt (n .nodes) left x shape size number last)
-
--- what the code asks: that no index is out of bounds and no number overflows
-pub record Bookable (n : LayoutNodes) (x : ℕ) (shape : InsertionShape) (size : Size) (number last : ℕ) : Type 0 where
-  pub placed : x < limit
-  pub hung : at (n .nodes) x .parent < limit
-  pub freeKept : Kept (n .free)
-  pub removableKept : Kept (n .removable)
-  pub sited : (i : ℕ) → i < newNodes shape
-      → let m = getD (newAt (n .nodes) (unlink limit (n .nodes) x) x shape size number last .list) i noNew in (m .under < limit) × (m .place < limit)
-  pub freeRoom : length (cut (entriesOf (n .free)) x) + newNodes shape ≤ limit
-  pub removableRoom : length
-      (lessParent (unlink limit (n .nodes) x) (at (n .nodes) x .parent) (entriesOf (n .removable))
-      ++ enrolments (those (newAt (n .nodes) (unlink limit (n .nodes) x) x shape size number last)))
-      ≤ limit
-  pub spent : last ≤ 1000000

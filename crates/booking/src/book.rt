@@ -2,7 +2,8 @@
 ghost use mathlib.Core.Path.{_≡_};
 ghost use Prim.Native.Nat.{_+_, _≤_};
 ghost use Rattle.register.specs.Listings.{Kept, entriesOf, listing};
-ghost use Rattle.booking.specs.Book.{Bookable, bare, booked, lessUp, newOf, siteLeft};
+ghost use Rattle.booking.specs.Book.{bare, booked, lessUp, newOf, siteLeft};
+ghost use Rattle.booking.specs.Inner.{Bookable};
 use crate::new_nodes::NewNodes;
 use crate::new_nodes::Site;
 use crate::new_nodes::enrol;

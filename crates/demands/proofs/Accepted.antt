@@ -24,8 +24,9 @@ use Rattle.layout.specs.declared.insert.Inserted.{Inserted}
 use Rattle.layout.specs.declared.remove.Removed.{Removed}
 use Rattle.layout.specs.Check.{limit, tree}
 use Rattle.layout.specs.SoundLayout.{Sized}
-use Rattle.layout.specs.Insert.{InsertDone, Insertable, bookingFor, pieceAt}
-use Rattle.layout.specs.Remove.{RemoveDone, Takeable, numbersOut, roomNo}
+use Rattle.layout.specs.Insert.{InsertDone, bookingFor, pieceAt}
+use Rattle.layout.specs.Inner.{Insertable, Takeable}
+use Rattle.layout.specs.Remove.{RemoveDone, numbersOut, roomNo}
 use Rattle.layout.proofs.Listed.{piece-is}
 use Rattle.layout.proofs.Marks.{sought-names}
 use Rattle.layout.proofs.Admitted.{admitted, passed}

@@ -19,8 +19,9 @@ use Rattle.layout.specs.declared.remove.Removed.{Removed}
 use Rattle.layout.specs.Check.{limit, maxSerial, tree}
 use Rattle.layout.specs.Asked.{freePieceOf, soughtOf}
 use Rattle.layout.specs.SoundLayout.{SoundLayout}
-use Rattle.layout.specs.Insert.{Insertable, InsertDone, InsertSays, bookNo, bookingFor, insertNo, pieceAt}
-use Rattle.layout.specs.Remove.{RemoveDone, RemoveSays, Takeable, goNo, numbersOut, removeNo}
+use Rattle.layout.specs.Insert.{InsertDone, InsertSays, bookNo, bookingFor, insertNo, pieceAt}
+use Rattle.layout.specs.Inner.{Insertable, Takeable}
+use Rattle.layout.specs.Remove.{RemoveDone, RemoveSays, goNo, numbersOut, removeNo}
 use Rattle.layout.proofs.Exactly.{sound-shown}
 use Rattle.layout.proofs.Listed.{piece-is}
 use Rattle.layout.proofs.Marks.{names-sought}

@@ -31,7 +31,8 @@ use Rattle.layout.specs.declared.layout.Layout.{Layout}
 use Rattle.layout.specs.declared.insert.Inserted.{Inserted}
 use Rattle.layout.specs.Check.{limit, maxSerial, tree}
 use Rattle.layout.specs.SoundLayout.{SoundLayout, Sized}
-use Rattle.layout.specs.Insert.{InsertDone, InsertSays, Insertable, bookingFor, pieceAt}
+use Rattle.layout.specs.Insert.{InsertDone, InsertSays, bookingFor, pieceAt}
+use Rattle.layout.specs.Inner.{Insertable}
 use Rattle.layout.proofs.Listed.{piece-is}
 use Rattle.looks.specs.Written.{snapshotBytes}
 use Rattle.demands.specs.Life.{Names}

@@ -39,8 +39,9 @@ use Rattle.layout.specs.Check.{limit, tree}
 use Rattle.layout.specs.SoundLayout.{SoundLayout, Sized}
 use Rattle.layout.specs.Next.{Next}
 use Rattle.layout.specs.Open.{openOf}
-use Rattle.layout.specs.Insert.{bookingFor, pieceAt, Insertable, InsertDone, InsertSays}
-use Rattle.layout.specs.Remove.{placeFor, RemoveDone, RemoveSays, Takeable}
+use Rattle.layout.specs.Insert.{bookingFor, pieceAt, InsertDone, InsertSays}
+use Rattle.layout.specs.Inner.{Insertable, Takeable}
+use Rattle.layout.specs.Remove.{placeFor, RemoveDone, RemoveSays}
 use Rattle.layout.specs.Restore.{greater, withSerial, restoreOf}
 use Rattle.layout.proofs.Listed.{piece-is}
 use Rattle.layout.proofs.Opened.{fresh-sized, fresh-sound}

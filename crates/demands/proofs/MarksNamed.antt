@@ -45,7 +45,8 @@ use Rattle.layout.specs.declared.remove.Removed.{Removed}
 use Rattle.layout.specs.Check.{limit, tree, soundB}
 use Rattle.layout.specs.SoundLayout.{SoundLayout, Sized}
 use Rattle.layout.specs.Open.{freshLayout, openOf}
-use Rattle.layout.specs.Insert.{bookingFor, pieceAt, Insertable, InsertDone, InsertSays}
+use Rattle.layout.specs.Insert.{bookingFor, pieceAt, InsertDone, InsertSays}
+use Rattle.layout.specs.Inner.{Insertable}
 use Rattle.layout.specs.Remove.{placeFor, RemoveSays}
 use Rattle.layout.proofs.Listed.{piece-is}
 use Rattle.layout.proofs.Admitted.{is-free}

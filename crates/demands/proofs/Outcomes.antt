@@ -22,8 +22,9 @@ use Rattle.layout.specs.declared.remove.Removed.{Removed}
 use Rattle.layout.specs.Check.{domainB, soundB}
 use Rattle.layout.specs.SoundLayout.{Sized}
 use Rattle.layout.specs.Open.{freshLayout, openOf}
-use Rattle.layout.specs.Insert.{bookingFor, insertIs, insertNo, Insertable, InsertDone, InsertSays}
-use Rattle.layout.specs.Remove.{removeIs, removeNo, RemoveDone, RemoveSays, Takeable}
+use Rattle.layout.specs.Insert.{bookingFor, insertIs, insertNo, InsertDone, InsertSays}
+use Rattle.layout.specs.Inner.{Insertable, Takeable}
+use Rattle.layout.specs.Remove.{removeIs, removeNo, RemoveDone, RemoveSays}
 use Rattle.layout.specs.Restore.{greater, withSerial, restoreOf}
 use Rattle.layout.proofs.Admitted.{insertable}
 use Rattle.layout.proofs.Inserted.{insert-accepted}

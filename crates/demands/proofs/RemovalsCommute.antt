@@ -29,7 +29,8 @@ use Rattle.layout.specs.declared.remove.Removed.{Removed}
 use Rattle.layout.specs.Check.{limit, tree}
 use Rattle.layout.specs.SoundLayout.{Sized}
 use Rattle.layout.specs.Insert.{pieceAt}
-use Rattle.layout.specs.Remove.{RemoveDone, RemoveSays, Takeable, numbersOut, placeFor}
+use Rattle.layout.specs.Remove.{RemoveDone, RemoveSays, numbersOut, placeFor}
+use Rattle.layout.specs.Inner.{Takeable}
 use Rattle.layout.proofs.Listed.{piece-is}
 use Rattle.looks.specs.Written.{snapshotBytes}
 use Rattle.demands.specs.Life.{Names}

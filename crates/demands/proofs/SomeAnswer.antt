@@ -34,8 +34,9 @@ use Rattle.layout.specs.declared.insert.Inserted.{Inserted}
 use Rattle.layout.specs.declared.remove.Removed.{Removed}
 use Rattle.layout.specs.SoundLayout.{Sized}
 use Rattle.layout.specs.Parts.{nodesOf, withNodes}
-use Rattle.layout.specs.Insert.{InsertDone, InsertSays, Insertable, bookingFor, insertNo, refusedInsert}
-use Rattle.layout.specs.Remove.{Leaving, RemoveDone, RemoveSays, Takeable, numbersOut, refusedRemove, removeNo}
+use Rattle.layout.specs.Insert.{InsertDone, InsertSays, bookingFor, insertNo, refusedInsert}
+use Rattle.layout.specs.Inner.{Insertable, Leaving, Takeable}
+use Rattle.layout.specs.Remove.{RemoveDone, RemoveSays, numbersOut, refusedRemove, removeNo}
 use Rattle.layout.proofs.Admitted.{done-says, insertable, refused-says}
 use Rattle.layout.proofs.Booked.{insert-done}
 use Rattle.layout.proofs.Gone.{may-take}

@@ -9,7 +9,7 @@ use lib.Seq.{sets-eq, getD-drop}
 use borrow.Author.Tests.{le-leb, lt-leb, eq-eqb, ne-eqb}
 use Rattle.frames.specs.declared.Request.the-variants.{Malformed}
 use Rattle.frames.specs.Bytes.{pairs, allBytes, total}
-use Rattle.frames.specs.Decoding.{held}
+use Rattle.frames.specs.Inner.{held}
 use Rattle.frames.specs.Requests.{formOf, made, lengthOf, askedBy, wellFormed, requestOf}
 use Rattle.frames.proofs.Lists.{length-pairs}
 use Rattle.frames.proofs.Forms.{values-same}

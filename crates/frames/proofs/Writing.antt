@@ -11,7 +11,8 @@ use Rattle.hex.specs.Hex.{letterOf}
 use Rattle.frames.specs.declared.write.Pen.{Pen}
 use Rattle.frames.specs.Bytes.{charsOf, total, checkOf, framed, lineOf}
 use Rattle.frames.specs.Answers.{Answer, each, contentOf, answerLine}
-use Rattle.frames.specs.Writing.{start, ending, Wrote, Answered}
+use Rattle.frames.specs.Writing.{Answered}
+use Rattle.frames.specs.Inner.{start, ending, Wrote}
 use Rattle.frames.proofs.Lists.{sets-append, total-append, chars-append, length-chars}
 
 module _ {l m n a b : List ℕ} {p q r : Pen} where

@@ -3,7 +3,7 @@ ghost use mathlib.Core.Path.{_≡_};
 ghost use Prim.Native.Nat.{_+_, _≤_};
 ghost use lib.ListN.{length};
 ghost use Rattle.frames.specs.Bytes.{twoAt, fourAt};
-ghost use Rattle.frames.specs.Decoding.{Decodes};
+ghost use Rattle.frames.specs.Inner.{Decodes};
 ghost use Rattle.frames.specs.Fields.{cutOf, turnOf, rotationOf, shapeOf, markFields, partFields, widths, sizeAt, markAt, partAt};
 ghost use Rattle.frames.specs.Requests.{openOf, offersOf, insertOf, removeOf, lengthOf, askedBy, requestOf};
 use crate::Ask;

@@ -31,7 +31,8 @@ use Rattle.layout.specs.Check.{limit, maxSerial, tree}
 use Rattle.layout.specs.Asked.{freePieceOf}
 use Rattle.layout.specs.SoundLayout.{SoundLayout, Sized}
 use Rattle.layout.specs.Refusing.{outcomeOf}
-use Rattle.layout.specs.Insert.{InsertDone, InsertSays, Insertable, bookNo, bookingFor, insertNo, pieceAt, pieceNo, refusedInsert}
+use Rattle.layout.specs.Insert.{InsertDone, InsertSays, bookNo, bookingFor, insertNo, pieceAt, pieceNo, refusedInsert}
+use Rattle.layout.specs.Inner.{Insertable}
 use Rattle.layout.proofs.Exactly.{sound-says}
 use Rattle.layout.proofs.Listed.{piece-is}
 use Rattle.layout.proofs.Marks.{Names, headed, sought-names}

@@ -39,7 +39,8 @@ use Rattle.booking.specs.declared.marks.NewMarks.{NewMarks}
 use Rattle.booking.specs.declared.new_nodes.NewNode.{NewNode}
 use Rattle.booking.specs.NewNodes.{deepest, freesOf, heldNew, leaves, those}
 use Rattle.booking.specs.Marks.{blockMarks, newMarks}
-use Rattle.booking.specs.Book.{Bookable, booked}
+use Rattle.booking.specs.Book.{booked}
+use Rattle.booking.specs.Inner.{Bookable}
 use Rattle.booking.proofs.Offering.{Offers, offered-says}
 use Rattle.booking.proofs.Made.{frees-few, held-those, leaves-count}
 use Rattle.booking.proofs.Sums.{book-count, book-part-area}
@@ -51,7 +52,8 @@ use Rattle.layout.specs.Check.{limit, sideB, tree}
 use Rattle.layout.specs.Asked.{partB}
 use Rattle.layout.specs.Parts.{nodesOf, withNodes}
 use Rattle.layout.specs.Next.{Next, removables}
-use Rattle.layout.specs.Insert.{Insertable, InsertDone, bookingFor, pieceAt}
+use Rattle.layout.specs.Insert.{InsertDone, bookingFor, pieceAt}
+use Rattle.layout.specs.Inner.{Insertable}
 use Rattle.layout.proofs.Changed.{layout-stands, stands-next}
 use Rattle.layout.proofs.Admitted.{sound-counts}
 

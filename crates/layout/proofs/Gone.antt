@@ -25,7 +25,8 @@ use Rattle.layout.specs.Check.{limit, tree, soundB}
 use Rattle.layout.specs.Asked.{soughtOf}
 use Rattle.layout.specs.SoundLayout.{SoundLayout, Sized}
 use Rattle.layout.specs.Refusing.{orElse}
-use Rattle.layout.specs.Remove.{RemoveDone, RemoveSays, Takeable, goNo, goingNo, numbersLeft, numbersOut, placeFor}
+use Rattle.layout.specs.Remove.{RemoveDone, RemoveSays, goNo, goingNo, numbersLeft, numbersOut, placeFor}
+use Rattle.layout.specs.Inner.{Takeable}
 use Rattle.layout.specs.Remove.{refusedRemove, removeIs, removeNo, roomNo}
 use Rattle.layout.proofs.Marks.{Names}
 use Rattle.layout.proofs.RemoveEnds.{takeable}

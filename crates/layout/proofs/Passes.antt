@@ -12,7 +12,7 @@ use Rattle.lists.specs.declared.flags.Flags.{Flags}
 use Rattle.lists.specs.Lists.{zeros}
 use Rattle.lists.specs.Search.{differ, zeroTail}
 use Rattle.lists.specs.Flags.{flagged}
-use Rattle.lists.specs.Classes.{Low}
+use Rattle.lists.specs.Inner.{Low}
 use Rattle.lists.proofs.Scan.{and-left, and-right, every-at, test}
 use Rattle.table.specs.Table.{at}
 use Rattle.sound.specs.Columns.{areasOf, serialsOf, firstsOf, nextsOf, kindsOf}

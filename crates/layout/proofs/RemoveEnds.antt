@@ -20,7 +20,8 @@ use Rattle.layout.specs.declared.remove.Removed.{Removed}
 use Rattle.layout.specs.Check.{soundB, maxSerial}
 use Rattle.layout.specs.Asked.{soughtOf}
 use Rattle.layout.specs.SoundLayout.{Sized}
-use Rattle.layout.specs.Remove.{RemoveSays, Takeable, goNo, numbersLeft, numbersOut, outAfter, refusedRemove, removeIs, removeNo, roomNo}
+use Rattle.layout.specs.Remove.{RemoveSays, goNo, numbersLeft, numbersOut, outAfter, refusedRemove, removeIs, removeNo, roomNo}
+use Rattle.layout.specs.Inner.{Takeable}
 use Rattle.layout.proofs.Exactly.{sound-says}
 use Rattle.layout.proofs.Marks.{sought-names}
 

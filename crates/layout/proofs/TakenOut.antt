@@ -26,7 +26,8 @@ use Rattle.register.proofs.Family.{parent-cleared}
 use Rattle.removal.specs.declared.going.Going.{Going}
 use Rattle.removal.specs.declared.remove.Cleared.{Cleared}
 use Rattle.removal.specs.Going.{goingOf, places, areaAlong}
-use Rattle.removal.specs.Remove.{Clearable, removed}
+use Rattle.removal.specs.Remove.{removed}
+use Rattle.removal.specs.Inner.{Clearable}
 use Rattle.removal.proofs.Row.{row-of}
 use Rattle.removal.proofs.Goes.{leaving-is, going-is}
 use Rattle.removal.proofs.Pieces.{parent-low, last-low}
@@ -36,7 +37,8 @@ use Rattle.layout.specs.declared.layout.Layout.{Layout}
 use Rattle.layout.specs.Check.{limit, tree}
 use Rattle.layout.specs.Parts.{nodesOf, withNodes}
 use Rattle.layout.specs.Next.{Next, removables}
-use Rattle.layout.specs.Remove.{Leaving, Takeable, numbersOut, placeFor}
+use Rattle.layout.specs.Remove.{numbersOut, placeFor}
+use Rattle.layout.specs.Inner.{Leaving, Takeable}
 use Rattle.layout.proofs.Areas.{used-small}
 use Rattle.layout.proofs.Changed.{layout-stands, stands-next}
 

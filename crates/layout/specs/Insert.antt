@@ -1,9 +1,9 @@
 -- Document 01, "Insertion": what `insert` answers. Refusals 1, 3, 4, 5, 6, 7, 8, 9, in this order, each exactly on its condition; and else what is
 -- booked, the marks, and the next layout.
 use mathlib.Core.Path.{_≡_}
-use mathlib.Core.Bool.{true, cond}
+use mathlib.Core.Bool.{cond}
 use mathlib.Core.Option.{Option, none, some}
-use Prim.Native.Nat.{ℕ, _+_, _-_, _≤_}
+use Prim.Native.Nat.{ℕ, _+_, _-_}
 use lib.Dec.{leb}
 use Rattle.piece.specs.declared.rotation.Rotation.{Rotation}
 use Rattle.piece.specs.declared.parttype.PartType.{PartType}
@@ -11,8 +11,6 @@ use Rattle.piece.specs.declared.node.Datum.{Datum}
 use Rattle.piece.specs.declared.insertion_blueprint.InsertionShape.{InsertionShape}
 use Rattle.piece.specs.Insertion.{newNodes}
 use Rattle.piece.specs.Offers.{turned}
-use Rattle.piece.specs.declared.node.Kind.the-variants.{Free}
-use Rattle.tree.specs.Tree.{At}
 use Rattle.tree.specs.Booking.{Booking, block, book}
 use Rattle.tree.specs.Steps.{less}
 use Rattle.tree.specs.Pieces.{maxSerial}
@@ -30,8 +28,7 @@ use Rattle.layout.specs.declared.replies.Sought.{Sought}
 use Rattle.layout.specs.declared.replies.Sought.the-variants as sought
 use Rattle.layout.specs.declared.insert.Inserted.{Inserted}
 use Rattle.layout.specs.Check.{limit, tree}
-use Rattle.layout.specs.Asked.{partB, freePieceOf}
-use Rattle.layout.specs.SoundLayout.{SoundLayout, Sized}
+use Rattle.layout.specs.Asked.{freePieceOf}
 use Rattle.layout.specs.Next.{Next, removables}
 
 -- refusals 7, 8 and 9, of the free piece d that the mark names
@@ -86,14 +83,3 @@ insertIs none l x b a = InsertDone l x b a
 
 unfoldable pub InsertSays : Layout → Mark → PartType → Rotation → InsertionShape → Inserted → Type 0
 InsertSays l m p r s a = insertIs (insertNo l m p r s) l (m .place) (bookingFor l (m .place) p r s) a
-
--- what is known when it is accepted
-pub record Insertable (l : Layout) (x : ℕ) (p : PartType) (r : Rotation) (s : InsertionShape) : Type 0 where
-  pub sized : Sized l
-  pub sound : SoundLayout l
-  pub there : At x (pieceAt l x) (tree l)
-  pub free : pieceAt l x .kind ≡ Free
-  pub part : partB p ≡ true
-  pub offered : offeredB (pieceAt l x) p (l .stages) r s ≡ true
-  pub room : l .held - 1 + newNodes s ≤ limit
-  pub spent : l .serial + newNodes s ≤ maxSerial

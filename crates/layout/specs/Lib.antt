@@ -9,3 +9,4 @@ pub mod Refusing
 pub mod Parts
 pub mod Insert
 pub mod Remove
+pub mod Inner

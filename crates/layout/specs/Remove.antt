@@ -1,23 +1,19 @@
 -- Document 01, "Removal": what `remove` answers and leaves in the lent buffer. Refusals 1, 4, 5, 10, 11, 9, 13, in this order, each exactly on its
 -- condition; and else the part numbers of the subtree, the mark of the new free piece, and the next layout.
 use mathlib.Core.Path.{_≡_}
-use mathlib.Core.Bool.{Bool, cond}
+use mathlib.Core.Bool.{cond}
 use mathlib.Core.List.{List}
 use mathlib.Core.Option.{Option, none, some}
-use Prim.Native.Nat.{ℕ, _+_, _≤_}
+use Prim.Native.Nat.{ℕ, _+_}
 use lib.Dec.{eqb, leb}
 use lib.ListN.{length}
 use lib.Seq.{sets}
 use Rattle.piece.specs.declared.node.Datum.{Datum}
 use Rattle.tree.specs.Tree.{isFree}
 use Rattle.tree.specs.Removal.{cleared, remove, removed}
-use Rattle.tree.specs.Apart.{Removable}
 use Rattle.tree.specs.Pieces.{maxSerial}
 use Rattle.tree.specs.Family.{newPlace}
 use Rattle.tree.specs.Enrolment.{removedList}
-use Rattle.walks.specs.Along.{Placed}
-use Rattle.removal.specs.declared.going.Going.{Going}
-use Rattle.removal.specs.Going.{goingOf, places}
 use Rattle.booking.specs.Marks.{zeroMark}
 use Rattle.answers.specs.declared.Mark.{Mark}
 use Rattle.answers.specs.declared.Refusal.{Refusal}
@@ -29,7 +25,6 @@ use Rattle.layout.specs.declared.replies.Sought.the-variants as sought
 use Rattle.layout.specs.declared.remove.Removed.{Removed}
 use Rattle.layout.specs.Check.{limit, tree, soundB}
 use Rattle.layout.specs.Asked.{soughtOf}
-use Rattle.layout.specs.SoundLayout.{SoundLayout, Sized}
 use Rattle.layout.specs.Refusing.{orElse}
 use Rattle.layout.specs.Next.{Next, removables}
 
@@ -85,16 +80,3 @@ outAfter none numbers out = sets out 0 numbers
 
 unfoldable pub numbersLeft : Layout → Mark → List ℕ → List ℕ
 numbersLeft l m out = outAfter (removeNo l m (length out)) (numbersOut l (m .place)) out
-
--- what is known when it is accepted, but for the buffer's room
-pub record Takeable (l : Layout) (x : ℕ) : Type 0 where
-  pub sized : Sized l
-  pub sound : SoundLayout l
-  pub removable : Removable x (tree l)
-  pub spent : l .serial + 1 ≤ maxSerial
-
--- the places that go are these
-pub record Leaving (l : Layout) (x : ℕ) (g : Going) : Type 0 where
-  pub places : places g ≡ goingOf (l .nodes) x (l .held)
-  pub room : g .count ≤ limit
-  pub placed : Placed limit (g .count) (g .order)

@@ -6,7 +6,7 @@ ghost use mathlib.Core.Path.{_≡_};
 ghost use mathlib.Core.Bool.{true, _&&_};
 ghost use lib.Dec.{leb};
 ghost use Rattle.lists.specs.Search.{differ, zeroTail};
-ghost use Rattle.lists.specs.Classes.{Low};
+ghost use Rattle.lists.specs.Inner.{Low};
 ghost use Rattle.lists.specs.Flags.{okB};
 ghost use Rattle.sound.specs.Places.{topB};
 ghost use Rattle.sound.specs.Listed.{sortedB};

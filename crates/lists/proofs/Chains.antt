@@ -11,7 +11,7 @@ use lib.ListN.{length, getD, set, length-set}
 use lib.Seq.{getD-set-same, getD-set-other}
 use borrow.Author.Tests.{eq-eqb, ne-eqb, eqb-true}
 use Rattle.lists.specs.Lists.{limit, zeros}
-use Rattle.lists.specs.Classes.{classAt, inClass, lastBelow, Chained}
+use Rattle.lists.specs.Inner.{classAt, inClass, lastBelow, Chained}
 use Rattle.lists.proofs.Scan.{clash}
 use Rattle.lists.proofs.Padded.{getD-zeros, length-zeros}
 

@@ -12,7 +12,7 @@ use lib.ListN.{getD, set}
 use borrow.Author.Tests.{eq-eqb, ne-eqb}
 use Rattle.lists.specs.Lists.{zeros}
 use Rattle.lists.specs.Search.{differ, apart, apartBelow}
-use Rattle.lists.specs.Classes.{unlike, unlikeBelow, residuesDiffer}
+use Rattle.lists.specs.Inner.{unlike, unlikeBelow, residuesDiffer}
 use Rattle.lists.proofs.Scan.{clash, every-all, every-at, every-fails}
 use Rattle.lists.proofs.Look.{or-true, other}
 use Rattle.lists.proofs.Padded.{getD-zeros, length-zeros}

@@ -10,7 +10,7 @@ use native.Mathlib.Decide.{ℕ-discrete, decLe}
 use lib.ListN.{length, getD, set}
 use Rattle.lists.specs.Lists.{limit, zeros}
 use Rattle.lists.specs.Search.{differ, apartBelow}
-use Rattle.lists.specs.Classes.{Low, classAt}
+use Rattle.lists.specs.Inner.{Low, classAt}
 use Rattle.lists.proofs.Scan.{every-fails}
 use Rattle.lists.proofs.Look.{twice}
 use Rattle.lists.proofs.Found.{differ-all}

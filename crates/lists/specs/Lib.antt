@@ -1,4 +1,4 @@
 pub mod Lists
 pub mod Search
 pub mod Flags
-pub mod Classes
+pub mod Inner

@@ -3,7 +3,7 @@
 ghost use mathlib.Core.Path.{_≡_};
 ghost use Rattle.lists.specs.Lists.{limit};
 ghost use Rattle.lists.specs.Search.{differ};
-ghost use Rattle.lists.specs.Classes.{Low, residuesDiffer, Chained};
+ghost use Rattle.lists.specs.Inner.{Low, residuesDiffer, Chained};
 use crate::LIMIT;
 use crate::search::wide;
 

@@ -9,7 +9,7 @@ use lib.Seq.{getD-take}
 use Rattle.piece.specs.declared.node.Datum.{Datum}
 use Rattle.piece.specs.declared.node.Kind.the-variants.{Free}
 use Rattle.tree.specs.Tree.{At, isFree}
-use Rattle.walks.specs.Along.{Placed}
+use Rattle.walks.specs.Inner.{Placed}
 use Rattle.layout.specs.declared.layout.Layout.{Layout}
 use Rattle.layout.specs.Check.{limit, tree, soundB}
 use Rattle.layout.specs.SoundLayout.{Pieces, Holding, SoundLayout, Sized}

@@ -24,7 +24,8 @@ use Rattle.tree.proofs.Usage.{sheet-small}
 use Rattle.tree.proofs.Laws.AreaConserved.{area-conserved}
 use Rattle.table.specs.declared.Node.{Node}
 use Rattle.table.specs.Table.{zeroNode, at, Holds}
-use Rattle.walks.specs.Usage.{Small, usageOf}
+use Rattle.walks.specs.Usage.{usageOf}
+use Rattle.walks.specs.Inner.{Small}
 use Rattle.walks.specs.Columns.{usageIn}
 use Rattle.walks.proofs.Meaning.{usage-top, small}
 use Rattle.sound.specs.declared.columns.Columns.{Columns}

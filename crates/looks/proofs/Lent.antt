@@ -17,7 +17,8 @@ use Rattle.tree.specs.Removal.{subtree}
 use Rattle.tree.specs.Snapshot.{snapshot}
 use Rattle.walks.specs.declared.columns.Columns.{Columns}
 use Rattle.walks.specs.Columns.{columnsOf, snapshotIn}
-use Rattle.walks.specs.Along.{below, entries, Placed, numbersAlong}
+use Rattle.walks.specs.Along.{below, entries, numbersAlong}
+use Rattle.walks.specs.Inner.{Placed}
 use Rattle.walks.proofs.Meaning.{snapshot-subtree}
 use Rattle.walks.proofs.Entries.{entries-below, placed-below}
 use Rattle.walks.proofs.Along.{length-snapshot, numbers-held-count, parts-most}

@@ -3,7 +3,7 @@ ghost use mathlib.Core.Path.{_≡_};
 ghost use mathlib.Core.Bool.{true};
 ghost use Prim.Native.Nat.{_<_, _≤_};
 ghost use Rattle.lists.specs.Lists.{limit};
-ghost use Rattle.walks.specs.Along.{Placed};
+ghost use Rattle.walks.specs.Inner.{Placed};
 ghost use Rattle.layout.specs.Check.{soundB};
 ghost use Rattle.looks.specs.Answers.{freeMarkOf, markAt, markOf, removableMarkOf};
 use crate::replies::MarkAnswer;

@@ -17,7 +17,7 @@ use Rattle.tree.proofs.ListSteps.{Up, down-of, up-of, up-order, Wider, up-in, d
 use Rattle.tree.proofs.Rows.{at-in}
 use Rattle.table.proofs.Pigeon.{low-filled, low-most}
 use Rattle.lists.specs.Lists.{limit}
-use Rattle.register.specs.Spots.{Single}
+use Rattle.register.specs.Inner.{Single}
 
 -- ---- the same pieces
 

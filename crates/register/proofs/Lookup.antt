@@ -17,7 +17,8 @@ use Rattle.lists.proofs.Named.{length-column, getD-column}
 use Rattle.lists.proofs.Padded.{length-padded}
 use Rattle.register.specs.declared.listing.Listing.{Listing}
 use Rattle.register.specs.Listings.{Kept, entriesOf}
-use Rattle.register.specs.Spots.{Single, Spotted, spotsOf}
+use Rattle.register.specs.Spots.{spotsOf}
+use Rattle.register.specs.Inner.{Single, Spotted}
 use Rattle.register.proofs.Listed.{getD-entries, length-entries, padded-entries, room-entries, strike-none, strike-one}
 use Rattle.register.proofs.Listed.{strike-each, Left, left-start, left-more}
 

@@ -18,7 +18,8 @@ use Rattle.lists.proofs.Found.{index-before, index-found, index-holds}
 use Rattle.walks.specs.Along.{entries}
 use Rattle.register.specs.declared.listing.Listing.{Listing}
 use Rattle.register.specs.Listings.{Kept, entriesOf, listing}
-use Rattle.register.specs.Spots.{Single, spotsOf}
+use Rattle.register.specs.Spots.{spotsOf}
+use Rattle.register.specs.Inner.{Single}
 use Rattle.register.proofs.Listed.{cut-each, all-length-most, entries-are, getD-entries, kept-as, length-entries, push-one}
 use Rattle.register.proofs.Naming.{named, unnamed}
 use Rattle.register.proofs.Lookup.{spots-at}

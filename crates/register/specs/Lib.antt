@@ -1,3 +1,4 @@
 pub mod Listings
 pub mod Spots
 pub mod Standing
+pub mod Inner

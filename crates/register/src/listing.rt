@@ -6,7 +6,7 @@ ghost use Rattle.tree.specs.ListSteps.{berth, cutAll, strikeAll};
 ghost use Rattle.lists.specs.Lists.{limit};
 ghost use Rattle.walks.specs.Along.{entries};
 ghost use Rattle.walks.specs.Columns.{areasOf};
-ghost use Rattle.register.specs.Spots.{Single};
+ghost use Rattle.register.specs.Inner.{Single};
 ghost use Rattle.register.specs.Listings.{Kept, areaAt, entriesOf, listing};
 use crate::spots::spot_in;
 use crate::spots::spots_of;

@@ -3,7 +3,8 @@ ghost use mathlib.Core.Path.{_≡_};
 ghost use Prim.Native.Nat.{_≤_};
 ghost use Rattle.lists.specs.Lists.{limit};
 ghost use Rattle.lists.specs.Search.{indexOf};
-ghost use Rattle.register.specs.Spots.{Spotted, spotsOf};
+ghost use Rattle.register.specs.Spots.{spotsOf};
+ghost use Rattle.register.specs.Inner.{Spotted};
 use lists::LIMIT;
 use lists::search::wide;
 

@@ -23,7 +23,8 @@ use Rattle.table.specs.Table.{zeroNode, withFirst, withLast, withNext, withPrev
 use Rattle.table.specs.Steps.{going}
 use Rattle.walks.specs.Order.{childrenFirst}
 use Rattle.walks.proofs.Meaning.{order-subtree}
-use Rattle.removal.specs.Going.{goingOf, Goes}
+use Rattle.removal.specs.Going.{goingOf}
+use Rattle.removal.specs.Inner.{Goes}
 
 -- ---- the walk
 

@@ -14,7 +14,8 @@ use Rattle.table.specs.Table.{at}
 use Rattle.table.specs.Steps.{freeLast, freeLastPlace}
 use Rattle.lists.specs.Lists.{limit, zeros}
 use Rattle.lists.proofs.Fill.{sets-append}
-use Rattle.walks.specs.Along.{Placed, entries}
+use Rattle.walks.specs.Along.{entries}
+use Rattle.walks.specs.Inner.{Placed}
 use Rattle.walks.specs.Chain.{siblings}
 use Rattle.walks.specs.Columns.{orderIn}
 use Rattle.walks.specs.Walk.{gathered, walkOf}

@@ -28,7 +28,7 @@ use Rattle.table.proofs.Links.{in-at}
 use Rattle.table.proofs.Rep.{last-cases, last-after, bound, shows}
 use Rattle.table.proofs.Removal.{freeEnd, FreeLeaves, cleared-at}
 use Rattle.register.proofs.Naming.{names-cases, names-first, names-second}
-use Rattle.removal.specs.Going.{Goes}
+use Rattle.removal.specs.Inner.{Goes}
 use Rattle.removal.specs.Remove.{newFree}
 use Rattle.removal.proofs.Row.{RowOf, whole, rest, new-is, row-of, end-alone}
 use Rattle.removal.proofs.Goes.{goes-all, row-parents}

@@ -34,7 +34,8 @@ use Rattle.register.specs.Standing.{Stands}
 use Rattle.register.proofs.Listed.{entries-listing, kept-listing}
 use Rattle.register.proofs.HoldingSteps.{holding-most, holding-single}
 use Rattle.register.proofs.Family.{lowest-is, fresh-removal}
-use Rattle.removal.specs.Remove.{newFree, returned, removedFrom, removed, Clearable}
+use Rattle.removal.specs.Remove.{newFree, returned, removedFrom, removed}
+use Rattle.removal.specs.Inner.{Clearable}
 use Rattle.removal.proofs.Pieces.{goes, parent-low, last-low}
 use Rattle.removal.proofs.Serials.{remove-serials}
 use Rattle.removal.proofs.FreeList.{remove-free}

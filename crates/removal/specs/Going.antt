@@ -1,16 +1,15 @@
 -- What a removal takes out: "taking a subtree out goes down child by child and ends with its own node"; then the free piece at the end of the row.
-use mathlib.Core.Path.{_≡_}
 use mathlib.Core.List.{List, [], _∷_, _++_}
-use Prim.Native.Nat.{ℕ, _+_, _≤_, _<_}
+use Prim.Native.Nat.{ℕ, _+_}
 use Rattle.piece.specs.Sides.{area}
 use Rattle.piece.specs.declared.node.Datum.{Datum}
 use mathlib.Core.Bool.{cond}
 use Rattle.tree.specs.Tree.{isPart}
 use Rattle.table.specs.declared.Node.{Node}
-use Rattle.table.specs.Table.{at, unlink}
+use Rattle.table.specs.Table.{at}
 use Rattle.table.specs.Steps.{freeLastPlace}
 use Rattle.lists.specs.Lists.{limit}
-use Rattle.walks.specs.Along.{Placed, entries}
+use Rattle.walks.specs.Along.{entries}
 use Rattle.walks.specs.Columns.{orderIn}
 use Rattle.removal.specs.declared.going.Going.{Going}
 
@@ -21,11 +20,6 @@ goingOf t x held = orderIn limit t held x ++ freeLastPlace t (at t x .parent)
 -- the places as the code has them
 abbrev pub places : Going → List ℕ
 places g = entries (g .count) (g .order)
-
--- each can be unlinked when its turn comes: it is a place, and so is its parent's then
-abbrev pub Goes : ℕ → List Node → List ℕ → Type 0
-Goes limit t [] = Unit {0}
-Goes limit t (p ∷ ps) = (p < limit) × (at t p .parent < limit) × Goes limit (unlink limit t p) ps
 
 -- the area of a part; another piece has none
 abbrev pub partArea : Datum → ℕ

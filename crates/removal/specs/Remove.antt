@@ -3,9 +3,8 @@
 use mathlib.Core.Bool.{cond}
 use mathlib.Core.List.{List}
 use mathlib.Core.Option.{Option, none, some}
-use Prim.Native.Nat.{ℕ, _+_, _≤_, _<_}
+use Prim.Native.Nat.{ℕ, _+_}
 use lib.Dec.{leb}
-use lib.ListN.{length}
 use Rattle.piece.specs.declared.node.Datum.{Datum}
 use Rattle.tree.specs.Removal.{freed, board}
 use Rattle.tree.specs.Tree.{isFree}
@@ -16,10 +15,8 @@ use Rattle.table.specs.Steps.{freeLastDatum, unlinkAll}
 use Rattle.table.specs.Unheld.{lowestFrom}
 use Rattle.lists.specs.Lists.{limit}
 use Rattle.register.specs.declared.LayoutNodes.{LayoutNodes}
-use Rattle.register.specs.Listings.{Kept, areaIn, entriesOf, listing}
-use Rattle.register.specs.Spots.{Single}
+use Rattle.register.specs.Listings.{areaIn, entriesOf, listing}
 use Rattle.removal.specs.declared.remove.Cleared.{Cleared}
-use Rattle.removal.specs.Going.{Goes}
 
 -- the last piece of a row, if that is free
 abbrev pub ifFree : Datum → Option Datum
@@ -50,20 +47,3 @@ removedFrom n left g x last =
 
 unfoldable pub removed : LayoutNodes → List ℕ → (x last : ℕ) → Cleared
 removed n g x last = removedFrom n (unlinkAll limit (n .nodes) g) g x last
-
--- what the code asks: that no index is out of bounds, no number overflows, and no list names a place twice
-pub record Clearable (n : LayoutNodes) (g : List ℕ) (x last : ℕ) : Type 0 where
-  pub placed : x < limit
-  pub hung : at (n .nodes) x .parent < limit
-  pub ended : at (n .nodes) (at (n .nodes) x .parent) .last < limit
-  pub freeKept : Kept (n .free)
-  pub removableKept : Kept (n .removable)
-  pub freeSingle : Single (entriesOf (n .free))
-  pub removableSingle : Single (entriesOf (n .removable))
-  pub goes : Goes limit (n .nodes) g
-  pub some : lowestFrom limit (unlinkAll limit (n .nodes) g) 0 < limit
-  pub freeRoom : length (cutAll (entriesOf (n .free)) g) < limit
-  pub removableRoom : length (strikeAll (entriesOf (n .removable)) g) < limit
-  pub wide : newFree (n .nodes) x last .size .width ≤ 4294967295
-  pub tall : newFree (n .nodes) x last .size .height ≤ 4294967295
-  pub spent : last ≤ 1000000

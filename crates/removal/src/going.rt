@@ -6,7 +6,7 @@ ghost use lib.ListN.{length};
 ghost use lib.Seq.{sets};
 ghost use Rattle.table.specs.Steps.{freeLastPlace};
 ghost use Rattle.table.specs.Table.{at};
-ghost use Rattle.walks.specs.Along.{Placed};
+ghost use Rattle.walks.specs.Inner.{Placed};
 ghost use Rattle.removal.specs.Going.{goingOf, places};
 use sound::columns::columns_of;
 use sound::places::is_free;

@@ -15,7 +15,7 @@ use lib.Seq.{getD-set-same, getD-set-other}
 use borrow.Author.Tests.{eq-eqb, ne-eqb, eqb-true, le-leb, lt-leb, leb-false}
 use Rattle.table.specs.declared.Node.{Node}
 use Rattle.table.specs.Table.{at, Held, zeroNode}
-use Rattle.table.specs.Build.{Among}
+use Rattle.table.proofs.Linkage.{Among}
 use Rattle.sound.specs.Columns.{firstsOf, nextsOf, serialsOf}
 use Rattle.sound.specs.Rows.{parentB}
 use Rattle.sound.specs.Hung.{markRow, markRows, hangRows, markedAt, markedB, hungB}

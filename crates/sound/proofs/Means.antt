@@ -20,7 +20,8 @@ use Rattle.tree.proofs.Rows.{same?, at-in}
 use Rattle.tree.proofs.Pieces.{free-piece, part-piece, structure-piece, top, sound}
 use Rattle.table.specs.declared.Node.{Node}
 use Rattle.table.specs.Table.{mk, at, Held, head, last, Rep, Holds}
-use Rattle.table.specs.Build.{treeOf, Linked, Among, Linkage}
+use Rattle.table.specs.Build.{treeOf}
+use Rattle.table.proofs.Linkage.{Linked, Among, Linkage}
 use Rattle.table.proofs.Rep.{bound, no-child}
 use Rattle.table.proofs.Build.{linkage-holds, in-held}
 use Rattle.table.proofs.Unique.{holds-room}

@@ -16,7 +16,7 @@ use Rattle.tree.specs.Steps.{Deep}
 use Rattle.tree.proofs.Rows.{in?}
 use Rattle.table.specs.declared.Node.{Node}
 use Rattle.table.specs.Table.{mk, zeroNode, at, Held, head, last, Rep, Holds}
-use Rattle.table.specs.Build.{Linkage}
+use Rattle.table.proofs.Linkage.{Linkage}
 use Rattle.table.proofs.Build.{in-held}
 use Rattle.table.proofs.Unique.{holds-room, tree-is}
 use Rattle.table.proofs.Links.{holds-linkage}

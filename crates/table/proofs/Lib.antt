@@ -7,6 +7,7 @@ pub mod Appended
 pub mod Open
 pub mod Unlink
 pub mod Unlinked
+pub mod Linkage
 pub mod Build
 pub mod Room
 pub mod Unique

@@ -10,7 +10,8 @@ use native.Mathlib.Decide.{ℕ-discrete}
 use lib.ListN.{length, getD, take, drop, length-append, List·getD-append}
 use lib.Seq.{sets, length-sets, sets-eq, take-suc, take-all, take-append-seam, getD-at}
 use Rattle.walks.specs.Walk.{gathered}
-use Rattle.walks.specs.Along.{entries, below, Placed}
+use Rattle.walks.specs.Along.{entries, below}
+use Rattle.walks.specs.Inner.{Placed}
 use Rattle.walks.proofs.Written.{sets-append}
 
 -- ---- entries

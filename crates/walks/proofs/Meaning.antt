@@ -27,7 +27,8 @@ use Rattle.table.specs.Columns.{kindOf}
 use Rattle.walks.specs.Chain.{siblings}
 use Rattle.walks.specs.Walk.{gathered, nothing, walkOf}
 use Rattle.walks.specs.Order.{itself, childrenFirst}
-use Rattle.walks.specs.Usage.{Small, weight, summed, usageOf}
+use Rattle.walks.specs.Usage.{weight, summed, usageOf}
+use Rattle.walks.specs.Inner.{Small}
 use Rattle.walks.specs.Columns.{firstsOf, nextsOf, kindsOf, areasOf, levelOf, cutOf, numberOf, widthOf, heightOf, columnsOf}
 use Rattle.walks.specs.Columns.{bytesIn, orderIn, snapshotIn, usageIn}
 use Rattle.walks.proofs.Chain.{siblings-over, siblings-more}

@@ -5,7 +5,7 @@
 use mathlib.Core.Path.{_≡_}
 use mathlib.Core.List.{List, [], _∷_, _++_}
 use mathlib.Core.Bool.{cond}
-use Prim.Native.Nat.{ℕ, zero, suc, _+_, _<_}
+use Prim.Native.Nat.{ℕ, zero, suc, _+_}
 use lib.Dec.{eqb}
 use lib.ListN.{getD}
 use Rattle.piece.specs.declared.node.Datum.{Datum}
@@ -25,10 +25,6 @@ entries (suc n) l = entries n l ++ (getD l n 0 ∷ [])
 unfoldable pub below : ℕ → List ℕ
 below zero = []
 below (suc n) = below n ++ (n ∷ [])
-
--- the first n entries are places
-abbrev pub Placed : ℕ → ℕ → List ℕ → Type 0
-Placed limit n l = (i : ℕ) → i < n → getD l i 0 < limit
 
 -- the number of a part; another piece has none
 abbrev pub partNumber : Datum → List ℕ

@@ -5,3 +5,4 @@ pub mod Usage
 pub mod Snapshot
 pub mod Columns
 pub mod Along
+pub mod Inner

@@ -2,16 +2,12 @@
 -- usage added in order from 0, divided by the node's area."
 use mathlib.Core.List.{List, [], _∷_}
 use mathlib.Core.Bool.{cond}
-use Prim.Native.Nat.{ℕ, zero, suc, _^_, _<_}
+use Prim.Native.Nat.{ℕ, zero, suc}
 use lib.Dec.{eqb}
 use lib.ListN.{getD}
 use lib.Ieee.{Float, binary64, add, mul, div}
 use Rattle.tree.specs.Figures.{nought, one, whole}
 use Rattle.walks.specs.Chain.{siblings}
-
--- "areas stay below 2^52"
-abbrev pub Small : List ℕ → Type 0
-Small area = (i : ℕ) → getD area i 0 < 2 ^ 52
 
 -- the area of a place, as an f64
 abbrev pub weight : List ℕ → ℕ → Float

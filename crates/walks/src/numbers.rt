@@ -10,7 +10,8 @@ ghost use lib.ListN.{length};
 ghost use lib.Seq.{sets};
 ghost use Rattle.tree.specs.Tree.{isPart};
 ghost use Rattle.lists.specs.Lists.{limit};
-ghost use Rattle.walks.specs.Along.{entries, below, Placed, partNumber, numbersAlong};
+ghost use Rattle.walks.specs.Along.{entries, below, partNumber, numbersAlong};
+ghost use Rattle.walks.specs.Inner.{Placed};
 
 fn is_part(kind: Kind) -> bool
     ensures { λ r. ⌜ r ≡ isPart kind ⌝ }

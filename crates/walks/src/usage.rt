@@ -4,7 +4,8 @@ use table::NONE;
 ghost use mathlib.Core.Path.{_≡_};
 ghost use Prim.Native.Nat.{_<_};
 ghost use Rattle.lists.specs.Lists.{limit};
-ghost use Rattle.walks.specs.Usage.{Small, usageOf};
+ghost use Rattle.walks.specs.Usage.{usageOf};
+ghost use Rattle.walks.specs.Inner.{Small};
 
 // The usage of the subtree of x: 0 for a free piece (kind 0), 1 for a part (kind 1), else its children's area times usage added in order
 // from 0, divided by its own area. `left` is as in `order_out`.

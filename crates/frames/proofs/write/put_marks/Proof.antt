@@ -5,7 +5,7 @@ use native.Mathlib.Omega.{arith}
 use lib.ListN.{length, take}
 use Rattle.frames.specs.Answers.{each}
 use Rattle.frames.specs.Fields.{markBytes}
-use Rattle.frames.specs.Writing.{Wrote}
+use Rattle.frames.specs.Inner.{Wrote}
 use Rattle.frames.proofs.Writing.{and-then, none-yet, turn, so-far, whole, same-room}
 use Rattle.frames.proofs.write.put_marks.Statement.{statement}
 use Rattle.frames.proofs.write.put_marks.Tie as tie

@@ -3,7 +3,7 @@ use mathlib.Core.Path.{refl, _∙_}
 use Prim.Native.Nat.{_≤_, _-_}
 use native.Mathlib.Omega.{arith}
 use lib.ListN.{take}
-use Rattle.frames.specs.Writing.{Wrote}
+use Rattle.frames.specs.Inner.{Wrote}
 use Rattle.frames.specs.Answers.{each}
 use Rattle.frames.specs.Bytes.{two}
 use Rattle.frames.proofs.Writing.{and-then, none-yet, turn, so-far, whole, same-room}

@@ -4,7 +4,7 @@ use Prim.Native.Nat.{_≤_, _-_}
 use native.Mathlib.Omega.{arith}
 use lib.ListN.{length-map, length, take}
 use Rattle.frames.specs.Answers.{each, offerBytes}
-use Rattle.frames.specs.Writing.{Wrote}
+use Rattle.frames.specs.Inner.{Wrote}
 use Rattle.frames.proofs.Writing.{and-then, none-yet, turn, so-far, whole, same-room}
 use Rattle.frames.proofs.write.put_offers.Statement.{statement}
 use Rattle.frames.proofs.write.put_offers.Tie as tie

@@ -7,7 +7,7 @@ use Prim.Native.Nat.{ℕ, _+_, _-_, _≤_}
 use native.Mathlib.Omega.{arith}
 use borrow.Author.Needs.{needs}
 use Rattle.lists.specs.Lists.{limit}
-use Rattle.lists.specs.Classes.{classAt, inClass, lastBelow}
+use Rattle.lists.specs.Inner.{classAt, inClass, lastBelow}
 use Rattle.lists.proofs.Chains.{Leads, last-leads}
 use Rattle.lists.proofs.Visits.{Done, done-none, done-more, done-all}
 use Rattle.lists.proofs.Visits.{Visited, visited-none, visited-on, visited-zero, visited-more, visited-twice}

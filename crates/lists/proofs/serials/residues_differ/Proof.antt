@@ -7,7 +7,7 @@ use native.Mathlib.Omega.{arith}
 use borrow.Author.Needs.{needs}
 use Rattle.lists.specs.Lists.{limit}
 use Rattle.lists.specs.Search.{every}
-use Rattle.lists.specs.Classes.{unlikeBelow, residuesDiffer}
+use Rattle.lists.specs.Inner.{unlikeBelow, residuesDiffer}
 use Rattle.lists.proofs.Scan.{every-none, every-more, every-fails}
 use Rattle.lists.proofs.Residues.{Passed, passed-none, passed-zero, passed-more, below-zero, below-new, below-flagged}
 use Rattle.lists.proofs.serials.residues_differ.Statement.{statement}

@@ -2,7 +2,8 @@
 use mathlib.Core.Path.{refl}
 use Rattle.table.specs.Steps.{freeLastDatum}
 use Rattle.removal.specs.Going.{places}
-use Rattle.removal.specs.Remove.{Clearable, newFree, removed, removedFrom}
+use Rattle.removal.specs.Remove.{newFree, removed, removedFrom}
+use Rattle.removal.specs.Inner.{Clearable}
 use borrow.Author.Needs.{needs}
 use Rattle.removal.proofs.remove.remove.Statement.{statement}
 use Rattle.removal.proofs.remove.remove.Tie as tie

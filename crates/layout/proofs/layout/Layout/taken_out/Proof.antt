@@ -4,7 +4,8 @@ use native.Mathlib.Omega.{arith}
 use borrow.Author.Needs.{needs}
 use lib.ListN.{length}
 use lib.Seq.{sets}
-use Rattle.layout.specs.Remove.{Leaving, numbersOut}
+use Rattle.layout.specs.Remove.{numbersOut}
+use Rattle.layout.specs.Inner.{Leaving}
 use Rattle.layout.proofs.TakenOut.{goable, numbers-going}
 use Rattle.layout.proofs.RemoveEnds.{too-short, long-enough}
 use Rattle.layout.proofs.layout.Layout.taken_out.Statement.{statement}

@@ -1,3 +1,4 @@
+-- Nobody has to believe this file: it only says what the inner functions of `serials` are handed or give back, and both ends of that are proved.
 -- Serials by residue modulo 4,096, and by class: a class is the serials with one quotient by 4,096.
 use mathlib.Core.List.{List}
 use mathlib.Core.Path.{_≡_}

@@ -1,0 +1,12 @@
+-- Nobody has to believe this file: it only says what an inner function is handed, and whoever calls that proves it.
+use mathlib.Core.List.{List}
+use Prim.Native.Nat.{ℕ, _<_, _^_}
+use lib.ListN.{getD}
+
+-- an order that is walked along: its first n entries are places
+abbrev pub Placed : ℕ → ℕ → List ℕ → Type 0
+Placed limit n l = (i : ℕ) → i < n → getD l i 0 < limit
+
+-- `usage_of`: "areas stay below 2^52"
+abbrev pub Small : List ℕ → Type 0
+Small area = (i : ℕ) → getD area i 0 < 2 ^ 52
