@@ -16,11 +16,10 @@ use Rattle.tree.specs.Steps.{less}
 use Rattle.tree.proofs.Rows.{same?, in-eq, at-in, after-nil}
 use Rattle.tree.proofs.Kept.{Where, Alone, free-alone}
 use Rattle.tree.proofs.Places.{in-less, gone}
-use Rattle.tree.proofs.Stays.{at-book}
+use Rattle.tree.proofs.Stays.{at-book, less-at}
 use Rattle.tree.proofs.Blocks.{block-in}
 use Rattle.tree.proofs.BookKept.{book-distinct}
 use Rattle.tree.proofs.Bookings.{at-unique}
-use Rattle.table.proofs.Unlink.{less-at}
 
 -- what is left of the tree is what a change to nothing leaves
 -- d stands at x, without children and last of its row

@@ -29,7 +29,7 @@ use Rattle.tree.specs.Steps.{less}
 use Rattle.tree.proofs.Rows.{same?, at-in, after-nil}
 use Rattle.tree.proofs.Kept.{Where, Alone, free-alone}
 use Rattle.tree.proofs.Counts.{count-book}
-use Rattle.table.proofs.Kids.{pass-absent}
+use Rattle.tree.proofs.Changes.{pass-absent}
 
 -- ---- a sum over the pieces
 

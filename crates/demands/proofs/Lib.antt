@@ -7,7 +7,6 @@ pub mod Refusals
 pub mod Examined
 pub mod Accepted
 pub mod Allowed
-pub mod Beside
 pub mod BookedThenRemoved
 pub mod BookingsCommute
 pub mod RemovalsCommute

@@ -21,16 +21,16 @@ use Rattle.tree.specs.Accepted.{Fresh}
 use Rattle.tree.specs.Steps.{less}
 use Rattle.tree.specs.Family.{parentOf}
 use Rattle.tree.proofs.Bookings.{at-unique}
+use Rattle.tree.proofs.Stays.{cleared-at}
 use Rattle.table.specs.declared.Node.{Node}
 use Rattle.table.specs.Table.{zeroDatum, zeroNode}
-use Rattle.table.proofs.Removal.{cleared-at}
 use Rattle.register.proofs.Family.{fresh-removal}
+use Rattle.answers.specs.declared.Mark.{Mark}
 use Rattle.booking.proofs.Pieces.{less-was, book-pieces}
 use Rattle.booking.proofs.Issued.{newer}
 use Rattle.removal.specs.Remove.{newFree}
 use Rattle.removal.proofs.Pieces.{remove-pieces}
 use Rattle.removal.proofs.Serials.{new-serial}
-use Rattle.answers.specs.declared.Mark.{Mark}
 use Rattle.layout.specs.declared.layout.Layout.{Layout}
 use Rattle.layout.specs.declared.open.Opening.the-variants as opening
 use Rattle.layout.specs.declared.insert.Inserted.{Inserted}

@@ -10,6 +10,7 @@ use Rattle.piece.specs.declared.size.Size.{Size}
 use Rattle.piece.specs.declared.node.Datum.{Datum}
 use Rattle.piece.specs.declared.node.Kind.the-variants.{Free}
 use Rattle.piece.specs.Row.{nil, grow}
+use Rattle.lists.proofs.Scan.{clash}
 use Rattle.tree.specs.Tree.{Tree, In, At, Distinct, after, change, rest, isFree, isNil}
 use Rattle.tree.specs.Sound.{Sound}
 use Rattle.tree.specs.Booking.{Booking, block, booked, book}
@@ -21,11 +22,9 @@ use Rattle.tree.proofs.Rows.{same?, in-eq, at-in, in-first, in-second}
 use Rattle.tree.proofs.Places.{in-less}
 use Rattle.tree.proofs.BookKept.{book-distinct}
 use Rattle.tree.proofs.RemoveKept.{in-left, remove-distinct}
-use Rattle.tree.proofs.Stays.{at-remove}
-use Rattle.table.proofs.Kids.{after-apart}
+use Rattle.tree.proofs.Stays.{at-remove, cleared-at}
+use Rattle.tree.proofs.Kids.{after-apart}
 use Rattle.table.proofs.Links.{in-at}
-use Rattle.table.proofs.Removal.{cleared-at}
-use Rattle.lists.proofs.Scan.{clash}
 use Rattle.register.proofs.Family.{holds-in, in-holds, absent-holds}
 use Rattle.booking.proofs.Pieces.{less-was, book-left}
 

@@ -1,6 +1,6 @@
 -- Demand 3: "two removals neither inside the other, commute". Over the calls: where one order is accepted, and the second mark names a piece
 -- before it in which the first one is not, the other order is accepted too and gives the same tree. What the second call takes stood there before the
--- first, beside it and with all that is below it (Beside), so that the same part numbers come out. The trees are the same by tree's law
+-- first, beside it and with all that is below it (tree's Beside), so that the same part numbers come out. The trees are the same by tree's law
 -- `removals-commute`, and by register's Family: the new free piece does not get the place of the piece that is still to go, which is held then.
 use mathlib.Core.Path.{_≡_, sym, ap, _∙_}
 use mathlib.Core.Logic.{⊎-elim}
@@ -17,13 +17,13 @@ use Rattle.tree.proofs.Rows.{at-in, in-eq}
 use Rattle.tree.proofs.Bookings.{at-unique}
 use Rattle.tree.proofs.Places.{gone}
 use Rattle.tree.proofs.RemoveKept.{in-left}
-use Rattle.tree.proofs.Stays.{at-cleared, at-remove}
+use Rattle.tree.proofs.Stays.{at-cleared, at-remove, cleared-at}
 use Rattle.tree.proofs.Laws.RemovalsCommute.{removals-commute}
-use Rattle.table.proofs.Removal.{cleared-at}
+use Rattle.tree.proofs.Beside.{left-outside, subtree-beside}
 use Rattle.register.proofs.Family.{fresh-removal}
+use Rattle.answers.specs.declared.Mark.{Mark}
 use Rattle.removal.proofs.Pieces.{remove-pieces}
 use Rattle.removal.proofs.Serials.{new-serial}
-use Rattle.answers.specs.declared.Mark.{Mark}
 use Rattle.layout.specs.declared.layout.Layout.{Layout}
 use Rattle.layout.specs.declared.remove.Removed.{Removed}
 use Rattle.layout.specs.Check.{limit, tree}
@@ -37,7 +37,6 @@ use Rattle.demands.specs.Life.{Names}
 use Rattle.demands.specs.Calls.{RemoveAccepted, SameTree}
 use Rattle.demands.proofs.Accepted.{RemoveMeans, accepted-remove}
 use Rattle.demands.proofs.Allowed.{remove-allowed}
-use Rattle.demands.proofs.Beside.{left-outside, subtree-beside}
 
 -- ---- what a removal leaves
 
@@ -197,7 +196,7 @@ module _ (l : Layout) (sized : Sized l)
         in
         rw (u, v)
         (removals-commute (tree l) x y (placeFor l x) (l .serial + 1) (placeFor (a .layout) y) (a .layout .serial + 1) (placeFor (c .layout) x)
-        (c .layout .serial + 1) (placeFor l y) (l .serial + 1) (i .takeable .sound .sound) o (other-first .removable) apart outside′ outside
+        (c .layout .serial + 1) (placeFor l y) (l .serial + 1) (i .takeable .sound .sound) o (other-first .removable) apart
         (place-kept l x (i .takeable) a (i .done) y (pieceAt l y) second-left)
         (place-kept l y (k .takeable) c (k .done) x (o .piece) first-left))
 

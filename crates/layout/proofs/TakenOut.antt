@@ -2,7 +2,7 @@
 -- crate `removal`, whose proofs say what they do to a table and to lists that stand as "Sound layout" says. Assumes nothing.
 use mathlib.Core.Path.{_≡_, refl, sym, ap, _∙_}
 use mathlib.Core.List.{List, [], _∷_}
-use mathlib.Core.Bool.{false, cond}
+use mathlib.Core.Bool.{cond}
 use Prim.Native.Nat.{ℕ, zero, suc, _+_, _-_, _≤_, _<_}
 use native.Mathlib.Omega.{arith}
 use lib.ListN.{length, getD, length-append}
@@ -14,9 +14,9 @@ use Rattle.tree.specs.Removal.{cleared, remove, subtree}
 use Rattle.tree.specs.Steps.{leaving}
 use Rattle.tree.specs.Enrolment.{removedList}
 use Rattle.tree.proofs.Rows.{at-in}
+use Rattle.tree.proofs.Goes.{subtree-is}
 use Rattle.table.specs.Table.{at}
 use Rattle.table.specs.Steps.{going, freeLastPlace}
-use Rattle.table.proofs.Removal.{subtree-is}
 use Rattle.walks.specs.Along.{entries, numbersAlong, parts, PartsEnd}
 use Rattle.walks.proofs.Meaning.{length-order}
 use Rattle.walks.proofs.Along.{each-subtree, sound-ends, length-numbers, parts-most}

@@ -31,16 +31,16 @@ use Rattle.tree.proofs.Rows.{same?, in-eq, in?, at-in, in-after, in-first, in-s
 use Rattle.tree.proofs.Kept.{Alone, only, not-top, free-alone}
 use Rattle.tree.proofs.RemoveKept.{settled-count}
 use Rattle.tree.proofs.Bookings.{at-unique}
+use Rattle.tree.proofs.Kids.{kids-of, kids-in, kids-under, kids-distinct, kids-self, after-apart, Spot, spot-in}
+use Rattle.tree.proofs.Kids.{put, put-new, in-put, put-kids, put-count}
+use Rattle.tree.proofs.Pigeon.{low, low-most, low-more, low-filled}
+use Rattle.tree.proofs.Goes.{less-put, less-kids, cleared-put}
+use Rattle.tree.proofs.Stays.{less-at, cleared-at}
 use Rattle.table.specs.declared.Node.{Node}
 use Rattle.table.specs.Table.{at, head, Rep, Holds}
 use Rattle.table.specs.Unheld.{isUnheld, lowestFrom}
-use Rattle.table.proofs.Kids.{kids-of, kids-in, kids-under, kids-distinct, after-apart, Spot, spot-in}
-use Rattle.table.proofs.Kids.{put, put-new, in-put, put-kids, put-count}
 use Rattle.table.proofs.Rep.{shows}
 use Rattle.table.proofs.Links.{in-at, holds-held}
-use Rattle.table.proofs.Unlink.{less-put, less-kids}
-use Rattle.table.proofs.Removal.{cleared-put, cleared-at}
-use Rattle.table.proofs.Pigeon.{low, low-most, low-more, low-filled}
 use Rattle.table.proofs.Steps as steps
 
 -- ---- the places of a row

@@ -9,15 +9,15 @@ use native.Mathlib.Omega.{arith}
 use lib.ListN.{getD, length}
 use Rattle.piece.specs.declared.node.Datum.{Datum}
 use Rattle.piece.specs.Row.{nil, grow}
+use Rattle.lists.specs.Lists.{limit}
 use Rattle.tree.specs.Tree.{Tree, At, In, count}
 use Rattle.tree.specs.ListSteps.{spot, cut, strike, push, strikeAll, Names}
 use Rattle.tree.specs.Pieces.{Pieces, piecesOf, Holding}
 use Rattle.tree.proofs.ListSteps.{Absent, spot-case, cut-absent, strike-absent}
 use Rattle.tree.proofs.ListSteps.{Up, down-of, up-of, up-order, Wider, up-in, down-in, push-wider, Fewer, cut-fewer, strike-fewer}
 use Rattle.tree.proofs.Rows.{at-in}
-use Rattle.table.proofs.Pigeon.{low-filled, low-most}
-use Rattle.lists.specs.Lists.{limit}
 use Rattle.register.specs.Inner.{Single}
+use Rattle.tree.proofs.Pigeon.{low-filled, low-most}
 
 -- ---- the same pieces
 

@@ -16,11 +16,10 @@ use Rattle.tree.specs.Pieces.{piecesOf, FreeList, Serials}
 use Rattle.tree.proofs.Rows.{at-in}
 use Rattle.tree.proofs.Bookings.{at-unique}
 use Rattle.tree.proofs.RemoveKept.{remove-distinct}
-use Rattle.tree.proofs.Stays.{at-remove}
+use Rattle.tree.proofs.Stays.{at-remove, cleared-at}
 use Rattle.table.specs.declared.Node.{Node}
 use Rattle.table.specs.Table.{Holds}
 use Rattle.table.specs.Steps.{going}
-use Rattle.table.proofs.Removal.{cleared-at}
 use Rattle.table.proofs.Steps.{clear-sound}
 use Rattle.register.proofs.FreeSteps.{free-cut-all, free-put}
 use Rattle.removal.specs.Remove.{newFree}

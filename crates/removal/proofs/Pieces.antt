@@ -19,14 +19,14 @@ use Rattle.tree.proofs.Rows.{in?, in-eq, at-in, in-after, in-first, in-second}
 use Rattle.tree.proofs.Bookings.{at-unique}
 use Rattle.tree.proofs.RemoveKept.{in-left, remove-distinct}
 use Rattle.tree.proofs.Counts.{in-remove}
-use Rattle.tree.proofs.Stays.{at-remove}
+use Rattle.tree.proofs.Stays.{at-remove, cleared-at}
+use Rattle.tree.proofs.Kids.{kids-under, kids-distinct, after-apart, after-second, put, put-in, in-put, put-new, put-kids}
 use Rattle.table.specs.declared.Node.{Node}
 use Rattle.table.specs.Table.{at, last, Holds}
 use Rattle.table.specs.Steps.{going}
-use Rattle.table.proofs.Kids.{kids-under, kids-distinct, after-apart, after-second, put, put-in, in-put, put-new, put-kids}
 use Rattle.table.proofs.Links.{in-at}
 use Rattle.table.proofs.Rep.{last-cases, last-after, bound, shows}
-use Rattle.table.proofs.Removal.{freeEnd, FreeLeaves, cleared-at}
+use Rattle.table.proofs.Removal.{freeEnd, FreeLeaves}
 use Rattle.register.proofs.Naming.{names-cases, names-first, names-second}
 use Rattle.removal.specs.Inner.{Goes}
 use Rattle.removal.specs.Remove.{newFree}

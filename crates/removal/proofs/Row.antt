@@ -13,12 +13,13 @@ use Rattle.tree.specs.Sound.{Sound}
 use Rattle.tree.specs.Removal.{freed, board, lastFree, withoutLast, settled, remove, cleared}
 use Rattle.tree.specs.Apart.{Removable}
 use Rattle.tree.specs.Steps.{Kids, leaving}
+use Rattle.tree.proofs.Kids.{put}
+use Rattle.tree.proofs.Goes.{cleared-put, remove-put}
 use Rattle.table.specs.declared.Node.{Node}
 use Rattle.table.specs.Table.{at, Holds}
 use Rattle.table.specs.Steps.{going, freeLastDatum}
-use Rattle.table.proofs.Kids.{put}
 use Rattle.table.proofs.Links.{datum-is}
-use Rattle.table.proofs.Removal.{freeEnd, FreeLeaves, end-is, cleared-put, remove-put}
+use Rattle.table.proofs.Removal.{freeEnd, FreeLeaves, end-is}
 use Rattle.table.proofs.Steps.{parent-is, spot, row, leaves, going-row}
 use Rattle.removal.specs.Remove.{newFree}
 

@@ -12,9 +12,9 @@ use Rattle.tree.specs.Sound.{Sound}
 use Rattle.tree.specs.Removal.{remove, cleared}
 use Rattle.tree.specs.Apart.{Removable}
 use Rattle.tree.specs.Pieces.{Serials, maxSerial}
+use Rattle.tree.proofs.Stays.{cleared-at}
 use Rattle.table.specs.declared.Node.{Node}
 use Rattle.table.specs.Table.{Holds}
-use Rattle.table.proofs.Removal.{cleared-at}
 use Rattle.removal.specs.Remove.{newFree}
 use Rattle.removal.proofs.Pieces.{remove-pieces}
 

@@ -8,6 +8,7 @@ use lib.ListN.{length}
 use Rattle.piece.specs.declared.size.Size.{Size}
 use Rattle.piece.specs.declared.node.Datum.{Datum}
 use Rattle.piece.specs.Sides.{area}
+use Rattle.lists.specs.Lists.{limit}
 use Rattle.tree.specs.Tree.{Tree, In}
 use Rattle.tree.specs.Removal.{cleared, remove}
 use Rattle.tree.specs.Apart.{Removable}
@@ -20,14 +21,13 @@ use Rattle.tree.specs.Enrolment.{removedList}
 use Rattle.tree.proofs.Rows.{at-in}
 use Rattle.tree.proofs.Read.{Small}
 use Rattle.tree.proofs.Laws.RemovalSound.{removal-sound}
+use Rattle.tree.proofs.Stays.{cleared-at}
 use Rattle.table.specs.declared.Node.{Node}
 use Rattle.table.specs.Table.{at, Holds, append}
 use Rattle.table.specs.Steps.{going, unlinkAll}
 use Rattle.table.specs.Unheld.{lowestFrom}
 use Rattle.table.proofs.Links.{datum-is}
-use Rattle.table.proofs.Removal.{cleared-at}
 use Rattle.table.proofs.Steps.{clear-sound, remove-sound}
-use Rattle.lists.specs.Lists.{limit}
 use Rattle.register.specs.declared.LayoutNodes.{LayoutNodes}
 use Rattle.register.specs.Listings.{areaIn, entriesOf}
 use Rattle.register.specs.Standing.{Stands}

@@ -18,10 +18,10 @@ use Rattle.tree.specs.Figures as figures
 use Rattle.tree.specs.Removal.{freed, board, lastFree, withoutLast, settled, remove, cleared, removed, subtree}
 use Rattle.tree.specs.Apart.{Removable}
 use Rattle.tree.specs.Steps.{Kids, leaving}
+use Rattle.tree.proofs.Kids.{put, put-here, put-left, put-right, kids-in}
 use Rattle.table.specs.declared.Node.{Node}
 use Rattle.table.specs.Table.{at, last, Holds}
 use Rattle.table.specs.Steps.{freeLast, freeLastPlace, going}
-use Rattle.table.proofs.Kids.{put, put-here, put-left, put-right, kids-in}
 use Rattle.table.proofs.Rep.{shows, row-from}
 use Rattle.table.proofs.Removal.{freeEnd, FreeLeaves}
 use Rattle.walks.specs.Order.{childrenFirst}

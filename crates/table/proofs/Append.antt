@@ -1,71 +1,21 @@
 -- The append of a leaf to the table is the append of a leaf to the tree that the table holds.
-use mathlib.Core.Path.{_≡_, refl, sym, ap, _∙_}
+use mathlib.Core.Path.{_≡_, sym, _∙_}
 use mathlib.Core.List.{List}
-use mathlib.Core.Bool.{Bool, true, false, cond}
 use mathlib.Core.Logic.{_⊎_, inl, inr, ⊎-elim}
 use Prim.Native.Nat.{ℕ, _<_}
 use native.Mathlib.Omega.{arith}
-use lib.Dec.{eqb}
-use borrow.Author.Tests.{le-leb, lt-leb, eq-eqb, ne-eqb}
+use borrow.Author.Tests.{le-leb, lt-leb}
 use Rattle.piece.specs.declared.node.Datum.{Datum}
 use Rattle.piece.specs.Row.{nil, grow}
-use Rattle.tree.specs.Tree.{Tree, In, Distinct, after}
-use Rattle.tree.specs.Steps.{hang, app, Kids}
-use Rattle.tree.proofs.Rows.{in-eq, in-after, in-first, in-second, in?, distinct-after}
+use Rattle.tree.specs.Tree.{Tree, In, after}
+use Rattle.tree.specs.Steps.{app, Kids}
+use Rattle.tree.proofs.Rows.{in-eq, in-after, distinct-after}
+use Rattle.tree.proofs.Kids.{kids-of, kids-in, kids-under, kids-distinct, kids-self, put, put-distinct}
+use Rattle.tree.proofs.Hangs.{hang-put, in-hang, in-hung}
 use Rattle.table.specs.declared.Node.{Node}
 use Rattle.table.specs.Table.{mk, at, head, last, Rep, Holds, append}
 use Rattle.table.proofs.Touch.{Grown, grown}
-use Rattle.table.proofs.Kids.{kids-of, kids-in, kids-under, kids-distinct, kids-self, put, put-here, put-left, put-right, put-in, in-put}
-use Rattle.table.proofs.Kids.{put-new, put-distinct, pass-absent, pass-after}
 use Rattle.table.proofs.Rep.{Shows, shows, bound, limit-out, last-cases, last-after, rep-part, part-rep, joined, renext, rep-put}
-
-module _ (q : ℕ) (b : Tree) where
-  hang-pass : (p : ℕ) (d : Datum) (l r : Tree) → (p ≡ q → ⊥) → hang q b (grow p d l r) ≡ grow p d (hang q b l) (hang q b r)
-  hang-pass p d l r n = rw (ne-eqb p q n) refl
-
-  pub hang-absent : (w : Tree) → (In q w → ⊥) → hang q b w ≡ w
-  hang-absent w n = pass-absent q (hang q b) refl hang-pass w n
-
-  pub hang-after : (a c : Tree) → (In q a → ⊥) → hang q b (after a c) ≡ after a (hang q b c)
-  hang-after a c n = pass-after q (hang q b) refl hang-pass a c n
-
-  -- what is hung under q is put behind its children
-  pub hang-put : (k w : Tree) → Distinct w → Kids q k w → hang q b w ≡ put q (after k b) w
-  hang-put k nil dis h = refl
-  hang-put k (grow p d l r) dis (inl e) = rw (put-here q (after k b) p d l r (e .0), eq-eqb p q (sym (e .0)), e .1) refl
-  hang-put k (grow p d l r) dis (inr (inl h)) =
-      let j : In q l = kids-in q k l h in
-      rw (put-left q (after k b) p d l r dis j, ne-eqb p q (λ z. dis .0 (in-eq l (sym z) j)), hang-absent r (dis .2 q j))
-      (ap (λ (z : Tree). grow p d z r) (hang-put k l (dis .3) h))
-  hang-put k (grow p d l r) dis (inr (inr h)) =
-      let j : In q r = kids-in q k r h in
-      rw (put-right q (after k b) p d l r dis j, ne-eqb p q (λ z. dis .1 (in-eq r (sym z) j)), hang-absent l (λ y. dis .2 q y j))
-      (ap (λ (z : Tree). grow p d l z) (hang-put k r (dis .4) h))
-
-  pub hang-of-put : (k w : Tree) → hang q b (put q k w) ≡ put q (after k b) w
-  hang-of-put k nil = refl
-  hang-of-put k (grow p d l r) = go (eqb p q) refl (hang-of-put k l) (hang-of-put k r)
-    where
-      go : (c : Bool) → eqb p q ≡ c → hang q b (put q k l) ≡ put q (after k b) l → hang q b (put q k r) ≡ put q (after k b) r
-          → hang q b (cond c (grow p d k r) (grow p d (put q k l) (put q k r)))
-          ≡ cond c (grow p d (after k b) r) (grow p d (put q (after k b) l) (put q (after k b) r))
-      go true e hl hr = rw e refl
-      go false e hl hr = rw (e, hl, hr) refl
-
-  module _ (k w : Tree) (dis : Distinct w) (kids : Kids q k w) (i : ℕ) where
-    -- what is in the tree then
-    pub hang-in : In i (hang q b w) → In i b ⊎ In i w
-    hang-in h =
-        ⊎-elim (λ y. ⊎-elim (λ z. inr (kids-under q k i w kids z)) inl (in-after i k b y)) (λ y. inr (y .0))
-        (put-in q (after k b) k i w dis kids (rw (hang-put k w dis kids) at h))
-
-    pub in-hang : In i w → In i (hang q b w)
-    in-hang h =
-        rw (hang-put k w dis kids)
-        (⊎-elim (λ y. put-new q (after k b) k i w dis kids (in-first i k b y)) (λ y. in-put q (after k b) k i w dis kids h y) (in? i k))
-
-    pub in-hung : In i b → In i (hang q b w)
-    in-hung h = rw (hang-put k w dis kids) (put-new q (after k b) k i w dis kids (in-second i k b h))
 
 module _ (limit : ℕ) (t : List Node) (q a : ℕ) (d : Datum) where
   -- the parent's entry

@@ -1,62 +1,23 @@
 -- A booking on the table: the free piece is unlinked, and the nodes of the block are appended in the order of their creation. The table then
 -- holds the tree in which the block stands in the free piece's place.
-use mathlib.Core.Path.{_≡_, refl, sym, ap, _∙_}
+use mathlib.Core.Path.{_≡_, refl, ap, _∙_}
 use mathlib.Core.List.{List}
-use mathlib.Core.Bool.{Bool, true, false, cond}
 use mathlib.Core.Logic.{_⊎_, inl, inr, ⊎-elim}
 use Prim.Native.Nat.{ℕ, _<_}
-use lib.Dec.{eqb}
-use borrow.Author.Tests.{eq-eqb, ne-eqb}
 use Rattle.piece.specs.declared.node.Datum.{Datum}
 use Rattle.piece.specs.Row.{nil, grow}
 use Rattle.tree.specs.Tree.{Tree, In, Distinct, after}
 use Rattle.tree.specs.Booking.{Booking, block, book}
 use Rattle.tree.specs.Steps.{hang, app, less, Kids}
-use Rattle.tree.proofs.Rows.{same?, in-eq, after-nil, after-assoc}
+use Rattle.tree.proofs.Rows.{in-eq, after-nil}
+use Rattle.tree.proofs.Kids.{kids-of, kids-in, put}
+use Rattle.tree.proofs.Hangs.{hang-of-put, hang-in, in-hang, in-hung, hang-nil, hang-row}
+use Rattle.tree.proofs.Goes.{less-put, less-kids, book-put}
 use Rattle.table.specs.declared.Node.{Node}
 use Rattle.table.specs.Table.{Holds, append, unlink}
 use Rattle.table.specs.Steps.{plant}
-use Rattle.table.proofs.Kids.{kids-of, kids-in, put, pass-piece}
-use Rattle.table.proofs.Append.{hang-absent, hang-after, hang-of-put, hang-in, in-hang, in-hung, append-holds}
-use Rattle.table.proofs.Unlink.{less-put, less-kids, unlink-holds}
-
--- nothing is hung under q
-hang-nil : (q : ℕ) (w : Tree) → hang q nil w ≡ w
-hang-nil q nil = refl
-hang-nil q (grow p d k r) = go (eqb p q) (hang-nil q k) (hang-nil q r)
-  where
-    go : (b : Bool) → hang q nil k ≡ k → hang q nil r ≡ r
-        → cond b (grow p d (after k nil) r) (grow p d (hang q nil k) (hang q nil r)) ≡ grow p d k r
-    go true hk hr = rw (after-nil k) refl
-    go false hk hr = rw (hk, hr) refl
-
--- a row is hung under q by its first piece as a leaf, the children of that under it, and the rest of the row
-hang-row : (q p : ℕ) (d : Datum) (k r w : Tree) → (In p w → ⊥) → hang q r (hang p k (app q p d w)) ≡ hang q (grow p d k r) w
-hang-row q p d k r nil n = refl
-hang-row q p d k r (grow y e l s) n =
-    go (same? y q) (hang-row q p d k r l (λ h. n (inr (inl h)))) (hang-row q p d k r s (λ h. n (inr (inr h))))
-  where
-    yp : y ≡ p → ⊥
-    yp z = n (inl (sym z))
-
-    leaf : Tree
-    leaf = grow p d nil nil
-
-    go : (y ≡ q) ⊎ (y ≡ q → ⊥) → hang q r (hang p k (app q p d l)) ≡ hang q (grow p d k r) l
-        → hang q r (hang p k (app q p d s)) ≡ hang q (grow p d k r) s
-        → hang q r (hang p k (app q p d (grow y e l s))) ≡ hang q (grow p d k r) (grow y e l s)
-    go (inl z) hl hs =
-        rw (
-          eq-eqb y q z,
-          ne-eqb y p yp,
-          hang-after p k l leaf (λ h. n (inr (inl h))),
-          hang-absent p k s (λ h. n (inr (inr h))),
-          eq-eqb p p refl,
-          eq-eqb y q z,
-          after-assoc l (grow p d k nil) r,
-        )
-        refl
-    go (inr m) hl hs = rw (ne-eqb y q m, ne-eqb y p yp, ne-eqb y q m, hl, hs) refl
+use Rattle.table.proofs.Append.{append-holds}
+use Rattle.table.proofs.Unlink.{unlink-holds}
 
 -- the first piece p of a row is appended under q, then its children k under it, then the rest r of the row under q
 module _ (limit : ℕ) (t : List Node) (q p : ℕ) (d : Datum) (k r w : Tree) (h : Holds limit t w) (i : In q w) (dis : Distinct (grow p d k r))
@@ -110,12 +71,6 @@ module _ (limit : ℕ) where
       in
       rw (hang-row q p d k r w (new p (inl refl))) at h₃
 
--- a booking puts the block in the place of x among its parent's children
-pub book-put : (x : ℕ) (b : Booking) (q : ℕ) (a : Tree) (d : Datum) (l r w : Tree) → Distinct w → Kids q (after a (grow x d l r)) w
-    → book x b w ≡ put q (after a (after (block b d) r)) w
-book-put x b q a d l r w dis kids =
-    rw (pass-piece x (book x b) refl (λ p e k s n. rw (ne-eqb p x n) refl) q a d l r w dis kids, eq-eqb x x refl) refl
-
 module _ (limit : ℕ) (t : List Node) (q x : ℕ) (a : Tree) (d : Datum) (w : Tree) (b : Booking) where
   -- x is a leaf and the last child of q, and the places of the block are different ones that are not held when x has gone
   pub book-holds : Holds limit t w → Kids q (after a (grow x d nil nil)) w → Distinct (block b d) → ((i : ℕ) → In i (block b d) → i < limit)
@@ -125,6 +80,6 @@ module _ (limit : ℕ) (t : List Node) (q x : ℕ) (a : Tree) (d : Datum) (w : T
       let i : In q (less x w) = kids-in q (after a nil) (less x w) (less-kids q x a d nil nil w (h .distinct) kids) in
       let g = plant-holds limit (block b d) (unlink limit t x) q (less x w) (unlink-holds limit t q x a d nil w h kids) i dis low new in
       let e : hang q (block b d) (less x w) ≡ book x b w =
-      rw (is, hang-of-put q (block b d) a w, book-put x b q a d nil nil w (h .distinct) kids, after-nil (block b d)) refl
+      rw (is, hang-of-put q (block b d) a w, book-put q x a d nil nil w (h .distinct) kids b, after-nil (block b d)) refl
       in
       rw e at g

@@ -13,11 +13,11 @@ use Rattle.piece.specs.Row.{nil, grow}
 use Rattle.tree.specs.Tree.{Tree, In, Distinct}
 use Rattle.tree.specs.Steps.{Deep}
 use Rattle.tree.proofs.Rows.{same?}
+use Rattle.tree.proofs.Kids.{kids-of, kids-under}
 use Rattle.table.specs.declared.Node.{Node}
 use Rattle.table.specs.Table.{mk, at, Held, head, last, Rep, Holds}
 use Rattle.table.specs.Build.{chain, kids, treeOf}
 use Rattle.table.proofs.Linkage.{Linked, Among, Local, Linkage}
-use Rattle.table.proofs.Kids.{kids-of, kids-under}
 use Rattle.table.proofs.Rep.{shows, limit-out}
 
 module _ (limit : ℕ) (t : List Node) where

@@ -1,5 +1,4 @@
 pub mod Touch
-pub mod Kids
 pub mod Rep
 pub mod Everywhere
 pub mod Append
@@ -15,5 +14,4 @@ pub mod Links
 pub mod Booking
 pub mod Removal
 pub mod Steps
-pub mod Pigeon
 pub mod Unheld

@@ -10,10 +10,10 @@ use Rattle.piece.specs.Row.{nil, grow}
 use Rattle.tree.specs.Tree.{Tree, In, At, after, count}
 use Rattle.tree.specs.Steps.{Rooted, Kids, Deep, Marked}
 use Rattle.tree.proofs.Rows.{in?, count-after}
+use Rattle.tree.proofs.Kids.{kids-of, kids-in, kids-under, kids-count, spot-in}
 use Rattle.table.specs.declared.Node.{Node}
 use Rattle.table.specs.Table.{mk, zeroNode, at, Held, head, last, Rep, Holds}
 use Rattle.table.proofs.Linkage.{Linked, Among, Local, Linkage}
-use Rattle.table.proofs.Kids.{kids-of, kids-in, kids-under, kids-count, spot-in}
 use Rattle.table.proofs.Rep.{Shows, shows, piece-at}
 use Rattle.table.proofs.Unique.{holds-room}
 

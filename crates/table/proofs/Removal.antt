@@ -3,26 +3,25 @@
 -- piece was removed.
 use mathlib.Core.Path.{_≡_, refl, sym, _∙_}
 use mathlib.Core.List.{List, [], _∷_, _++_}
-use mathlib.Core.Bool.{Bool, true, false, cond, _&&_}
+use mathlib.Core.Bool.{Bool, true, false, cond, and-false, _&&_}
 use mathlib.Core.Option.{none, some}
-use mathlib.Core.Logic.{inl, inr}
 use Prim.Native.Nat.{ℕ, _<_}
-use lib.Dec.{eqb}
 use borrow.Author.Tests.{eq-eqb, ne-eqb}
 use Rattle.piece.specs.declared.node.Datum.{Datum}
 use Rattle.piece.specs.Row.{nil, grow}
-use Rattle.tree.specs.Tree.{Tree, In, At, Distinct, isFree, isNil, after}
-use Rattle.tree.specs.Removal.{freed, board, lastFree, withoutLast, settled, remove, cleared, subtree}
+use Rattle.tree.specs.Tree.{Tree, In, Distinct, isFree, isNil, after}
+use Rattle.tree.specs.Removal.{freed, board, lastFree, withoutLast, settled, remove, cleared}
 use Rattle.tree.specs.Steps.{app, less, Kids, leaving}
-use Rattle.tree.proofs.Rows.{in-eq, in-second, after-nil, after-assoc}
+use Rattle.tree.proofs.Rows.{after-nil, after-assoc}
+use Rattle.tree.proofs.Kids.{kids-in, kids-kids, kids-row, put, put-kids, put-put, put-same, pass-piece}
+use Rattle.tree.proofs.Hangs.{hang-of-put}
+use Rattle.tree.proofs.Goes.{less-put, less-kids, cleared-put, remove-put}
 use Rattle.table.specs.declared.Node.{Node}
 use Rattle.table.specs.Table.{at, last, Rep, Holds, append, unlink}
 use Rattle.table.specs.Steps.{freeLastPlace, freeLastDatum, unlinkAll}
-use Rattle.table.proofs.Kids.{kids-in, kids-under, kids-kids, kids-row, kids-distinct, put, put-kids, put-put, put-same, pass-piece}
-use Rattle.table.proofs.Kids.{after-apart}
 use Rattle.table.proofs.Rep.{shows, last-after, row-from}
-use Rattle.table.proofs.Append.{hang-of-put, append-holds}
-use Rattle.table.proofs.Unlink.{less-put, less-kids, unlink-holds}
+use Rattle.table.proofs.Append.{append-holds}
+use Rattle.table.proofs.Unlink.{unlink-holds}
 
 -- the place of the free piece at the end of a row, if there is one
 abbrev pub freeEnd : Tree → List ℕ
@@ -43,10 +42,6 @@ bared : (q c : ℕ) (a : Tree) (e : Datum) (k b w : Tree) → Distinct w → Kid
     → put c nil w ≡ put q (after a (grow c e nil b)) w
 bared q c a e k b w dis kids =
     rw (pass-piece c (put c nil) refl (λ p d m r n. rw (ne-eqb p c n) refl) q a e k b w dis kids, eq-eqb c c refl) refl
-
-and-false : (b : Bool) → (b && false) ≡ false
-and-false true = refl
-and-false false = refl
 
 module _ (limit : ℕ) where
   -- the pieces k among the children of q go, with all below them
@@ -106,68 +101,6 @@ module _ (limit : ℕ) (t : List Node) (q : ℕ) where
   unfolding Ends
   ends pv x d l nil rep e = rw (rep .1, e) (refl, refl)
   ends pv x d l (grow p₁ e₁ k₁ r₁) rep e = ends-some x p₁ e₁ k₁ r₁ (rep .3)
-
--- the piece x with all below it
-module _ (x : ℕ) where
-  subtree-absent : (w : Tree) → (In x w → ⊥) → subtree x w ≡ nil
-  subtree-absent nil n = refl
-  subtree-absent (grow p e k r) n =
-      rw (ne-eqb p x (λ z. n (inl (sym z))), subtree-absent k (λ h. n (inr (inl h))), subtree-absent r (λ h. n (inr (inr h)))) refl
-
-  subtree-row : (a : Tree) (d : Datum) (l b : Tree) → (In x a → ⊥) → subtree x (after a (grow x d l b)) ≡ grow x d l nil
-  subtree-row nil d l b n = rw (eq-eqb x x refl) refl
-  subtree-row (grow p e k r) d l b n =
-      rw (ne-eqb p x (λ z. n (inl (sym z))), subtree-absent k (λ h. n (inr (inl h)))) (subtree-row r d l b (λ h. n (inr (inr h))))
-
-  subtree-kids : (q : ℕ) (m w : Tree) → Distinct w → Kids q m w → In x m → subtree x w ≡ subtree x m
-  subtree-kids q m nil dis h i = absurd h
-  subtree-kids q m (grow p e k r) dis (inl z) i =
-      let j : In x k = rw (z .1) at i in
-      rw (ne-eqb p x (λ y. dis .0 (in-eq k (sym y) j)), subtree-absent r (dis .2 x j), after-nil (subtree x k), z .1) refl
-  subtree-kids q m (grow p e k r) dis (inr (inl h)) i =
-      let j : In x k = kids-under q m x k h i in
-      rw (ne-eqb p x (λ y. dis .0 (in-eq k (sym y) j)), subtree-absent r (dis .2 x j), after-nil (subtree x k)) (subtree-kids q m k (dis .3) h i)
-  subtree-kids q m (grow p e k r) dis (inr (inr h)) i =
-      let j : In x r = kids-under q m x r h i in
-      rw (ne-eqb p x (λ y. dis .1 (in-eq r (sym y) j)), subtree-absent k (λ y. dis .2 x y j)) (subtree-kids q m r (dis .4) h i)
-
--- what is at a place when all that goes has gone was there
-module _ (i : ℕ) (e : Datum) where
-  without-at : (r : Tree) → At i e (withoutLast r) → At i e r
-  without-at nil h = h
-  without-at (grow p d k r) h = go (isFree (d .kind) && isNil r) h (without-at r)
-    where
-      go : (c : Bool) → At i e (cond c nil (grow p d k (withoutLast r))) → (At i e (withoutLast r) → At i e r) → At i e (grow p d k r)
-      go true h hr = absurd h
-      go false (inl z) hr = inl z
-      go false (inr (inl z)) hr = inr (inl z)
-      go false (inr (inr z)) hr = inr (inr (hr z))
-
-  pub cleared-at : (x : ℕ) (w : Tree) → At i e (cleared x w) → At i e w
-  cleared-at x nil h = h
-  cleared-at x (grow p d k r) h = go (eqb p x) h (cleared-at x k) (cleared-at x r)
-    where
-      go : (c : Bool) → At i e (cond c (withoutLast r) (grow p d (cleared x k) (cleared x r))) → (At i e (cleared x k) → At i e k)
-          → (At i e (cleared x r) → At i e r) → At i e (grow p d k r)
-      go true h hk hr = inr (inr (without-at r h))
-      go false (inl z) hk hr = inl z
-      go false (inr (inl z)) hk hr = inr (inl (hk z))
-      go false (inr (inr z)) hk hr = inr (inr (hr z))
-
-module _ (q x : ℕ) (a : Tree) (d : Datum) (l b w : Tree) (dis : Distinct w) (kids : Kids q (after a (grow x d l b)) w) where
-  pub subtree-is : subtree x w ≡ grow x d l nil
-  subtree-is =
-      let m = after a (grow x d l b) in
-      subtree-kids x q m w dis kids (in-second x a (grow x d l b) (inl refl))
-      ∙ subtree-row x a d l b (λ i. after-apart a (grow x d l b) (kids-distinct q m w dis kids) x i (inl refl))
-
-  -- what a removal leaves of the row of x, and what it puts behind that
-  pub cleared-put : cleared x w ≡ put q (after a (withoutLast b)) w
-  cleared-put = rw (pass-piece x (cleared x) refl (λ p e k r n. rw (ne-eqb p x n) refl) q a d l b w dis kids, eq-eqb x x refl) refl
-
-  pub remove-put : (n s : ℕ) → remove x n s w ≡ put q (after a (settled n s d b)) w
-  remove-put n s =
-      rw (pass-piece x (remove x n s) refl (λ p e k r m. rw (ne-eqb p x m) refl) q a d l b w dis kids, eq-eqb x x refl) refl
 
 module _ (limit : ℕ) (t : List Node) (q x : ℕ) (a : Tree) (d : Datum) (l b w : Tree) (h : Holds limit t w)
     (kids : Kids q (after a (grow x d l b)) w) where

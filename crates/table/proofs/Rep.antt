@@ -12,9 +12,9 @@ use Rattle.piece.specs.Row.{nil, grow}
 use Rattle.tree.specs.Tree.{Tree, In, Distinct, after}
 use Rattle.tree.specs.Steps.{Kids}
 use Rattle.tree.proofs.Rows.{in-eq}
+use Rattle.tree.proofs.Kids.{kids-in, kids-under, put, put-here, put-left, put-right}
 use Rattle.table.specs.declared.Node.{Node}
 use Rattle.table.specs.Table.{mk, withNext, withPrev, at, head, last, Rep}
-use Rattle.table.proofs.Kids.{kids-in, kids-under, put, put-here, put-left, put-right}
 
 -- the last of a row is what comes before it, or in it; the head is what comes after it, or in it
 pub last-cases : (pv : ℕ) (k : Tree) → (last pv k ≡ pv) ⊎ In (last pv k) k

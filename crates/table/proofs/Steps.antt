@@ -18,16 +18,17 @@ use Rattle.tree.specs.Steps.{less, Rooted, Kids, leaving}
 use Rattle.tree.proofs.Rows.{at-in}
 use Rattle.tree.proofs.Kept.{Where, This, Alone, only, not-top, free-kind, free-alone}
 use Rattle.tree.proofs.Blocks.{block-in, block-distinct}
+use Rattle.tree.proofs.Kids.{Spot, spot-in}
+use Rattle.tree.proofs.Goes.{less-in, subtree-is}
 use Rattle.table.specs.declared.Node.{Node}
 use Rattle.table.specs.Table.{at, Holds, append, unlink}
 use Rattle.table.specs.Build.{treeOf}
 use Rattle.table.specs.Steps.{plant, freeLastDatum, going, unlinkAll}
-use Rattle.table.proofs.Kids.{Spot, spot-in}
 use Rattle.table.proofs.Rep.{shows, piece-at}
-use Rattle.table.proofs.Unlink.{less-in, unlink-holds}
+use Rattle.table.proofs.Unlink.{unlink-holds}
 use Rattle.table.proofs.Unique.{tree-is}
 use Rattle.table.proofs.Booking.{book-holds}
-use Rattle.table.proofs.Removal.{freeEnd, FreeLeaves, subtree-is, end-is, clear-holds, remove-holds}
+use Rattle.table.proofs.Removal.{freeEnd, FreeLeaves, end-is, clear-holds, remove-holds}
 
 -- What a sound tree is to the table.
 module _ (settings : Settings) where
@@ -113,7 +114,7 @@ module _ (limit : ℕ) (settings : Settings) (t : List Node) (w : Tree) (sound :
       unheld : (j : ℕ) → In j (block b d) → In j (less x w) → ⊥
       unheld j y v =
           let g = block-in b d j y in
-          let o = less-in q x a d nil nil w (h .distinct) last-leaf j v in
+          let o = less-in x w (h .distinct) j v in
           o .1 (g .2 ∙ new .unheld (g .0) (g .1) (rw (g .2) at (o .0)))
 
       apart : Distinct (block b d)

@@ -11,10 +11,10 @@ use Rattle.lists.specs.Search.{firstFrom}
 use Rattle.lists.proofs.Scan.{first-from, first-most, first-before}
 use Rattle.tree.specs.Tree.{Tree, In, count}
 use Rattle.tree.proofs.Rows.{in?}
+use Rattle.tree.proofs.Pigeon.{low-most, low-filled}
 use Rattle.table.specs.declared.Node.{Node}
 use Rattle.table.specs.Table.{at, Held, Holds}
 use Rattle.table.specs.Unheld.{isUnheld, lowestFrom}
-use Rattle.table.proofs.Pigeon.{low-most, low-filled}
 
 module _ (limit : ℕ) (t : List Node) (n : ℕ) where
   -- how the search goes: it ends past the places and at an unheld one, and goes on from a held one

@@ -10,10 +10,10 @@ use Rattle.piece.specs.Row.{nil, grow}
 use Rattle.tree.specs.Tree.{Tree, In, count}
 use Rattle.tree.specs.Steps.{Rooted, Kids}
 use Rattle.tree.proofs.Rows.{in?}
+use Rattle.tree.proofs.Kids.{kids-count}
 use Rattle.table.specs.declared.Node.{Node}
 use Rattle.table.specs.Table.{zeroNode, at, head, Rep, Holds}
 use Rattle.table.specs.Build.{chain, kids, treeOf}
-use Rattle.table.proofs.Kids.{kids-count}
 use Rattle.table.proofs.Rep.{shows, bound}
 use Rattle.table.proofs.Room.{room}
 use Rattle.table.proofs.Build.{chain-none, chain-some}

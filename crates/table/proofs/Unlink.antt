@@ -1,63 +1,25 @@
 -- The unlinking of a leaf is the loss of a leaf in the tree that the table holds.
 use mathlib.Core.Path.{_≡_, refl, sym, ap, _∙_}
 use mathlib.Core.List.{List}
-use mathlib.Core.Bool.{Bool, true, false, cond}
+use mathlib.Core.Bool.{cond}
 use mathlib.Core.Logic.{_⊎_, inl, inr, ⊎-elim}
 use Prim.Native.Nat.{ℕ, _<_}
 use native.Mathlib.Omega.{arith}
-use lib.Dec.{eqb, leb}
-use borrow.Author.Tests.{le-leb, lt-leb, eq-eqb, ne-eqb}
+use lib.Dec.{leb}
+use borrow.Author.Tests.{le-leb, lt-leb}
 use Rattle.piece.specs.declared.node.Datum.{Datum}
 use Rattle.piece.specs.Row.{nil, grow}
-use Rattle.tree.specs.Tree.{Tree, In, At, Distinct, after}
+use Rattle.tree.specs.Tree.{Tree, In, Distinct, after}
 use Rattle.tree.specs.Steps.{less, Kids}
 use Rattle.tree.proofs.Rows.{same?, in-eq, in?, in-after, in-first, in-second, distinct-after}
+use Rattle.tree.proofs.Kids.{kids-in, kids-under, kids-distinct, kids-self, put, put-new, in-put, put-distinct}
+use Rattle.tree.proofs.Kids.{after-apart, after-first, after-second, spot-in, spot-kids}
+use Rattle.tree.proofs.Goes.{less-put}
 use Rattle.table.specs.declared.Node.{Node}
 use Rattle.table.specs.Table.{mk, zeroNode, at, head, last, Rep, Holds, unlink}
 use Rattle.table.proofs.Touch.{Cut, cut}
-use Rattle.table.proofs.Kids.{kids-in, kids-under, kids-distinct, kids-self, put, put-kids, put-new, put-in, in-put, put-distinct}
-use Rattle.table.proofs.Kids.{pass-piece, after-apart, after-first, after-second}
 use Rattle.table.proofs.Rep.{Shows, shows, Part, bound, limit-out, last-cases, head-cases, last-after, rep-part, part-rep, split, joined}
 use Rattle.table.proofs.Rep.{renext, reprev, rep-put}
-
--- the piece x goes: its parent's children are the others
-pub less-put : (q x : ℕ) (a : Tree) (d : Datum) (l b w : Tree) → Distinct w → Kids q (after a (grow x d l b)) w → less x w ≡ put q (after a b) w
-less-put q x a d l b w dis kids =
-    rw (pass-piece x (less x) refl (λ p e k r n. rw (ne-eqb p x n) refl) q a d l b w dis kids, eq-eqb x x refl) refl
-
-pub less-kids : (q x : ℕ) (a : Tree) (d : Datum) (l b w : Tree) → Distinct w → Kids q (after a (grow x d l b)) w → Kids q (after a b) (less x w)
-less-kids q x a d l b w dis kids = rw (less-put q x a d l b w dis kids) (put-kids q (after a b) (after a (grow x d l b)) w dis kids)
-
--- what is in the tree then
-pub less-in : (q x : ℕ) (a : Tree) (d : Datum) (l b w : Tree) → Distinct w → Kids q (after a (grow x d l b)) w → (i : ℕ) → In i (less x w)
-    → In i w × (i ≡ x → ⊥)
-less-in q x a d l b w dis kids i h =
-    ⊎-elim
-    (λ y. ⊎-elim (λ z. (under (in-first i a c z), λ e. after-apart a c row i z (inl e)))
-    (λ z. (under (in-second i a c (inr (inr z))), λ e. after-second a c row .1 (in-eq b e z))) (in-after i a b y))
-    (λ y. (y .0, λ e. y .1 (in-second i a c (inl e))))
-    (put-in q (after a b) (after a c) i w dis kids (rw (less-put q x a d l b w dis kids) at h))
-  where
-    c : Tree
-    c = grow x d l b
-
-    row : Distinct (after a c)
-    row = kids-distinct q (after a c) w dis kids
-
-    under : In i (after a c) → In i w
-    under y = kids-under q (after a c) i w kids y
-
--- what is at a place then was there
-pub less-at : (i : ℕ) (e : Datum) (x : ℕ) (w : Tree) → At i e (less x w) → At i e w
-less-at i e x nil h = h
-less-at i e x (grow p d k r) h = go (eqb p x) h (less-at i e x k) (less-at i e x r)
-  where
-    go : (c : Bool) → At i e (cond c r (grow p d (less x k) (less x r))) → (At i e (less x k) → At i e k) → (At i e (less x r) → At i e r)
-        → At i e (grow p d k r)
-    go true h hk hr = inr (inr h)
-    go false (inl z) hk hr = inl z
-    go false (inr (inl z)) hk hr = inr (inl (hk z))
-    go false (inr (inr z)) hk hr = inr (inr (hr z))
 
 -- what the parent's links lead to when the piece x between two parts of a row has gone
 module _ (limit x : ℕ) (d : Datum) where

@@ -12,17 +12,29 @@ use Rattle.tree.specs.Tree.{Tree, In, after, change}
 use Rattle.tree.specs.Snapshot.{shape}
 use Rattle.tree.proofs.Rows.{same?}
 
--- a change at a place that a row does not have, and past such a row
+-- A step that looks for the place x leaves every other piece: a row that does not have x, and what is before x.
+module _ (x : ℕ) (g : Tree → Tree) (end : g nil ≡ nil)
+    (pass : (p : ℕ) (d : Datum) (k r : Tree) → (p ≡ x → ⊥) → g (grow p d k r) ≡ grow p d (g k) (g r)) where
+  pub pass-absent : (w : Tree) → (In x w → ⊥) → g w ≡ w
+  pass-absent nil n = end
+  pass-absent (grow p d k r) n =
+      rw (pass p d k r (λ e. n (inl (sym e))), pass-absent k (λ h. n (inr (inl h))), pass-absent r (λ h. n (inr (inr h)))) refl
+
+  pub pass-after : (a b : Tree) → (In x a → ⊥) → g (after a b) ≡ after a (g b)
+  pass-after nil b n = refl
+  pass-after (grow p d k r) b n =
+      rw (pass p d k (after r b) (λ e. n (inl (sym e))), pass-absent k (λ h. n (inr (inl h))), pass-after r b (λ h. n (inr (inr h)))) refl
+
+-- a change is one
 module _ (x : ℕ) (f : Datum → Tree → Tree) where
+  pub change-pass : (p : ℕ) (d : Datum) (k r : Tree) → (p ≡ x → ⊥) → change x f (grow p d k r) ≡ grow p d (change x f k) (change x f r)
+  change-pass p d k r n = rw (ne-eqb p x n) refl
+
   pub absent : (t : Tree) → (In x t → ⊥) → change x f t ≡ t
-  absent nil n = refl
-  absent (grow p d k r) n =
-      rw (ne-eqb p x (λ e. n (inl (sym e))), absent k (λ h. n (inr (inl h))), absent r (λ h. n (inr (inr h))))
+  absent = pass-absent x (change x f) refl change-pass
 
   pub past : (a r : Tree) → (In x a → ⊥) → change x f (after a r) ≡ after a (change x f r)
-  past nil r n = refl
-  past (grow p d k q) r n =
-      rw (ne-eqb p x (λ e. n (inl (sym e))), absent k (λ h. n (inr (inl h))), past q r (λ h. n (inr (inr h))))
+  past = pass-after x (change x f) refl change-pass
 
 -- two changes of one piece that put the same there, but for the marks
 pub alike : (x : ℕ) (f g : Datum → Tree → Tree) → ((d : Datum) (r : Tree) → shape (f d r) ≡ shape (g d r)) → (t : Tree)

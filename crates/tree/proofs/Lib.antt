@@ -19,4 +19,9 @@ pub mod BookKept
 pub mod Counts
 pub mod Stays
 pub mod ListSteps
+pub mod Kids
+pub mod Hangs
+pub mod Goes
+pub mod Beside
+pub mod Pigeon
 pub mod Laws

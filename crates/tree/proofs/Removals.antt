@@ -9,19 +9,18 @@ use borrow.Author.Tests.{eq-eqb, ne-eqb}
 use Rattle.piece.specs.declared.orientation.Orientation.{Orientation}
 use Rattle.piece.specs.declared.size.Size.{Size}
 use Rattle.piece.specs.declared.node.Datum.{Datum}
-use Rattle.piece.specs.declared.node.Kind.{Kind}
-use Rattle.piece.specs.declared.node.Kind.the-variants.{Free, Part, Structure}
 use Rattle.piece.specs.declared.settings.Settings.{Settings}
 use Rattle.piece.specs.Sides.{other, laid}
 use Rattle.piece.specs.Row.{nil, grow}
+use Rattle.piece.proofs.Sizes.{laid-twice}
 use Rattle.tree.specs.Tree.{Tree, At, Distinct, isFree, isNil, after}
-use Rattle.tree.specs.Sound.{FreePiece, Child, Kinded, Children, Sound}
+use Rattle.tree.specs.Sound.{Child, Children, Sound}
 use Rattle.tree.specs.Snapshot.{shape, bare}
 use Rattle.tree.specs.Removal.{freed, joined, board, lastFree, withoutLast, settled, remove}
 use Rattle.tree.specs.Apart.{Removable}
-use Rattle.piece.proofs.Sizes.{laid-twice}
 use Rattle.tree.proofs.Rows.{same?}
 use Rattle.tree.proofs.Shapes.{shape-after}
+use Rattle.tree.proofs.Kept.{free-kind}
 use Rattle.tree.proofs.Changes.{alike, commute}
 use Rattle.tree.proofs.Bookings.{at-unique}
 
@@ -99,12 +98,6 @@ Solid x t = (e : Datum) → At x e t → isFree (e .kind) ≡ false
 solid : (x : ℕ) (t : Tree) → Distinct t → Removable x t → Solid x t
 solid x t w a e g = subst (λ (d : Datum). isFree (d .kind) ≡ false) (sym (at-unique x (a .piece) e t w (a .there) g)) (a .solid)
 
--- what is free is last and childless
-free-piece : (κ : Kind) (d : Datum) (k r : Tree) → Kinded κ d k r → isFree κ ≡ true → FreePiece d k r
-free-piece Free d k r w e = w
-free-piece Part d k r w e = absurd (false≢true e)
-free-piece Structure d k r w e = absurd (false≢true e)
-
 -- the piece d went, and y goes from among its later siblings, or y went first
 module _ (settings : Settings) (y n s m s′ n′ u m′ u′ : ℕ) (q d : Datum) where
   abbrev Behind : Tree → Type 0
@@ -118,7 +111,7 @@ module _ (settings : Settings) (y n s m s′ n′ u m′ u′ : ℕ) (q d : Datu
       go : (b : Bool) → isFree (e .kind) ≡ b → (z ≡ y) ⊎ (z ≡ y → ⊥) → Behind r → Behind (grow z e k r)
       go true f (inl g) ih = absurd (false≢true (sym (o e (inl (sym g, refl))) ∙ f))
       go true f (inr l) ih =
-          let p = free-piece (e .kind) e k r (w .1) f in
+          let p = free-kind (e .kind) e k r f (w .1) in
           rw (p .childless, p .last, settled-join n s d z e f, ne-eqb z y l, settled-join n′ u d z e f, ne-eqb n y (λ g. yn (sym g)))
       go false f (inl g) ih = rw (settled-past n s d z e k r f, eq-eqb z y g) (twice settings n s m s′ n′ u m′ u′ q d e r a (w .0))
       go false f (inr l) ih =

@@ -1,6 +1,6 @@
 -- The pieces that stay where they are when those at one place give way to another row (Kept): same place, same datum, so same serial.
 use mathlib.Core.Path.{_≡_, refl, sym, _∙_}
-use mathlib.Core.Bool.{Bool, true, false, cond}
+use mathlib.Core.Bool.{Bool, true, false, cond, _&&_}
 use mathlib.Core.Logic.{_⊎_, inl, inr}
 use Prim.Native.Nat.{ℕ}
 use native.Mathlib.Omega.{arith}
@@ -9,10 +9,11 @@ use borrow.Author.Tests.{eq-eqb, ne-eqb}
 use Rattle.piece.specs.declared.node.Datum.{Datum}
 use Rattle.piece.specs.declared.settings.Settings.{Settings}
 use Rattle.piece.specs.Row.{nil, grow}
-use Rattle.tree.specs.Tree.{Tree, At, Inside, after, isFree, change}
+use Rattle.tree.specs.Tree.{Tree, At, Inside, after, isFree, isNil, change, rest}
 use Rattle.tree.specs.Sound.{Children, Topped}
 use Rattle.tree.specs.Booking.{Booking, block, booked, book}
 use Rattle.tree.specs.Removal.{withoutLast, settled, remove, left, cleared}
+use Rattle.tree.specs.Steps.{less}
 use Rattle.tree.proofs.Rows.{same?, at-in}
 use Rattle.tree.proofs.Kept.{Where, Alone, free-kind}
 
@@ -38,6 +39,35 @@ at-more x g f i e more (grow y d k r) h = go (eqb y x) h (at-more x g f i e more
     go false (inl z) a b = inl z
     go false (inr (inl h)) a b = inr (inl (a h))
     go false (inr (inr h)) a b = inr (inr (b h))
+
+-- what is left was there
+at-less : (x : ℕ) (g : Datum → Tree → Tree) (i : ℕ) (e : Datum) → ((d : Datum) (r : Tree) → At i e (g d r) → At i e r)
+    → (t : Tree) → At i e (change x g t) → At i e t
+at-less x g i e less nil h = h
+at-less x g i e less (grow y d k r) h = go (eqb y x) h (at-less x g i e less k) (at-less x g i e less r)
+  where
+    go : (b : Bool) → At i e (cond b (g d r) (grow y d (change x g k) (change x g r))) → (At i e (change x g k) → At i e k)
+        → (At i e (change x g r) → At i e r) → At i e (grow y d k r)
+    go true h a b = inr (inr (less d r h))
+    go false (inl z) a b = inl z
+    go false (inr (inl h)) a b = inr (inl (a h))
+    go false (inr (inr h)) a b = inr (inr (b h))
+
+pub less-at : (i : ℕ) (e : Datum) (x : ℕ) (w : Tree) → At i e (less x w) → At i e w
+less-at i e x w h = at-less x rest i e (λ d r z. z) w h
+
+without-at : (i : ℕ) (e : Datum) (r : Tree) → At i e (withoutLast r) → At i e r
+without-at i e nil h = h
+without-at i e (grow p d k r) h = go (isFree (d .kind) && isNil r) h (without-at i e r)
+  where
+    go : (c : Bool) → At i e (cond c nil (grow p d k (withoutLast r))) → (At i e (withoutLast r) → At i e r) → At i e (grow p d k r)
+    go true h hr = absurd h
+    go false (inl z) hr = inl z
+    go false (inr (inl z)) hr = inr (inl z)
+    go false (inr (inr z)) hr = inr (inr (hr z))
+
+pub cleared-at : (i : ℕ) (e : Datum) (x : ℕ) (w : Tree) → At i e (cleared x w) → At i e w
+cleared-at i e x w h = at-less x left i e (λ d r. without-at i e r) w h
 
 -- where a piece without children gives way to a row that has its later siblings, all others stay
 at-others : (x : ℕ) (f : Datum → Tree → Tree) (P : Datum → Tree → Tree → Type 0) (i : ℕ) (e : Datum)

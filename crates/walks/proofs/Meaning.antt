@@ -21,6 +21,7 @@ use Rattle.tree.specs.Snapshot.{kindNo, nodeBytes, snapshot}
 use Rattle.tree.specs.Figures.{nought, whole, added, treeUsage}
 use Rattle.tree.specs.Figures as figures
 use Rattle.tree.proofs.Rows.{same?, after-nil}
+use Rattle.tree.proofs.Goes.{subtree-absent}
 use Rattle.table.specs.declared.Node.{Node}
 use Rattle.table.specs.Table.{zeroNode, at, head, Rep, Holds}
 use Rattle.table.specs.Columns.{kindOf}
@@ -195,13 +196,6 @@ module _ (limit : ℕ) (t : List Node) where
       → usageIn limit t n p ≡ treeUsage (grow p d k nil)
   usage-at {k = k} n e f h = usage-of n e f h (usage-row k (n - 1) f (omega arith) nought)
 
--- no piece at x
-nowhere : (x : ℕ) (w : Tree) → (In x w → ⊥) → subtree x w ≡ nil
-nowhere x nil out = refl
-nowhere x (grow p d k r) out =
-    rw
-    (ne-eqb p x (λ e. out (inl (sym e))), nowhere x k (λ i. out (inr (inl i))), nowhere x r (λ i. out (inr (inr i))))
-
 -- at a place of a tree in which no place is twice: what holds of each piece that the columns show holds of the subtree there
 module _ (limit : ℕ) (t : List Node) (x n : ℕ) (P : Tree → Type 0)
     (each : (d : Datum) (k r : Tree) → Piece limit t x d k r → Shown limit t k → count k < n → P (grow x d k nil)) where
@@ -213,8 +207,8 @@ module _ (limit : ℕ) (t : List Node) (x n : ℕ) (P : Tree → Type 0)
       (eq-eqb p x z, z)
       (each d k r (subst (λ (y : ℕ). Piece limit t y d k r) z (e .0)) (e .1) (omega arith))
   pick p d k r ds e h (inr z) (inl y) a b = absurd (z (sym y))
-  pick p d k r ds e h (inr z) (inr (inl y)) a b = rw (ne-eqb p x z, nowhere x r (ds .2 x y), after-nil) (a y)
-  pick p d k r ds e h (inr z) (inr (inr y)) a b = rw (ne-eqb p x z, nowhere x k (λ o. ds .2 x o y)) (b y)
+  pick p d k r ds e h (inr z) (inr (inl y)) a b = rw (ne-eqb p x z, subtree-absent x r (ds .2 x y), after-nil) (a y)
+  pick p d k r ds e h (inr z) (inr (inr y)) a b = rw (ne-eqb p x z, subtree-absent x k (λ o. ds .2 x o y)) (b y)
 
   at-place : (w : Tree) → Distinct w → In x w → Shown limit t w → count w ≤ n → P (subtree x w)
   at-place nil ds i e h = absurd i

@@ -1,6 +1,5 @@
 -- What stands beside a piece that is removed, on trees: it was not inside that piece, and it keeps all that is below it, so that the same part
--- numbers come out with it. It rests on tree's laws of a removal (Counts, RemoveKept) and on table's of a step that looks for a place (Kids).
--- Assumes nothing.
+-- numbers come out with it. It rests on the laws of a removal (Counts, RemoveKept) and of a change (Changes). Assumes nothing.
 use mathlib.Core.Path.{_≡_, refl, sym, _∙_}
 use mathlib.Core.Bool.{Bool, true, false, cond, _&&_}
 use mathlib.Core.Logic.{_⊎_, inl, inr, ⊎-elim}
@@ -8,12 +7,13 @@ use Prim.Native.Nat.{ℕ}
 use borrow.Author.Tests.{eq-eqb, ne-eqb}
 use Rattle.piece.specs.declared.node.Datum.{Datum}
 use Rattle.piece.specs.Row.{nil, grow}
 use Rattle.tree.specs.Tree.{Tree, In, Inside, Distinct, after, isFree, isNil}
 use Rattle.tree.specs.Removal.{withoutLast, settled, remove, cleared, subtree}
 use Rattle.tree.proofs.Rows.{same?, in-eq}
 use Rattle.tree.proofs.Counts.{in-cleared, in-remove}
 use Rattle.tree.proofs.RemoveKept.{in-left}
-use Rattle.table.proofs.Kids.{pass-absent}
+use Rattle.tree.proofs.Changes.{absent}
+use Rattle.tree.proofs.Goes.{subtree-absent}
 
 -- ---- what is inside a piece goes with it
 
@@ -54,11 +54,6 @@ left-outside x i (grow p d k r) u h g = go (same? p x) (left-outside x i k (u .3
     go (inr m) a b = further m a b (rw (ne-eqb p x m) at h) g
 
 -- ---- what is left keeps what is below it
-
-subtree-absent : (y : ℕ) (t : Tree) → (In y t → ⊥) → subtree y t ≡ nil
-subtree-absent y nil n = refl
-subtree-absent y (grow p d k r) n =
-    rw (ne-eqb p y (λ e. n (inl (sym e))), subtree-absent y k (λ h. n (inr (inl h))), subtree-absent y r (λ h. n (inr (inr h)))) refl
 
 -- in the row without its free last piece
 subtree-left : (y : ℕ) (r : Tree) → Distinct r → In y (withoutLast r) → subtree y (withoutLast r) ≡ subtree y r
@@ -102,7 +97,7 @@ module _ (x n s y : ℕ) (apart : y ≡ n → ⊥) where
       further : (In y (cleared x k) → subtree y (remove x n s k) ≡ subtree y k) → (In y (cleared x r) → subtree y (remove x n s r) ≡ subtree y r)
           → In y (grow p d (cleared x k) (cleared x r)) → subtree y (grow p d (remove x n s k) (remove x n s r)) ≡ subtree y (grow p d k r)
       further ik ir (inl e) =
-          rw (eq-eqb p y (sym e), pass-absent x (remove x n s) refl (λ q f a b m. rw (ne-eqb q x m) refl) k (λ o. out (inl (e, o)))) refl
+          rw (eq-eqb p y (sym e), absent x (settled n s) k (λ o. out (inl (e, o)))) refl
       further ik ir (inr (inl o)) =
           let held = in-cleared x y k o in
           let none = u .2 y held in

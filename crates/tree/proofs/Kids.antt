@@ -9,9 +9,10 @@ use lib.Dec.{eqb}
 use borrow.Author.Tests.{eq-eqb, ne-eqb}
 use Rattle.piece.specs.declared.node.Datum.{Datum}
 use Rattle.piece.specs.Row.{nil, grow}
-use Rattle.tree.specs.Tree.{Tree, In, Distinct, after, count}
+use Rattle.tree.specs.Tree.{Tree, In, Distinct, after, count, change}
 use Rattle.tree.specs.Steps.{Rooted, Kids}
 use Rattle.tree.proofs.Rows.{in-eq, in-first, in-second}
+use Rattle.tree.proofs.Changes.{pass-absent, pass-after, change-pass}
 
 pub kids-of : (q : ℕ) (w : Tree) → In q w → (k : Tree) × Kids q k w
 kids-of q nil h = absurd h
@@ -129,18 +130,10 @@ module _ (x : ℕ) where
   spot-in (grow p d k r) ro (inr (inl h)) n = spot p d k r h
   spot-in (grow p d k r) ro (inr (inr h)) n = absurd (rw (ro .1) at h)
 
--- A step that looks for the place x leaves every other piece.
-module _ (x : ℕ) (g : Tree → Tree) (end : g nil ≡ nil)
-    (pass : (p : ℕ) (d : Datum) (k r : Tree) → (p ≡ x → ⊥) → g (grow p d k r) ≡ grow p d (g k) (g r)) where
-  pub pass-absent : (w : Tree) → (In x w → ⊥) → g w ≡ w
-  pass-absent nil n = end
-  pass-absent (grow p d k r) n =
-      rw (pass p d k r (λ e. n (inl (sym e))), pass-absent k (λ h. n (inr (inl h))), pass-absent r (λ h. n (inr (inr h)))) refl
-
-  pub pass-after : (a b : Tree) → (In x a → ⊥) → g (after a b) ≡ after a (g b)
-  pass-after nil b n = refl
-  pass-after (grow p d k r) b n =
-      rw (pass p d k (after r b) (λ e. n (inl (sym e))), pass-absent k (λ h. n (inr (inl h))), pass-after r b (λ h. n (inr (inr h)))) refl
+pub spot-kids : (x : ℕ) (w : Tree) (s : Spot x w) → Kids x (s .below) w
+spot-kids x w s =
+    kids-kids (s .parent) (after (s .before) (grow x (s .datum) (s .below) (s .behind))) x (s .below) w (s .kids)
+    (kids-row x (s .before) (s .datum) (s .below) (s .behind))
 
 -- the children of q are k in the place of what they were
 abbrev pub put : ℕ → Tree → Tree → Tree
@@ -263,7 +256,7 @@ module _ (q : ℕ) (k : Tree) where
   put-same (grow p d l r) dis (inr (inl h)) = put-left p d l r dis (kids-in q k l h) ∙ ap (λ (z : Tree). grow p d z r) (put-same l (dis .3) h)
   put-same (grow p d l r) dis (inr (inr h)) = put-right p d l r dis (kids-in q k r h) ∙ ap (λ (z : Tree). grow p d l z) (put-same r (dis .4) h)
 
--- Such a step does what it does to the row of x and leaves the rest of the tree.
+-- A step that looks for the place x (Changes) does what it does to the row of x and leaves the rest of the tree.
 module _ (x : ℕ) (g : Tree → Tree) (end : g nil ≡ nil)
     (pass : (p : ℕ) (d : Datum) (k r : Tree) → (p ≡ x → ⊥) → g (grow p d k r) ≡ grow p d (g k) (g r)) where
   pub pass-put : (q : ℕ) (k w : Tree) → Distinct w → Kids q k w → In x k → g w ≡ put q (g k) w
@@ -290,3 +283,9 @@ module _ (x : ℕ) (g : Tree → Tree) (end : g nil ≡ nil)
       pass-put q m w dis kids (in-second x a (grow x d l b) (inl refl))
       ∙ ap (λ (z : Tree). put q z w)
       (pass-after x g end pass a (grow x d l b) (λ i. after-apart a (grow x d l b) (kids-distinct q m w dis kids) x i (inl refl)))
+
+-- so a change of the piece x puts other children in the place of its parent's
+pub change-put : (x : ℕ) (f : Datum → Tree → Tree) (q : ℕ) (a : Tree) (d : Datum) (l b w : Tree) → Distinct w → Kids q (after a (grow x d l b)) w
+    → change x f w ≡ put q (after a (f d b)) w
+change-put x f q a d l b w dis kids =
+    rw (pass-piece x (change x f) refl (change-pass x f) q a d l b w dis kids, eq-eqb x x refl) refl
