@@ -8,10 +8,10 @@ use Prim.Native.Nat.{ℕ, _+_, _<_}
 use native.Mathlib.Omega.{arith}
 use lib.ListN.{length, length-append}
 use Rattle.piece.specs.declared.orientation.Orientation.{Orientation}
-use Rattle.piece.specs.declared.size.Size.{Size}
 use Rattle.piece.specs.declared.node.Datum.{Datum}
 use Rattle.piece.specs.declared.node.Kind.{Kind}
 use Rattle.piece.specs.declared.node.Kind.the-variants.{Free, Part, Structure}
+use Rattle.piece.specs.declared.settings.Settings.{Settings}
 use Rattle.piece.specs.Sides.{other, area}
 use Rattle.piece.specs.Row.{Row, nil, grow}
 use Rattle.piece.specs.Insertion.{Made, blockOf}
@@ -158,23 +158,23 @@ module _ (B : Pieces) (one : (i : ℕ) (e f : Datum) → B i e → B i f → e �
       (split i e y k)) (λ i e y. let a = low i e y in omega arith) (rising .1) f))
       (free-or (n .datum .kind))
 
-module _ (limit stages : ℕ) (sheet : Size) (w : Tree) (sound : Sound limit stages sheet w) (x : ℕ) (d : Datum) (there : At x d w)
+module _ (limit : ℕ) (settings : Settings) (w : Tree) (sound : Sound limit settings w) (x : ℕ) (d : Datum) (there : At x d w)
     (free : d .kind ≡ Free) where
   -- when the free piece has gone
   pub cut-free : (xs : List ℕ) → FreeList w xs → FreeList (less x w) (cut xs x)
   cut-free xs f =
-      free-cut (piecesOf w) (piecesOf (less x w)) x xs (λ i e y z n. less-keeps limit stages sheet w sound x d there free i e y n)
-      (λ i e y z. less-was limit stages sheet w sound x d there free i e y .0)
-      (λ e y z. less-gone limit stages sheet w sound x d there free (at-in x e (less x w) y)) (less-one limit stages sheet w sound x d there free) f
+      free-cut (piecesOf w) (piecesOf (less x w)) x xs (λ i e y z n. less-keeps limit settings w sound x d there free i e y n)
+      (λ i e y z. less-was limit settings w sound x d there free i e y .0)
+      (λ e y z. less-gone limit settings w sound x d there free (at-in x e (less x w) y)) (less-one limit settings w sound x d there free) f
 
   module _ (b : Booking) (new : Fresh limit x b w) (last : ℕ) (marked : Serials w last) (next : b .serial ≡ last + 1) (areas : ℕ → ℕ)
       (sized : (i : ℕ) (e : Datum) → At i e (book x b w) → areas i ≡ area (e .size)) where
     pub booked-free : (q : ℕ) (none : Bool) (xs : List ℕ) → FreeList w xs
         → FreeList (book x b w) (putAll areas (cut xs x) (freesOf (leaves q none (block b d))))
     booked-free q none xs f =
-        free-puts (piecesOf (book x b w)) (book-one limit stages sheet w sound x d there free b new) areas sized (leaves q none (block b d))
-        (b .serial) (piecesOf (less x w)) (cut xs x) (book-left limit stages sheet w sound x d there free b)
-        (λ i e y. book-new limit stages sheet w sound x d there free b i e (among-at i e (block b d) q none y))
-        (λ i e y z. ⊎-elim inl (λ v. inr (at-among i e (block b d) q none v)) (book-pieces limit stages sheet w sound x d there free b i e y))
-        (λ i e y. let a = older limit stages sheet w sound x d there free b last marked next i e y in omega arith) (block-counted b d q none)
+        free-puts (piecesOf (book x b w)) (book-one limit settings w sound x d there free b new) areas sized (leaves q none (block b d))
+        (b .serial) (piecesOf (less x w)) (cut xs x) (book-left limit settings w sound x d there free b)
+        (λ i e y. book-new limit settings w sound x d there free b i e (among-at i e (block b d) q none y))
+        (λ i e y z. ⊎-elim inl (λ v. inr (at-among i e (block b d) q none v)) (book-pieces limit settings w sound x d there free b i e y))
+        (λ i e y. let a = older limit settings w sound x d there free b last marked next i e y in omega arith) (block-counted b d q none)
         (cut-free xs f)

@@ -9,6 +9,7 @@ use Rattle.piece.specs.declared.node.Datum.{Datum}
 use Rattle.piece.specs.declared.node.Kind.the-variants.{Free}
 use Rattle.piece.specs.declared.insertion_blueprint.InsertionShape.{InsertionShape}
 use Rattle.piece.specs.declared.insertion_blueprint.InsertionShape.the-variants.{AlongCurrentCut, AcrossCurrentCut, AlongThenAcross, AcrossThenAlong}
+use Rattle.piece.specs.declared.settings.Settings.{Settings}
 use Rattle.piece.specs.Sides.{other}
 use Rattle.piece.specs.Row.{Row, nil, grow}
 use Rattle.piece.specs.Insertion.{Made, blockOf, table, newNodes}
@@ -56,10 +57,10 @@ block-marks b d i e h =
     (z .0, omega (arith, block-nodes (b .shape) (d .cut) (d .size) (b .size)), z .2)
 
 -- the new serials come after all others, "they rise by one per node in creation order"
-module _ (limit stages : ℕ) (sheet : Size) (w : Tree) (sound : Sound limit stages sheet w) (x : ℕ) (d : Datum) (there : At x d w)
+module _ (limit : ℕ) (settings : Settings) (w : Tree) (sound : Sound limit settings w) (x : ℕ) (d : Datum) (there : At x d w)
     (free : d .kind ≡ Free) (b : Booking) (last : ℕ) (marked : Serials w last) (next : b .serial ≡ last + 1) where
   was : (i : ℕ) (e : Datum) → At i e (less x w) → At i e w
-  was i e h = less-was limit stages sheet w sound x d there free i e h .0
+  was i e h = less-was limit settings w sound x d there free i e h .0
 
   -- a piece that is left has an older serial, and a new one its own
   pub older : (i : ℕ) (e : Datum) → At i e (less x w) → e .serial ≤ last
@@ -76,7 +77,7 @@ module _ (limit stages : ℕ) (sheet : Size) (w : Tree) (sound : Sound limit sta
   book-serials room = record { differ = differ; least = least; most = most; spent = room }
     where
       parts : (i : ℕ) (e : Datum) → At i e (book x b w) → At i e (less x w) ⊎ At i e (block b d)
-      parts = book-pieces limit stages sheet w sound x d there free b
+      parts = book-pieces limit settings w sound x d there free b
 
       differ : (i j : ℕ) (e f : Datum) → At i e (book x b w) → At j f (book x b w) → e .serial ≡ f .serial → i ≡ j
       differ i j e f g h s = go (parts i e g) (parts j f h)

@@ -14,6 +14,7 @@ use Rattle.piece.specs.declared.node.Datum.{Datum}
 use Rattle.piece.specs.declared.insertion_blueprint.InsertionShape.{InsertionShape}
 use Rattle.piece.specs.declared.insertion_blueprint.InsertionShape.the-variants.{AlongCurrentCut, AcrossCurrentCut, AlongThenAcross, AcrossThenAlong}
 use Rattle.piece.specs.declared.insertion_option.Offer.{Offer}
+use Rattle.piece.specs.declared.settings.Settings.{Settings}
 use Rattle.piece.specs.Offers.{allowed, along, across, fits, inRotation, noOffer, offersIn, offersOf, shapes, turned}
 use Rattle.lists.proofs.Scan.{clash, and-left, and-right}
 use Rattle.booking.specs.Offered.{sameRotation, sameShape, sameOffer, amongB, offeredB}
@@ -102,34 +103,34 @@ among-rotation q r s (u ∷ us) e =
     (or-true-cases (sameRotation q r && sameShape u s) (amongB r s (inRotation q us)) e)
 
 -- what a rotation and a shape have that are offered
-pub record Offers (d : Datum) (p : PartType) (stages : ℕ) (r : Rotation) (s : InsertionShape) : Type 0 where
+pub record Offers (d : Datum) (p : PartType) (settings : Settings) (r : Rotation) (s : InsertionShape) : Type 0 where
   pub allows : allowed (p .turn) r ≡ true
   pub inside : fits (d .size) (turned r (p .size)) ≡ true
   pub shaped : List·Memᴰ s
-      (shapes (along (d .cut) (d .size) (turned r (p .size))) (across (d .cut) (d .size) (turned r (p .size))) (d .level) stages)
+      (shapes (along (d .cut) (d .size) (turned r (p .size))) (across (d .cut) (d .size) (turned r (p .size))) (d .level) (settings .stages))
 
-module _ (d : Datum) (p : PartType) (stages : ℕ) (r : Rotation) (s : InsertionShape) where
-  in-rotation : (q : Rotation) → amongB r s (offersIn d p stages q) ≡ true → Offers d p stages r s
+module _ (d : Datum) (p : PartType) (settings : Settings) (r : Rotation) (s : InsertionShape) where
+  in-rotation : (q : Rotation) → amongB r s (offersIn d p settings q) ≡ true → Offers d p settings r s
   unfolding offersIn
   in-rotation q e = go (allowed (p .turn) q && fits (d .size) (turned q (p .size))) refl e
     where
       ss : List InsertionShape
-      ss = shapes (along (d .cut) (d .size) (turned q (p .size))) (across (d .cut) (d .size) (turned q (p .size))) (d .level) stages
+      ss = shapes (along (d .cut) (d .size) (turned q (p .size))) (across (d .cut) (d .size) (turned q (p .size))) (d .level) (settings .stages)
 
       go : (c : Bool) → (allowed (p .turn) q && fits (d .size) (turned q (p .size))) ≡ c → amongB r s (cond c (inRotation q ss) []) ≡ true
-          → Offers d p stages r s
+          → Offers d p settings r s
       go true t e =
           let g = among-rotation q r s ss e in
-          let offers : Offers d p stages q s =
+          let offers : Offers d p settings q s =
           record {
             allows = and-left (allowed (p .turn) q) (fits (d .size) (turned q (p .size))) t;
             inside = and-right (allowed (p .turn) q) (fits (d .size) (turned q (p .size))) t;
             shaped = g .1;
           }
           in
-          subst (λ (z : Rotation). Offers d p stages z s) (g .0) offers
+          subst (λ (z : Rotation). Offers d p settings z s) (g .0) offers
       go false t e = absurd (clash e)
 
-  pub offered-says : offeredB d p stages r s ≡ true → Offers d p stages r s
+  pub offered-says : offeredB d p settings r s ≡ true → Offers d p settings r s
   unfolding offeredB offersOf
-  offered-says e = ⊎-elim (in-rotation Default) (in-rotation Rotated) (among-either r s (offersIn d p stages Default) (offersIn d p stages Rotated) e)
+  offered-says e = ⊎-elim (in-rotation Default) (in-rotation Rotated) (among-either r s (offersIn d p settings Default) (offersIn d p settings Rotated) e)

@@ -4,9 +4,9 @@ use mathlib.Core.Path.{_≡_, sym, _∙_}
 use mathlib.Core.Logic.{_⊎_, inl, inr, ⊎-elim}
 use Prim.Native.Nat.{ℕ}
 use borrow.Author.Tests.{eq-eqb, ne-eqb}
-use Rattle.piece.specs.declared.size.Size.{Size}
 use Rattle.piece.specs.declared.node.Datum.{Datum}
 use Rattle.piece.specs.declared.node.Kind.the-variants.{Free}
+use Rattle.piece.specs.declared.settings.Settings.{Settings}
 use Rattle.piece.specs.Row.{nil, grow}
 use Rattle.tree.specs.Tree.{Tree, In, At, rest}
 use Rattle.tree.specs.Sound.{Sound}
@@ -66,10 +66,10 @@ module _ (x : ℕ) (d : Datum) (i : ℕ) (e : Datum) where
       go (inr m) (inr (inr u)) f g = rw (ne-eqb y x m) (inr (inr (g u)))
 
 -- the free piece d stands at x in a sound tree
-module _ (limit stages : ℕ) (sheet : Size) (w : Tree) (sound : Sound limit stages sheet w) (x : ℕ) (d : Datum) (there : At x d w)
+module _ (limit : ℕ) (settings : Settings) (w : Tree) (sound : Sound limit settings w) (x : ℕ) (d : Datum) (there : At x d w)
     (free : d .kind ≡ Free) where
   alone : Where x (Alone d) w
-  alone = free-alone stages sheet x d w (sound .topped) (sound .distinct) there free
+  alone = free-alone settings x d w (sound .topped) (sound .distinct) there free
 
   -- the place x is not left
   pub less-gone : In x (less x w) → ⊥

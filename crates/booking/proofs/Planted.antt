@@ -3,9 +3,9 @@ use mathlib.Core.Path.{_≡_, refl, sym, ap, _∙_}
 use mathlib.Core.Bool.{Bool, true, false}
 use mathlib.Core.List.{List, [], _∷_, _++_}
 use Prim.Native.Nat.{ℕ}
-use Rattle.piece.specs.declared.size.Size.{Size}
 use Rattle.piece.specs.declared.node.Datum.{Datum}
 use Rattle.piece.specs.declared.node.Kind.the-variants.{Free}
+use Rattle.piece.specs.declared.settings.Settings.{Settings}
 use Rattle.piece.specs.Row.{nil, grow}
 use Rattle.tree.specs.Tree.{Tree, At}
 use Rattle.tree.specs.Sound.{Sound}
@@ -30,8 +30,8 @@ plant-each limit (grow p d k r) t q none =
     ∙ plant-each limit r (appendEach limit (append limit t q p d) (leaves p true k)) q false
     ∙ sym (append-both limit (append limit t q p d) (leaves p true k) (leaves q false r))
 
-pub booked-holds : (limit stages : ℕ) (sheet : Size) (t : List Node) (w : Tree) → Sound limit stages sheet w → Holds limit t w
+pub booked-holds : (limit : ℕ) (settings : Settings) (t : List Node) (w : Tree) → Sound limit settings w → Holds limit t w
     → (x : ℕ) (d : Datum) → At x d w → d .kind ≡ Free → (b : Booking) → Fresh limit x b w → (none : Bool)
     → Holds limit (appendEach limit (unlink limit t x) (leaves (at t x .parent) none (block b d))) (book x b w)
-booked-holds limit stages sheet t w sound h x d i free b new none =
-    rw (plant-each limit (block b d) (unlink limit t x) (at t x .parent) none) at (book-sound limit stages sheet t w sound h x d i free b new)
+booked-holds limit settings t w sound h x d i free b new none =
+    rw (plant-each limit (block b d) (unlink limit t x) (at t x .parent) none) at (book-sound limit settings t w sound h x d i free b new)

@@ -5,9 +5,9 @@ use mathlib.Core.Bool.{Bool, true, false, cond, false≢true}
 use mathlib.Core.List.{List, [], _∷_, _++_, append-nil, append-assoc}
 use mathlib.Core.Logic.{_⊎_, inl, inr, ⊎-elim}
 use Prim.Native.Nat.{ℕ}
-use Rattle.piece.specs.declared.size.Size.{Size}
 use Rattle.piece.specs.declared.node.Datum.{Datum}
 use Rattle.piece.specs.declared.node.Kind.the-variants.{Free, Structure}
+use Rattle.piece.specs.declared.settings.Settings.{Settings}
 use Rattle.tree.specs.Tree.{Tree, In, At, isFree}
 use Rattle.tree.specs.Sound.{Sound}
 use Rattle.tree.specs.Booking.{Booking, block, book}
@@ -47,7 +47,7 @@ holding-pushes P B one (z ∷ zs) A ys old named split u h =
     (holding-push P A (λ i e. A i e ⊎ ((i ≡ z) × (e ≡ d))) ys z d (λ i e y q. inl y) (λ i e y q. y) (inr (refl, refl)) (g .2) (g .3) h))
 
 -- the parent of the free piece is left, and is a structure: register's Family says so
-module _ (limit stages : ℕ) (sheet : Size) (w : Tree) (sound : Sound limit stages sheet w) (x : ℕ) (d : Datum) (there : At x d w)
+module _ (limit : ℕ) (settings : Settings) (w : Tree) (sound : Sound limit settings w) (x : ℕ) (d : Datum) (there : At x d w)
     (free : d .kind ≡ Free) (b : Booking) (new : Fresh limit x b w) (parent-left : In (parentOf limit x w) (less x w))
     (parent-solid : (e : Datum) → At (parentOf limit x w) e w → e .kind ≡ Structure) where
   abbrev q : ℕ
@@ -65,22 +65,22 @@ module _ (limit stages : ℕ) (sheet : Size) (w : Tree) (sound : Sound limit sta
       false≢true no
 
   keeps : (i : ℕ) (e : Datum) → At i e w → P e → At i e (less x w)
-  keeps i e y s = less-keeps limit stages sheet w sound x d there free i e y (not-x i e y s)
+  keeps i e y s = less-keeps limit settings w sound x d there free i e y (not-x i e y s)
 
   was : (i : ℕ) (e : Datum) → At i e (less x w) → At i e w
-  was i e y = less-was limit stages sheet w sound x d there free i e y .0
+  was i e y = less-was limit settings w sound x d there free i e y .0
 
   left : (i : ℕ) (e : Datum) → At i e (less x w) → At i e (book x b w)
-  left = book-left limit stages sheet w sound x d there free b
+  left = book-left limit settings w sound x d there free b
 
   parts : (i : ℕ) (e : Datum) → At i e (book x b w) → At i e (less x w) ⊎ At i e (block b d)
-  parts = book-pieces limit stages sheet w sound x d there free b
+  parts = book-pieces limit settings w sound x d there free b
 
   apart : (i : ℕ) → In i (block b d) → In i (less x w) → ⊥
-  apart = block-apart limit stages sheet w sound x d there free b new
+  apart = block-apart limit settings w sound x d there free b new
 
   one : (i : ℕ) (e f : Datum) → At i e (book x b w) → At i f (book x b w) → e ≡ f
-  one = book-one limit stages sheet w sound x d there free b new
+  one = book-one limit settings w sound x d there free b new
 
   once : (none : Bool) → Once (enrolled q none (block b d))
   once none =
@@ -97,7 +97,7 @@ module _ (limit stages : ℕ) (sheet : Size) (w : Tree) (sound : Sound limit sta
   fresh : (i : ℕ) → Solid i (block b d) → (e : Datum) × At i e (book x b w) × P e × ((f : Datum) → At i f (less x w) → ⊥)
   fresh i s = (
     s .0,
-    book-new limit stages sheet w sound x d there free b i (s .0) (s .1),
+    book-new limit settings w sound x d there free b i (s .0) (s .1),
     s .2,
     λ f y. apart i (solid-in i (block b d) s) (at-in i f (less x w) y),
   )

@@ -5,9 +5,9 @@ use mathlib.Core.List.{List}
 use Prim.Native.Nat.{ℕ, _+_, _≤_}
 use native.Mathlib.Omega.{arith}
 use lib.ListN.{length}
-use Rattle.piece.specs.declared.size.Size.{Size}
 use Rattle.piece.specs.declared.node.Datum.{Datum}
 use Rattle.piece.specs.declared.node.Kind.the-variants.{Free}
+use Rattle.piece.specs.declared.settings.Settings.{Settings}
 use Rattle.piece.specs.Insertion.{newNodes}
 use Rattle.tree.specs.Tree.{Tree, At, count}
 use Rattle.tree.specs.Sound.{Sound}
@@ -19,16 +19,16 @@ use Rattle.register.proofs.HoldingSteps.{holding-most}
 use Rattle.booking.proofs.Sums.{less-count, book-count}
 use Rattle.booking.proofs.FreeList.{cut-free}
 
-module _ (limit stages : ℕ) (sheet : Size) (w : Tree) (sound : Sound limit stages sheet w) (x : ℕ) (d : Datum) (there : At x d w)
+module _ (limit : ℕ) (settings : Settings) (w : Tree) (sound : Sound limit settings w) (x : ℕ) (d : Datum) (there : At x d w)
     (free : d .kind ≡ Free) (b : Booking) (room : count w + newNodes (b .shape) ≤ limit + 1) where
   -- the free list, when the free piece has gone
   pub free-room : (xs : List ℕ) → FreeList w xs → length (cut xs x) + newNodes (b .shape) ≤ limit
   free-room xs f =
-      let most = holding-most (λ e. e .kind ≡ Free) (less x w) (cut xs x) (cut-free limit stages sheet w sound x d there free xs f .holding) in
-      omega (arith, less-count limit stages sheet w sound x d there free)
+      let most = holding-most (λ e. e .kind ≡ Free) (less x w) (cut xs x) (cut-free limit settings w sound x d there free xs f .holding) in
+      omega (arith, less-count limit settings w sound x d there free)
 
   -- whatever list of pieces the booked tree has
   pub booked-room : (P : Datum → Type 0) (l : List ℕ) → Holding P (piecesOf (book x b w)) l → length l ≤ limit
   booked-room P l h =
       let most = holding-most P (book x b w) l h in
-      omega (arith, book-count limit stages sheet w sound x d there free b)
+      omega (arith, book-count limit settings w sound x d there free b)

@@ -12,6 +12,7 @@ use Rattle.piece.specs.declared.node.Datum.{Datum}
 use Rattle.piece.specs.declared.node.Kind.the-variants.{Free, Structure}
 use Rattle.piece.specs.declared.insertion_blueprint.InsertionShape.{InsertionShape}
 use Rattle.piece.specs.declared.insertion_blueprint.InsertionShape.the-variants.{AlongCurrentCut, AcrossCurrentCut, AlongThenAcross, AcrossThenAlong}
+use Rattle.piece.specs.declared.settings.Settings.{Settings}
 use Rattle.piece.specs.Insertion.{blockOf, newNodes, table}
 use Rattle.piece.specs.Sides.{area}
 use Rattle.piece.specs.Row.{nil, grow}
@@ -115,7 +116,7 @@ held-at l h i = padded-at noNew 5 5 l h i
 
 -- ---- the booking
 
-module _ (stages : ℕ) (sheet : Size) (last : ℕ) (w : Tree) (n : LayoutNodes) (stands : Stands stages sheet last w n)
+module _ (settings : Settings) (last : ℕ) (w : Tree) (n : LayoutNodes) (stands : Stands settings last w n)
     (x : ℕ) (d : Datum) (there : At x d w) (free : d .kind ≡ Free) (shape : InsertionShape) (size : Size) (number : ℕ) where
   -- what is booked
   abbrev pub wanted : Booking
@@ -131,28 +132,28 @@ module _ (stages : ℕ) (sheet : Size) (last : ℕ) (w : Tree) (n : LayoutNodes)
   marked i e y = let h = stands .serials .least i e y in omega arith
 
   below : x ≡ 0 → ⊥
-  below = free-below limit stages sheet w (stands .sound) x d there free
+  below = free-below limit settings w (stands .sound) x d there free
 
   gone : Holds limit left (less x w)
-  gone = free-gone limit stages sheet (n .nodes) w (stands .sound) (stands .holds) x d there free
+  gone = free-gone limit settings (n .nodes) w (stands .sound) (stands .holds) x d there free
 
   datum : at (n .nodes) x .datum ≡ d
   datum = datum-is limit (n .nodes) limit limit x d w (stands .holds .rep) there
 
   parent : at (n .nodes) x .parent ≡ q
-  parent = parent-is limit stages sheet w (stands .sound) x (at-in x d w there) below (n .nodes) (stands .holds)
+  parent = parent-is limit settings w (stands .sound) x (at-in x d w there) below (n .nodes) (stands .holds)
 
   parent-in : In q (less x w)
-  parent-in = parent-left limit stages sheet w (stands .sound) x (at-in x d w there) below
+  parent-in = parent-left limit settings w (stands .sound) x (at-in x d w there) below
 
   parent-structure : (e : Datum) → At q e w → e .kind ≡ Structure
-  parent-structure = parent-solid limit stages sheet w (stands .sound) x (at-in x d w there) below
+  parent-structure = parent-solid limit settings w (stands .sound) x (at-in x d w there) below
 
   alone : noChild left q ≡ childless q (less x w)
   alone = no-child limit left q (less x w) gone parent-in
 
   marked-left : Marked (less x w)
-  marked-left i e y = marked i e (less-was limit stages sheet w (stands .sound) x d there free i e y .0)
+  marked-left i e y = marked i e (less-was limit settings w (stands .sound) x d there free i e y .0)
 
   place-is : (i : ℕ) → lowestOf left i ≡ newPlace limit (less x w) i
   place-is zero = lowest-is limit left (less x w) gone marked-left 0
@@ -186,7 +187,7 @@ module _ (stages : ℕ) (sheet : Size) (last : ℕ) (w : Tree) (n : LayoutNodes)
   new-few : length new ≤ 5
   new-few = rw (leaves-count wanted d q (childless q (less x w))) (new-nodes-few shape)
 
-  module _ (fitting : Fitting stages d wanted) (shallow : d .level + deepest shape ≤ 255) where
+  module _ (fitting : Fitting settings d wanted) (shallow : d .level + deepest shape ≤ 255) where
     -- the nodes that the code makes are the block's
     new-is : newAt (n .nodes) left x shape size number last ≡ heldNew new
     unfolding newAt
@@ -197,19 +198,19 @@ module _ (stages : ℕ) (sheet : Size) (last : ℕ) (w : Tree) (n : LayoutNodes)
 
     module _ (room : count w + newNodes shape ≤ limit + 1) (spent : last + newNodes shape ≤ maxSerial) where
       fresh : Fresh limit x wanted w
-      fresh = fresh-booking limit stages sheet w (stands .sound) x d there free wanted (λ j h. refl) room
+      fresh = fresh-booking limit settings w (stands .sound) x d there free wanted (λ j h. refl) room
 
       table-is : Holds limit (appendEach limit left new) (book x wanted w)
       table-is =
           rw parent at
-          (booked-holds limit stages sheet (n .nodes) w (stands .sound) (stands .holds) x d there free wanted fresh (childless q (less x w)))
+          (booked-holds limit settings (n .nodes) w (stands .sound) (stands .holds) x d there free wanted fresh (childless q (less x w)))
 
       abbrev frees : List ℕ
       frees = putAll (areaIn (appendEach limit left new)) (cut (entriesOf (n .free)) x) (freesOf new)
 
       free-is : FreeList (book x wanted w) frees
       free-is =
-          booked-free limit stages sheet w (stands .sound) x d there free wanted fresh last (stands .serials) refl
+          booked-free limit settings w (stands .sound) x d there free wanted fresh last (stands .serials) refl
           (areaIn (appendEach limit left new))
           (λ i e y. ap (λ (f : Datum). area (f .size))
           (datum-is limit (appendEach limit left new) limit limit i e (book x wanted w) (table-is .rep) y))
@@ -224,22 +225,22 @@ module _ (stages : ℕ) (sheet : Size) (last : ℕ) (w : Tree) (n : LayoutNodes)
 
       solid-is : RemovableList (book x wanted w) (bookedList limit x d wanted w (entriesOf (n .removable)))
       solid-is =
-          booked-removable limit stages sheet w (stands .sound) x d there free wanted fresh parent-in parent-structure (entriesOf (n .removable))
+          booked-removable limit settings w (stands .sound) x d there free wanted fresh parent-in parent-structure (entriesOf (n .removable))
           (stands .removable)
 
       rooms : (P : Datum → Type 0) (l : List ℕ) → Holding P (piecesOf (book x wanted w)) l → length l ≤ limit
-      rooms = booked-room limit stages sheet w (stands .sound) x d there free wanted room
+      rooms = booked-room limit settings w (stands .sound) x d there free wanted room
 
       -- no index is out of bounds, and nothing overflows
       pub book-bookable : Bookable n x shape size number last
       book-bookable =
           record {
             placed = stands .sound .placed x (at-in x d w there);
-            hung = rw parent (parent-low limit stages sheet w (stands .sound) x (at-in x d w there) below);
+            hung = rw parent (parent-low limit settings w (stands .sound) x (at-in x d w there) below);
             freeKept = stands .freeKept;
             removableKept = stands .removableKept;
             sited = sited;
-            freeRoom = free-room limit stages sheet w (stands .sound) x d there free wanted room (entriesOf (n .free)) (stands .free);
+            freeRoom = free-room limit settings w (stands .sound) x d there free wanted room (entriesOf (n .free)) (stands .free);
             removableRoom = rw list-is (rooms _ (bookedList limit x d wanted w (entriesOf (n .removable))) solid-is);
             spent = let s = spent in omega arith;
           }
@@ -247,7 +248,7 @@ module _ (stages : ℕ) (sheet : Size) (last : ℕ) (w : Tree) (n : LayoutNodes)
           low : Low limit new
           low =
               leaves-low limit (block wanted d) q (childless q (less x w))
-              (parent-low limit stages sheet w (stands .sound) x (at-in x d w there) below)
+              (parent-low limit settings w (stands .sound) x (at-in x d w there) below)
               (λ j y. let g = block-in wanted d j y in rw (g .2) (fresh .placed (g .0) (g .1)))
 
           sited : (i : ℕ) → i < newNodes shape
@@ -256,18 +257,18 @@ module _ (stages : ℕ) (sheet : Size) (last : ℕ) (w : Tree) (n : LayoutNodes)
               rw (new-is, held-at new new-few i) (low-at limit new low i (rw (leaves-count wanted d q (childless q (less x w))) h))
 
       -- all stands again
-      pub book-stands : Stands stages sheet (last + newNodes shape) (book x wanted w) (booked n x shape size number last .nodes)
+      pub book-stands : Stands settings (last + newNodes shape) (book x wanted w) (booked n x shape size number last .nodes)
       unfolding booked bookedWith
       book-stands =
           rw (list-is, those-new)
           (record {
-            sound = booking-sound limit stages sheet w x d wanted (stands .sound) there free fitting fresh room;
+            sound = booking-sound limit settings w x d wanted (stands .sound) there free fitting fresh room;
             holds = table-is;
             free = rw (entries-listing frees) free-is;
             removable = rw (entries-listing (bookedList limit x d wanted w (entriesOf (n .removable)))) solid-is;
             freeKept = kept-listing frees (rooms _ frees (free-is .holding));
             removableKept = kept-listing _ (rooms _ (bookedList limit x d wanted w (entriesOf (n .removable))) solid-is);
-            serials = book-serials limit stages sheet w (stands .sound) x d there free wanted last (stands .serials) refl spent;
+            serials = book-serials limit settings w (stands .sound) x d there free wanted last (stands .serials) refl spent;
           })
 
       pub book-list : entriesOf (booked n x shape size number last .nodes .removable) ≡ bookedList limit x d wanted w (entriesOf (n .removable))

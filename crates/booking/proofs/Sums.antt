@@ -18,6 +18,7 @@ use Rattle.piece.specs.declared.insertion_blueprint.InsertionShape.the-variants
 use Rattle.piece.specs.Sides.{sized, laid, area}
 use Rattle.piece.specs.Row.{nil, grow}
 use Rattle.piece.specs.Insertion.{blockOf, table, newNodes}
+use Rattle.piece.specs.declared.settings.Settings.{Settings}
 use Rattle.piece.specs.Offers.{along, across, only, shapes}
 use Rattle.piece.proofs.Sizes.{laid-twice}
 use Rattle.tree.specs.Tree.{Tree, In, At, Distinct, count, isPart}
@@ -111,9 +112,9 @@ module _ (c : Orientation) (piece part : Size) where
   table-part b l AlongThenAcross = omega arith
   table-part b l AcrossThenAlong = omega arith
 
-module _ (stages : ℕ) (d : Datum) (b : Booking) (fit : Fitting stages d b) where
+module _ (settings : Settings) (d : Datum) (b : Booking) (fit : Fitting settings d b) where
   side : laid (d .cut) (partSide (d .cut) (d .size) (b .size) (b .shape)) ≡ b .size
-  side = part-side (d .cut) (d .size) (b .size) (b .shape) (offered-suits _ _ (d .level) stages (b .shape) (fit .offered))
+  side = part-side (d .cut) (d .size) (b .size) (b .shape) (offered-suits _ _ (d .level) (settings .stages) (b .shape) (fit .offered))
 
   -- the block has one part, and that has the booked size
   pub block-part-area : partArea (block b d) ≡ area (b .size)
@@ -122,10 +123,10 @@ module _ (stages : ℕ) (d : Datum) (b : Booking) (fit : Fitting stages d b) whe
 
 -- ---- the sums of a booked tree
 
-module _ (limit stages : ℕ) (sheet : Size) (w : Tree) (sound : Sound limit stages sheet w) (x : ℕ) (d : Datum) (there : At x d w)
+module _ (limit : ℕ) (settings : Settings) (w : Tree) (sound : Sound limit settings w) (x : ℕ) (d : Datum) (there : At x d w)
     (free : d .kind ≡ Free) where
   alone : Where x (Alone d) w
-  alone = free-alone stages sheet x d w (sound .topped) (sound .distinct) there free
+  alone = free-alone settings x d w (sound .topped) (sound .distinct) there free
 
   pub less-count : count (less x w) + 1 ≡ count w
   less-count =
@@ -136,7 +137,7 @@ module _ (limit stages : ℕ) (sheet : Size) (w : Tree) (sound : Sound limit sta
 
   module _ (b : Booking) where
     pub book-count : count (book x b w) + 1 ≡ count w + newNodes (b .shape)
-    book-count = count-book limit stages sheet w x d b sound there free
+    book-count = count-book limit settings w x d b sound there free
 
     -- the areas of the pieces of a kind
     book-area : (f : Kind → Bool) → areaOf f (book x b w) + cond (f (d .kind)) (area (d .size)) 0 ≡ areaOf f w + areaOf f (block b d)
@@ -145,9 +146,9 @@ module _ (limit stages : ℕ) (sheet : Size) (w : Tree) (sound : Sound limit sta
         (λ p e k r n. rw (ne-eqb p x n)) (areaOf f (block b d)) (rw (eq-eqb x x refl, after-nil (block b d))) w alone (sound .distinct)
         (at-in x d w there)
 
-    module _ (fit : Fitting stages d b) where
+    module _ (fit : Fitting settings d b) where
       pub book-part-area : partArea (book x b w) ≡ partArea w + area (b .size)
       book-part-area =
           let z = book-area isPart in
           let y : cond (isPart (d .kind)) (area (d .size)) 0 ≡ 0 = rw free in
-          omega (arith, block-part-area stages d b fit)
+          omega (arith, block-part-area settings d b fit)

@@ -1,7 +1,6 @@
 -- Document 01, refusal 7: "this rotation and shape aren't offered here".
 use mathlib.Core.Bool.{Bool, true, false, _&&_, _||_}
 use mathlib.Core.List.{List, [], _∷_}
-use Prim.Native.Nat.{ℕ}
 use lib.Dec.{eqb}
 use Rattle.piece.specs.declared.rotation.Rotation.{Rotation}
 use Rattle.piece.specs.declared.rotation.Rotation.the-variants.{Default, Rotated}
@@ -9,6 +8,7 @@ use Rattle.piece.specs.declared.parttype.PartType.{PartType}
 use Rattle.piece.specs.declared.node.Datum.{Datum}
 use Rattle.piece.specs.declared.insertion_blueprint.InsertionShape.{InsertionShape}
 use Rattle.piece.specs.declared.insertion_option.Offer.{Offer}
+use Rattle.piece.specs.declared.settings.Settings.{Settings}
 use Rattle.piece.specs.Insertion.{newNodes}
 use Rattle.piece.specs.Offers.{offersOf}
 
@@ -31,5 +31,5 @@ amongB r s [] = false
 amongB r s (o ∷ os) = sameOffer r s o || amongB r s os
 
 -- the free piece d offers the part in this rotation and shape
-unfoldable pub offeredB : Datum → PartType → ℕ → Rotation → InsertionShape → Bool
-offeredB d p stages r s = amongB r s (offersOf d p stages)
+unfoldable pub offeredB : Datum → PartType → Settings → Rotation → InsertionShape → Bool
+offeredB d p settings r s = amongB r s (offersOf d p settings)

@@ -11,6 +11,7 @@ use piece::insertion_option::offers;
 use piece::node::Datum;
 use piece::parttype::PartType;
 use piece::rotation::Rotation;
+use piece::settings::Settings;
 
 // How many nodes a shape makes.
 pub fn new_count(shape: InsertionShape) -> u16
@@ -78,11 +79,11 @@ fn is_among(rotation: Rotation, shape: InsertionShape, offers: OfferList) -> boo
 pub fn is_offered(
     piece: Datum,
     part: PartType,
-    stages: u8,
+    settings: Settings,
     rotation: Rotation,
     shape: InsertionShape,
 ) -> bool
-    ensures { λ r. ⌜ r ≡ offeredB piece part stages rotation shape ⌝ }
+    ensures { λ r. ⌜ r ≡ offeredB piece part settings rotation shape ⌝ }
 {
-    is_among(rotation, shape, offers(piece, part, stages))
+    is_among(rotation, shape, offers(piece, part, settings))
 }

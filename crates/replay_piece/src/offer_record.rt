@@ -10,6 +10,7 @@ use piece::orientation::Orientation;
 use piece::parttype::PartType;
 use piece::parttype::Turn;
 use piece::rotation::Rotation;
+use piece::settings::Settings;
 use piece::size::Size;
 
 pub fn cut_of(b: u8) -> Orientation {
@@ -46,14 +47,15 @@ fn shape_number(s: InsertionShape) -> u8 {
     }
 }
 
-// What our offers call answers to the record's question.
+// What our offers call answers to the record's question. The sheet is the piece itself: no offer goes by the sheet.
 fn asked(b: [u8; 74]) -> OfferList {
+    let size = Size {
+        width: four(b[4], b[5], b[6], b[7]),
+        height: four(b[8], b[9], b[10], b[11]),
+    };
     let piece = Datum {
         serial: 0,
-        size: Size {
-            width: four(b[4], b[5], b[6], b[7]),
-            height: four(b[8], b[9], b[10], b[11]),
-        },
+        size,
         number: 0,
         level: b[0],
         kind: Kind::Free,
@@ -67,7 +69,11 @@ fn asked(b: [u8; 74]) -> OfferList {
         },
         turn: turn_of(b[3]),
     };
-    offers(piece, part, b[1])
+    let settings = Settings {
+        stages: b[1],
+        sheet: size,
+    };
+    offers(piece, part, settings)
 }
 
 // Whether an entry is what the two recorded bytes say; past the count they are zero.

@@ -11,16 +11,16 @@ use Rattle.booking.proofs.offered.is_offered.Tie as tie
 is-among-requires : tie.Need-is-among-requires
 is-among-requires c κs =
     let a = c .before .args in
-    let os = offersOf (a .piece) (a .part) (a .stages) in
-    rw (c .offers .ensures, held-count os) (offers-few (a .piece) (a .part) (a .stages))
+    let os = offersOf (a .piece) (a .part) (a .settings) in
+    rw (c .offers .ensures, held-count os) (offers-few (a .piece) (a .part) (a .settings))
 
 returns : tie.Need-returns
 unfolding offeredB
 returns c =
     let a = c .before .before .args in
-    let os = offersOf (a .piece) (a .part) (a .stages) in
+    let os = offersOf (a .piece) (a .part) (a .settings) in
     c .is-among .ensures
-    ∙ rw (c .before .offers .ensures, held-whole os (offers-few (a .piece) (a .part) (a .stages))) refl
+    ∙ rw (c .before .offers .ensures, held-whole os (offers-few (a .piece) (a .part) (a .settings))) refl
 
 pub is-offered-spec : {M : Type 1} → statement M
 is-offered-spec = tie.close (tie.spec (λ c κs. search needs) is-among-requires returns)
