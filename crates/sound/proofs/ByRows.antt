@@ -11,9 +11,9 @@ use lib.Dec.{leb}
 use lib.ListN.{getD, set, replicate}
 use lib.Seq.{getD-set-other, set-set, set-comm}
 use borrow.Author.Tests.{eq-eqb, ne-eqb}
-use Rattle.piece.specs.declared.size.Size.{Size}
 use Rattle.piece.specs.declared.node.Kind.{Kind}
 use Rattle.piece.specs.declared.node.Kind.the-variants.{Free, Part, Structure}
+use Rattle.piece.specs.declared.settings.Settings.{Settings}
 use Rattle.tree.specs.Tree.{isStructure}
 use Rattle.table.specs.declared.Node.{Node}
 use Rattle.table.specs.Table.{at}
@@ -109,13 +109,13 @@ module _ (limit : ℕ) (t : List Node) (places : (i : ℕ) → i < limit → Pla
       ∙ rw (first-at t n) refl
 
 -- "all nodes hang under it", by the marks of the walk
-pub hung-by-rows : (limit : ℕ) (sheet : Size) (t : List Node) → placesB limit t ≡ true → topB limit sheet (at t 0) ≡ true
+pub hung-by-rows : (limit : ℕ) (settings : Settings) (t : List Node) → placesB limit t ≡ true → topB limit settings (at t 0) ≡ true
     → markedB limit (serialsOf t) (hangRows limit t limit (replicate limit 0)) ≡ hungB limit (serialsOf t) (firstsOf t) (nextsOf t)
 unfolding hungB
-hung-by-rows limit sheet t p h =
+hung-by-rows limit settings t p h =
     let none : List ℕ = replicate limit 0 in
     let serial = serialsOf t in
-    let same = rows-same limit t (places-says limit t .says p) (top-says limit sheet (at t 0) .says h .next) limit none (omega arith) in
+    let same = rows-same limit t (places-says limit t .says p) (top-says limit settings (at t 0) .says h .next) limit none (omega arith) in
     sym (marked-topped limit serial (hangRows limit t limit none))
     ∙ ap (markedB limit serial) same
     ∙ marked-topped limit serial (markRows limit (firstsOf t) (nextsOf t) limit none)

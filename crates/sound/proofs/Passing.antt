@@ -4,10 +4,10 @@ use mathlib.Core.List.{List}
 use mathlib.Core.Logic.{inl, inr, ⊎-elim}
 use Prim.Native.Nat.{ℕ, zero, suc, _+_, _<_}
 use native.Mathlib.Omega.{arith}
-use Rattle.piece.specs.declared.size.Size.{Size}
 use Rattle.piece.specs.declared.node.Datum.{Datum}
 use Rattle.piece.specs.declared.node.Kind.{Kind}
 use Rattle.piece.specs.declared.node.Kind.the-variants.{Free, Part, Structure}
+use Rattle.piece.specs.declared.settings.Settings.{Settings}
 use Rattle.piece.specs.Sides.{other}
 use Rattle.piece.specs.Row.{nil, grow}
 use Rattle.tree.specs.Tree.{Tree, In, At, count}
@@ -26,20 +26,20 @@ use Rattle.sound.proofs.RowsSay.{ChildNode, Siblings, step-is, RowOf, r
 use Rattle.sound.proofs.Means.{Passes}
 
 -- the rows of a sound tree are one level deeper each
-children-deep : (stages : ℕ) (q : Datum) (r : Tree) → Children stages q r → Deep (q .level + 1) r
-children-deep stages q nil h = tt
-children-deep stages q (grow p d k r) h = (
+children-deep : (settings : Settings) (q : Datum) (r : Tree) → Children settings q r → Deep (q .level + 1) r
+children-deep settings q nil h = tt
+children-deep settings q (grow p d k r) h = (
   h .0 .level,
-  subst (λ (l : ℕ). Deep (l + 1) k) (h .0 .level) (children-deep stages d k (h .2)),
-  children-deep stages q r (h .3),
+  subst (λ (l : ℕ). Deep (l + 1) k) (h .0 .level) (children-deep settings d k (h .2)),
+  children-deep settings q r (h .3),
 )
 
 -- the top of a sound tree is at place 0, and alone
-top-shape : (stages : ℕ) (sheet : Size) (w : Tree) → Topped stages sheet w → (d : Datum) × (k : Tree) × (w ≡ grow 0 d k nil)
-top-shape stages sheet nil h = absurd h
-top-shape stages sheet (grow p d k r) h = (d, k, λ i. grow (h .0 .place i) d k (h .0 .alone i))
+top-shape : (settings : Settings) (w : Tree) → Topped settings w → (d : Datum) × (k : Tree) × (w ≡ grow 0 d k nil)
+top-shape settings nil h = absurd h
+top-shape settings (grow p d k r) h = (d, k, λ i. grow (h .0 .place i) d k (h .0 .alone i))
 
-module _ (limit stages : ℕ) (t : List Node) where
+module _ (limit : ℕ) (settings : Settings) (t : List Node) where
   first-low : (q pv : ℕ) (k : Tree) → Rep limit t q pv k → (k ≡ nil → ⊥) → head limit k < limit
   first-low q pv nil rep n = absurd (n refl)
   first-low q pv (grow p d k r) rep n = rep .0
@@ -54,20 +54,20 @@ module _ (limit stages : ℕ) (t : List Node) where
       record { first = first-low p limit k rep (h .parent); unnumbered = h .unnumbered; sided = h .sided }
 
   -- the children of q from there on are walked with enough fuel
-  row-walked : (q m pv sum : ℕ) (r : Tree) → Rep limit t q pv r → Children stages (at t q .datum) r → at t q .last ≡ last pv r
+  row-walked : (q m pv sum : ℕ) (r : Tree) → Rep limit t q pv r → Children settings (at t q .datum) r → at t q .last ≡ last pv r
       → sum + extent (other (at t q .datum .cut)) r ≡ room (at t q) → ((i : ℕ) → In i r → Held t i) → count r < m
-      → Siblings limit stages t q m pv (head limit r) sum
+      → Siblings limit settings t q m pv (head limit r) sum
   row-walked q zero pv sum r rep ch e f held c = let no-fuel : ⊥ = omega arith in absurd no-fuel
   row-walked q (suc m) pv sum nil rep ch e f held c =
       ((λ l. record { none = refl; last = e; full = omega arith }), λ l. let no-place : ⊥ = omega arith in absurd no-place)
   row-walked q (suc m) pv sum (grow p d k r) rep ch e f held c =
-      let taken = step-is stages (at t p) (at t q .datum) d (ap (λ (x : Node). x .datum) (rep .1)) (ch .0) in
+      let taken = step-is settings (at t p) (at t q .datum) d (ap (λ (x : Node). x .datum) (rep .1)) (ch .0) in
       let rest = row-walked q m p (sum + step (at t p)) r (rep .3) (ch .3) e (omega arith) (λ i y. held i (inr (inr y))) (omega arith) in (
         (λ l. let b : p < limit = rep .0 in let no-end : ⊥ = omega arith in absurd no-end),
         λ l. (here, rw (ap (λ (x : Node). x .next) (rep .1)) rest),
       )
     where
-      here : ChildNode stages (at t q) q pv (at t p)
+      here : ChildNode settings (at t q) q pv (at t p)
       here =
           record {
             held = held p (inl refl);
@@ -78,10 +78,10 @@ module _ (limit stages : ℕ) (t : List Node) where
 
   -- a piece shows what it is, and so does its row
   abbrev Shown : ℕ → Type 0
-  Shown i = Place limit (at t i) × RowOf limit stages t i
+  Shown i = Place limit (at t i) × RowOf limit settings t i
 
   piece-shown : (q pv p : ℕ) (d : Datum) (k r : Tree) → Rep limit t q pv (grow p d k r) → Held t p → Kinded (d .kind) d k r
-      → Children stages d k → ((i : ℕ) → In i k → Held t i) → count k < limit → Shown p
+      → Children settings d k → ((i : ℕ) → In i k → Held t i) → count k < limit → Shown p
   piece-shown q pv p d k r rep h kinded below held c = (place, row)
     where
       place : Place limit (at t p)
@@ -91,14 +91,14 @@ module _ (limit stages : ℕ) (t : List Node) where
             piece = λ l. rw (rep .1) (kind-shown (d .kind) d p q pv k r (rep .2) kinded);
           }
 
-      row : RowOf limit stages t p
+      row : RowOf limit settings t p
       row l e =
           let s : StructurePiece d k = subst (λ (κ : Kind). Kinded κ d k r) (sym (ap (λ (x : Node). x .datum .kind) (rep .1)) ∙ e) kinded in
           let full : 0 + extent (other (at t p .datum .cut)) k ≡ room (at t p) = rw (rep .1) (omega (arith, s .filled)) in
           rw (ap (λ (x : Node). x .first) (rep .1))
           (row-walked p limit limit 0 k (rep .2) (rw (rep .1) below) (ap (λ (x : Node). x .last) (rep .1)) full held c)
 
-  row-shown : (q pv : ℕ) (r : Tree) → Rep limit t q pv r → Children stages (at t q .datum) r → ((i : ℕ) → In i r → Held t i) → count r < limit
+  row-shown : (q pv : ℕ) (r : Tree) → Rep limit t q pv r → Children settings (at t q .datum) r → ((i : ℕ) → In i r → Held t i) → count r < limit
       → (i : ℕ) → In i r → Shown i
   row-shown q pv nil rep ch held c i y = absurd y
   row-shown q pv (grow p d k r) rep ch held c i (inl e) =
@@ -115,24 +115,24 @@ module _ (limit stages : ℕ) (t : List Node) where
         λ l z. let no-serial : ⊥ = omega arith in absurd no-serial,
       )
 
-module _ (limit stages : ℕ) (sheet : Size) (t : List Node) where
-  passes-grow : (d : Datum) (k : Tree) → Holds limit t (grow 0 d k nil) → Topped stages sheet (grow 0 d k nil)
-      → ((i : ℕ) (e : Datum) → At i e (grow 0 d k nil) → 0 < e .serial) → Passes limit stages sheet t
+module _ (limit : ℕ) (settings : Settings) (t : List Node) where
+  passes-grow : (d : Datum) (k : Tree) → Holds limit t (grow 0 d k nil) → Topped settings (grow 0 d k nil)
+      → ((i : ℕ) (e : Datum) → At i e (grow 0 d k nil) → 0 < e .serial) → Passes limit settings t
   passes-grow d k h s serials =
       record {
         places = places-says limit t .passes (λ i b. shown i b .0);
-        top = top-says limit sheet (at t 0) .passes topmost;
-        rows = rows-says limit stages t .passes (λ i b. shown i b .1);
+        top = top-says limit settings (at t 0) .passes topmost;
+        rows = rows-says limit settings t .passes (λ i b. shown i b .1);
         hung = λ i b n y. let u = link .each i b y .hangs n in (at t i .parent, u .0, u .2);
       }
     where
       link : Linkage limit t
-      link = holds-linkage limit t (grow 0 d k nil) (refl, refl) h (s .0 .level, rw (s .0 .level) at (children-deep stages d k (s .1)), tt) serials
+      link = holds-linkage limit t (grow 0 d k nil) (refl, refl) h (s .0 .level, rw (s .0 .level) at (children-deep settings d k (s .1)), tt) serials
 
       held : (i : ℕ) → In i (grow 0 d k nil) → Held t i
       held i y = in-held limit t link i (rw (tree-is limit t (grow 0 d k nil) (refl, refl) h) y)
 
-      topmost : TopNode limit sheet (at t 0)
+      topmost : TopNode limit settings (at t 0)
       topmost =
           rw (h .rep .1)
           (record {
@@ -154,16 +154,16 @@ module _ (limit stages : ℕ) (sheet : Size) (t : List Node) where
       below : (i : ℕ) → In i k → Held t i
       below i y = held i (inr (inl y))
 
-      in-shown : (i : ℕ) → In i (grow 0 d k nil) → Shown limit stages t i
-      in-shown i (inl e) = rw e (piece-shown limit stages t limit limit 0 d k nil (h .rep) (held 0 (inl refl)) kinded (s .1) below few)
-      in-shown i (inr (inl y)) = row-shown limit stages t 0 limit k (h .rep .2) (rw (h .rep .1) (s .1)) below few i y
+      in-shown : (i : ℕ) → In i (grow 0 d k nil) → Shown limit settings t i
+      in-shown i (inl e) = rw e (piece-shown limit settings t limit limit 0 d k nil (h .rep) (held 0 (inl refl)) kinded (s .1) below few)
+      in-shown i (inr (inl y)) = row-shown limit settings t 0 limit k (h .rep .2) (rw (h .rep .1) (s .1)) below few i y
       in-shown i (inr (inr y)) = absurd y
 
-      shown : (i : ℕ) → i < limit → Shown limit stages t i
-      shown i b = ⊎-elim (in-shown i) (λ n. zero-shown limit stages t i (h .rest i b n)) (in? i (grow 0 d k nil))
+      shown : (i : ℕ) → i < limit → Shown limit settings t i
+      shown i b = ⊎-elim (in-shown i) (λ n. zero-shown limit settings t i (h .rest i b n)) (in? i (grow 0 d k nil))
 
-  pub sound-passes : (w : Tree) → Holds limit t w → Topped stages sheet w → ((i : ℕ) (e : Datum) → At i e w → 0 < e .serial)
-      → Passes limit stages sheet t
+  pub sound-passes : (w : Tree) → Holds limit t w → Topped settings w → ((i : ℕ) (e : Datum) → At i e w → 0 < e .serial)
+      → Passes limit settings t
   sound-passes w h s serials =
-      let g = top-shape stages sheet w s in
+      let g = top-shape settings w s in
       passes-grow (g .0) (g .1) (rw (g .2) at h) (rw (g .2) at s) (rw (g .2) at serials)

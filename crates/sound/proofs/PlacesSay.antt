@@ -10,6 +10,7 @@ use Rattle.piece.specs.declared.size.Size.{Size}
 use Rattle.piece.specs.declared.node.Datum.{Datum}
 use Rattle.piece.specs.declared.node.Kind.{Kind}
 use Rattle.piece.specs.declared.node.Kind.the-variants.{Free, Part, Structure}
+use Rattle.piece.specs.declared.settings.Settings.{Settings}
 use Rattle.tree.specs.Tree.{isFree, isStructure}
 use Rattle.tree.specs.Sound.{maxNumber, Sided}
 use Rattle.tree.proofs.Pieces.{sided}
@@ -141,21 +142,21 @@ unfolding placesB
 places-says limit t = every-says (λ i. place-says limit (at t i)) limit
 
 -- what the top shows by itself
-pub record TopNode (limit : ℕ) (sheet : Size) (n : Node) : Type 0 where
+pub record TopNode (limit : ℕ) (settings : Settings) (n : Node) : Type 0 where
   pub held : 0 < n .datum .serial
   pub level : n .datum .level ≡ 0
   pub kind : n .datum .kind ≡ Structure
-  pub size : n .datum .size ≡ sheet
+  pub size : n .datum .size ≡ settings .sheet
   pub parent : n .parent ≡ limit
   pub prev : n .prev ≡ limit
   pub next : n .next ≡ limit
 
-pub top-says : (limit : ℕ) (sheet : Size) (n : Node) → Says (topB limit sheet n) (TopNode limit sheet n)
+pub top-says : (limit : ℕ) (settings : Settings) (n : Node) → Says (topB limit settings n) (TopNode limit settings n)
 unfolding topB
-top-says limit sheet n =
+top-says limit settings n =
     let s =
     and-says (some-says (n .datum .serial)) (and-says (eq-says (n .datum .level) 0) (and-says (structure-says (n .datum .kind))
-    (and-says (eq-says (n .datum .size .width) (sheet .width)) (and-says (eq-says (n .datum .size .height) (sheet .height))
+    (and-says (eq-says (n .datum .size .width) (settings .sheet .width)) (and-says (eq-says (n .datum .size .height) (settings .sheet .height))
     (and-says (eq-says (n .parent) limit) (and-says (eq-says (n .prev) limit) (eq-says (n .next) limit)))))))
     in
     worded s

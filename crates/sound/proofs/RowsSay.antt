@@ -7,6 +7,7 @@ use Rattle.piece.specs.declared.orientation.Orientation.{Orientation}
 use Rattle.piece.specs.declared.orientation.Orientation.the-variants.{Horizontal, Vertical}
 use Rattle.piece.specs.declared.node.Datum.{Datum}
 use Rattle.piece.specs.declared.node.Kind.the-variants.{Structure}
+use Rattle.piece.specs.declared.settings.Settings.{Settings}
 use Rattle.piece.specs.Sides.{other, laid}
 use Rattle.tree.specs.Sound.{Child}
 use Rattle.tree.proofs.Pieces.{child}
@@ -23,19 +24,19 @@ cut-says Vertical Horizontal = worded false-says absurd (λ e. clash (cc))
 cut-says Vertical Vertical = true-says refl
 
 -- n is a child of q, which is `up`, after the sibling pv
-pub record ChildNode (stages : ℕ) (up : Node) (q pv : ℕ) (n : Node) : Type 0 where
+pub record ChildNode (settings : Settings) (up : Node) (q pv : ℕ) (n : Node) : Type 0 where
   pub held : 0 < n .datum .serial
   pub parent : n .parent ≡ q
   pub prev : n .prev ≡ pv
-  pub piece : Child stages (up .datum) (n .datum)
+  pub piece : Child settings (up .datum) (n .datum)
 
-child-says : (stages : ℕ) (up : Node) (q pv : ℕ) (n : Node) → Says (childB stages up q pv n) (ChildNode stages up q pv n)
+child-says : (settings : Settings) (up : Node) (q pv : ℕ) (n : Node) → Says (childB settings up q pv n) (ChildNode settings up q pv n)
 unfolding childB
-child-says stages up q pv n =
+child-says settings up q pv n =
     let c = n .datum .cut in
     let s =
     and-says (some-says (n .datum .serial)) (and-says (eq-says (n .parent) q) (and-says (eq-says (n .prev) pv)
-    (and-says (eq-says (n .datum .level) (up .datum .level + 1)) (and-says (le-says (n .datum .level) stages)
+    (and-says (eq-says (n .datum .level) (up .datum .level + 1)) (and-says (le-says (n .datum .level) (settings .stages))
     (and-says (cut-says c (other (up .datum .cut)))
     (eq-says (laid c (n .datum .size) .height) (laid c (up .datum .size) .height)))))))
     in
@@ -50,8 +51,8 @@ child-says stages up q pv n =
     (λ h. (h .held, (h .parent, (h .prev, (h .piece .level, (h .piece .stage, (h .piece .cut, h .piece .side)))))))
 
 -- what a child takes of its parent's side
-pub step-is : (stages : ℕ) (n : Node) (q d : Datum) → n .datum ≡ d → Child stages q d → step n ≡ laid (other (q .cut)) (d .size) .width
-step-is stages n q d e h = rw e (ap (λ (c : Orientation). laid c (d .size) .width) (h .cut))
+pub step-is : (settings : Settings) (n : Node) (q d : Datum) → n .datum ≡ d → Child settings q d → step n ≡ laid (other (q .cut)) (d .size) .width
+step-is settings n q d e h = rw e (ap (λ (c : Orientation). laid c (d .size) .width) (h .cut))
 
 -- a row ends at p, after pv, where `sum` is taken
 pub record End (limit : ℕ) (up : Node) (pv p sum : ℕ) : Type 0 where
@@ -67,29 +68,29 @@ end-says limit up pv p sum =
     (λ h. (h .none, (h .last, h .full)))
 
 -- the siblings from p on, fewer than so many, are children of q after pv, and end as they should, where `sum` is taken before them
-abbrev pub Siblings : ℕ → ℕ → List Node → ℕ → ℕ → ℕ → ℕ → ℕ → Type 0
-Siblings limit stages t q zero pv p sum = ⊥
-Siblings limit stages t q (suc m) pv p sum =
+abbrev pub Siblings : ℕ → Settings → List Node → ℕ → ℕ → ℕ → ℕ → ℕ → Type 0
+Siblings limit settings t q zero pv p sum = ⊥
+Siblings limit settings t q (suc m) pv p sum =
     (limit ≤ p → End limit (at t q) pv p sum)
     × (p < limit
-    → ChildNode stages (at t q) q pv (at t p) × Siblings limit stages t q m p (at t p .next) (sum + step (at t p)))
+    → ChildNode settings (at t q) q pv (at t p) × Siblings limit settings t q m p (at t p .next) (sum + step (at t p)))
 
-module _ (limit stages : ℕ) (t : List Node) where
-  chain-says : (q m pv p sum : ℕ) → Says (chainB limit stages t q m pv p sum) (Siblings limit stages t q m pv p sum)
+module _ (limit : ℕ) (settings : Settings) (t : List Node) where
+  chain-says : (q m pv p sum : ℕ) → Says (chainB limit settings t q m pv p sum) (Siblings limit settings t q m pv p sum)
   unfolding chainB
   chain-says q zero pv p sum = false-says
   chain-says q (suc m) pv p sum =
       worded
       (if-says (le-says limit p) (end-says limit (at t q) pv p sum)
-      (guard-says (child-says stages (at t q) q pv (at t p)) (chain-says q m p (at t p .next) (sum + step (at t p)))))
+      (guard-says (child-says settings (at t q) q pv (at t p)) (chain-says q m p (at t p .next) (sum + step (at t p)))))
       (λ h. (h .0, λ l. h .1 (λ n. omega arith)))
       (λ h. (h .0, λ n. h .1 (omega arith)))
 
   -- the row of a held structure
   abbrev pub RowOf : ℕ → Type 0
-  RowOf q = 0 < at t q .datum .serial → at t q .datum .kind ≡ Structure → Siblings limit stages t q limit limit (at t q .first) 0
+  RowOf q = 0 < at t q .datum .serial → at t q .datum .kind ≡ Structure → Siblings limit settings t q limit limit (at t q .first) 0
 
-  row-says : (q : ℕ) → Says (rowB limit stages t q) (RowOf q)
+  row-says : (q : ℕ) → Says (rowB limit settings t q) (RowOf q)
   row-says q =
       worded
       (if-says (and-says (some-says (at t q .datum .serial)) (structure-says (at t q .datum .kind)))
@@ -97,6 +98,6 @@ module _ (limit stages : ℕ) (t : List Node) where
       (λ h a b. h .0 (a, b))
       (λ h. ((λ a. h (a .0) (a .1)), λ n. tt))
 
-  pub rows-says : Says (rowsB limit stages t) ((q : ℕ) → q < limit → RowOf q)
+  pub rows-says : Says (rowsB limit settings t) ((q : ℕ) → q < limit → RowOf q)
   unfolding rowsB
   rows-says = every-says row-says limit

@@ -9,6 +9,7 @@ use Rattle.piece.specs.declared.size.Size.{Size}
 use Rattle.piece.specs.declared.node.Datum.{Datum}
 use Rattle.piece.specs.declared.node.Kind.{Kind}
 use Rattle.piece.specs.declared.node.Kind.the-variants.{Free, Part, Structure}
+use Rattle.piece.specs.declared.settings.Settings.{Settings}
 use Rattle.lists.specs.Search.{every}
 use Rattle.tree.specs.Tree.{isFree, isStructure}
 use Rattle.tree.specs.Sound.{maxNumber}
@@ -53,8 +54,8 @@ unfoldable pub placesB : ℕ → List Node → Bool
 placesB limit t = every (λ (i : ℕ). placeB limit (at t i)) limit
 
 -- "the top is at place 0 and level 0, is no part, has the sheet's size and at least one child"
-unfoldable pub topB : ℕ → Size → Node → Bool
-topB limit sheet n =
+unfoldable pub topB : ℕ → Settings → Node → Bool
+topB limit settings n =
     not (eqb (n .datum .serial) 0) && (eqb (n .datum .level) 0 && (isStructure (n .datum .kind)
-    && (eqb (n .datum .size .width) (sheet .width) && (eqb (n .datum .size .height) (sheet .height)
+    && (eqb (n .datum .size .width) (settings .sheet .width) && (eqb (n .datum .size .height) (settings .sheet .height)
     && (eqb (n .parent) limit && (eqb (n .prev) limit && eqb (n .next) limit))))))

@@ -6,6 +6,7 @@ ghost use Rattle.sound.specs.Places.{isHorizontal, kindB, leafB, placeB,
 use piece::node::Datum;
 use piece::node::Kind;
 use piece::orientation::Orientation;
+use piece::settings::Settings;
 use piece::size::Size;
 use table::NONE;
 use table::Node;
@@ -161,8 +162,8 @@ pub fn place_ok(n: Node) -> bool
 }
 
 // Whether the node at place 0 is a top with the sheet's size.
-pub fn top_ok(n: Node, sheet: Size) -> bool
-    ensures { λ r. ⌜ r ≡ topB limit sheet n ⌝ }
+pub fn top_ok(n: Node, settings: Settings) -> bool
+    ensures { λ r. ⌜ r ≡ topB limit settings n ⌝ }
 {
     let d = n.datum;
     if d.serial == 0 {
@@ -175,10 +176,10 @@ pub fn top_ok(n: Node, sheet: Size) -> bool
     if is_structure(kind) {} else {
         return false;
     }
-    if d.size.width != sheet.width {
+    if d.size.width != settings.sheet.width {
         return false;
     }
-    if d.size.height != sheet.height {
+    if d.size.height != settings.sheet.height {
         return false;
     }
     if n.parent != NONE {

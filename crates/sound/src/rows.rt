@@ -6,6 +6,7 @@ ghost use Rattle.sound.specs.Hung.{hangRows};
 ghost use Rattle.sound.specs.Rows.{childB, endB, parentB, room, rowsB, sameCut, step};
 use crate::places::is_structure;
 use piece::orientation::Orientation;
+use piece::settings::Settings;
 use table::LIMIT;
 use table::NONE;
 use table::Node;
@@ -26,8 +27,8 @@ fn same_cut(a: Orientation, b: Orientation) -> bool
 }
 
 // Whether n is a child of q, which is `up`, after the sibling pv.
-fn child_ok(stages: u8, up: Node, q: u16, pv: u16, n: Node) -> bool
-    ensures { λ r. ⌜ r ≡ childB stages up q pv n ⌝ }
+fn child_ok(settings: Settings, up: Node, q: u16, pv: u16, n: Node) -> bool
+    ensures { λ r. ⌜ r ≡ childB settings up q pv n ⌝ }
 {
     let d = n.datum;
     let parent = up.datum;
@@ -45,7 +46,7 @@ fn child_ok(stages: u8, up: Node, q: u16, pv: u16, n: Node) -> bool
     if level != above + 1 {
         return false;
     }
-    if stages < d.level {
+    if settings.stages < d.level {
         return false;
     }
     let cut = d.cut;
@@ -105,8 +106,8 @@ fn ends_ok(up: Node, pv: u16, p: u16, sum: u64) -> bool
 }
 
 // Every row of a held structure is linked and filled; where all are, their places are marked.
-pub fn rows_ok(nodes: [Node; LIMIT], stages: u8, hung: &mut [u8; LIMIT]) -> bool
-    ensures says { λ r. ⌜ r ≡ rowsB limit stages nodes ⌝ }
+pub fn rows_ok(nodes: [Node; LIMIT], settings: Settings, hung: &mut [u8; LIMIT]) -> bool
+    ensures says { λ r. ⌜ r ≡ rowsB limit settings nodes ⌝ }
     ensures marked { λ r. ⌜ (r ≡ true → now (hung .exit) ≡ hangRows limit nodes limit (now (hung .entry))) ⌝ }
 {
     let mut ok = true;
@@ -123,7 +124,7 @@ pub fn rows_ok(nodes: [Node; LIMIT], stages: u8, hung: &mut [u8; LIMIT]) -> bool
             while p < NONE && 0 < left {
                 let here = p as usize;
                 let n = nodes[here];
-                if child_ok(stages, up, above, pv, n) {} else {
+                if child_ok(settings, up, above, pv, n) {} else {
                     ok = false;
                     break 'all;
                 }

@@ -37,7 +37,7 @@ returns-4 c =
 returns-5 : tie.Need-returns-5
 unfolding childB
 returns-5 c =
-    let c4 = c .before .before in
+    let c4 = c .before .before .before in
     let c3 = c4 .before .before .before in
     let c2 = c3 .before .before in
     let c1 = c2 .before .before in
@@ -51,7 +51,7 @@ returns-6 : tie.Need-returns-6
 unfolding childB
 returns-6 c =
     let c5 = c .before .before .before in
-    let c4 = c5 .before .before in
+    let c4 = c5 .before .before .before in
     let c3 = c4 .before .before .before in
     let c2 = c3 .before .before in
     let c1 = c2 .before .before in
@@ -69,7 +69,7 @@ unfolding childB
 returns-7 c =
     let c6 = c .before .before .before .before .before .before in
     let c5 = c6 .before .before .before in
-    let c4 = c5 .before .before in
+    let c4 = c5 .before .before .before in
     let c3 = c4 .before .before .before in
     let c2 = c3 .before .before in
     let c1 = c2 .before .before in

@@ -21,22 +21,22 @@ use Rattle.sound.proofs.rows.rows_ok.Statement.{statement}
 use Rattle.sound.proofs.rows.rows_ok.Tie as tie
 
 abbrev Inv-loop : tie.InvT-loop
-Inv-loop stages hung₀ nodes ok₀ q up above pv₀ p₀ sum₀ left₀ hung ok pv p sum left =
+Inv-loop settings hung₀ nodes ok₀ q up above pv₀ p₀ sum₀ left₀ hung ok pv p sum left =
     (left ≤ limit)
     × (ok ≡ true)
     × (sum + left * 4294967296 ≤ limit * 4294967296)
-    × (chainB limit stages nodes q left pv p sum ≡ chainB limit stages nodes q limit limit (at nodes q .first) 0)
+    × (chainB limit settings nodes q left pv p sum ≡ chainB limit settings nodes q limit limit (at nodes q .first) 0)
     × (markRow limit (nextsOf nodes) left p hung ≡ markRow limit (nextsOf nodes) limit (at nodes q .first) hung₀)
 
 abbrev μ-loop : tie.MeasureT-loop
-μ-loop stages hung₀ nodes ok₀ q up above pv₀ p₀ sum₀ left₀ hung ok pv p sum left = left
+μ-loop settings hung₀ nodes ok₀ q up above pv₀ p₀ sum₀ left₀ hung ok pv p sum left = left
 
 abbrev Inv-all : tie.InvT-all
-Inv-all stages hung₀ nodes ok₀ q₀ hung ok q =
-    (q ≤ limit) × (ok ≡ true) × (every (rowB limit stages nodes) q ≡ true) × (hung ≡ hangRows limit nodes q hung₀)
+Inv-all settings hung₀ nodes ok₀ q₀ hung ok q =
+    (q ≤ limit) × (ok ≡ true) × (every (rowB limit settings nodes) q ≡ true) × (hung ≡ hangRows limit nodes q hung₀)
 
 abbrev μ-all : tie.MeasureT-all
-μ-all stages hung₀ nodes ok₀ q₀ hung ok q = limit - q
+μ-all settings hung₀ nodes ok₀ q₀ hung ok q = limit - q
 
 all-holds : tie.Need-all-holds Inv-loop μ-loop Inv-all μ-all
 all-holds c = (omega arith, refl, every-none _, sym (hang-none limit (c .args .t1) (c .args .hung .now)))
@@ -66,11 +66,11 @@ loop-again c =
     let h : 0 < l .left = some c in
     let in-row = t2 .before .loop-test .taken in
     let child = c .before .before .child-ok .ensures in
-    let on = chain-on limit (a .stages) (a .t1) (o .q) (l .left) (l .pv) (l .p) (l .sum) h in-row child (c .before .if3 .taken) in (
+    let on = chain-on limit (a .settings) (a .t1) (o .q) (l .left) (l .pv) (l .p) (l .sum) h in-row child (c .before .if3 .taken) in (
       omega arith,
       l .inv .1,
       omega (arith, c .step-of .ok),
-      ap (λ (s : ℕ). chainB limit (a .stages) (a .t1) (o .q) (l .left - 1) (l .p) (at (a .t1) (l .p) .next) (l .sum + s)) (c .step-of .ensures)
+      ap (λ (s : ℕ). chainB limit (a .settings) (a .t1) (o .q) (l .left - 1) (l .p) (at (a .t1) (l .p) .next) (l .sum + s)) (c .step-of .ensures)
           ∙ sym on
           ∙ l .inv .3,
       sym (hang-on limit (a .t1) (l .left) (l .p) (l .hung) h in-row) ∙ l .inv .4,
@@ -80,7 +80,7 @@ all-again : tie.Need-all-again Inv-loop μ-loop Inv-all μ-all
 all-again c =
     let o = c .before .before .before .before .all in
     let a = c .before .before .before .before .before .args in
-    let more = every-more (rowB limit (a .stages) (a .t1)) (o .q) (o .inv .2) in
+    let more = every-more (rowB limit (a .settings) (a .t1)) (o .q) (o .inv .2) in
     let parent = c .before .is-parent .ensures in
     ⊎-elim
     (λ w.
@@ -88,11 +88,11 @@ all-again c =
     let stopped : (limit ≤ l .p) ⊎ (l .left ≤ 0) =
     ⊎-elim (λ v. inr (ltb-false 0 (l .left) (v .1 .left))) (λ v. inl (v .left)) (w .2 .came)
     in
-    let ends = chain-ends limit (a .stages) (a .t1) (o .q) (l .left) (l .pv) (l .p) (l .sum) stopped in
+    let ends = chain-ends limit (a .settings) (a .t1) (o .q) (l .left) (l .pv) (l .p) (l .sum) stopped in
     let row = sym (l .inv .3) ∙ ends (w .3 .ensures) (w .4 .taken) (ltb-true 0 (l .left) (w .5 .taken)) in (
       omega arith,
       w .7 ∙ l .inv .1,
-      more (row-is limit (a .stages) (a .t1) (o .q) parent (w .0 .taken) row),
+      more (row-is limit (a .settings) (a .t1) (o .q) parent (w .0 .taken) row),
       w .6
           ∙ sym (hang-over limit (a .t1) (l .left) (l .p) (l .hung) stopped)
           ∙ l .inv .4
@@ -102,7 +102,7 @@ all-again c =
     (λ w. (
       omega arith,
       w .2 ∙ o .inv .1,
-      more (row-none limit (a .stages) (a .t1) (o .q) parent (w .0 .left)),
+      more (row-none limit (a .settings) (a .t1) (o .q) parent (w .0 .left)),
       w .1 ∙ o .inv .3 ∙ sym (hang-skip limit (a .t1) (o .q) (a .hung .now) parent (w .0 .left)),
     ))
     (c .if1 .came)
@@ -122,11 +122,11 @@ returns-2 c =
     let t1 = t2 .before .before .before in
     let o = t1 .before .before .before .before .all in
     let a = t1 .before .before .before .before .before .args in
-    let bad = chain-bad limit (a .stages) (a .t1) (o .q) (l .left) (l .pv) (l .p) (l .sum) (t2 .before .loop-test .taken) in
+    let bad = chain-bad limit (a .settings) (a .t1) (o .q) (l .left) (l .pv) (l .p) (l .sum) (t2 .before .loop-test .taken) in
     let row = sym (l .inv .3) ∙ bad (c .before .child-ok .ensures) (c .if3 .left) in (
       sym
-          (every-fails (rowB limit (a .stages) (a .t1)) limit (o .q) (omega arith)
-          (row-is limit (a .stages) (a .t1) (o .q) (t1 .before .is-parent .ensures) (t1 .if1 .taken) row)),
+          (every-fails (rowB limit (a .settings) (a .t1)) limit (o .q) (omega arith)
+          (row-is limit (a .settings) (a .t1) (o .q) (t1 .before .is-parent .ensures) (t1 .if1 .taken) row)),
       λ e. absurd (clash e),
     )
 
@@ -143,11 +143,11 @@ returns-3 c =
     let failed : (c .before .ends-ok .result ≡ false) ⊎ (l .left ≤ 0) =
     ⊎-elim (λ w. inr (ltb-false 0 (l .left) (w .1 .left))) (λ w. inl (w .left)) (c .if4 .came)
     in
-    let fails = chain-fails limit (a .stages) (a .t1) (o .q) (l .left) (l .pv) (l .p) (l .sum) stopped (c .before .ends-ok .ensures) failed in
+    let fails = chain-fails limit (a .settings) (a .t1) (o .q) (l .left) (l .pv) (l .p) (l .sum) stopped (c .before .ends-ok .ensures) failed in
     let row = sym (l .inv .3) ∙ fails in (
       sym
-          (every-fails (rowB limit (a .stages) (a .t1)) limit (o .q) (omega arith)
-          (row-is limit (a .stages) (a .t1) (o .q) (t1 .before .is-parent .ensures) (t1 .if1 .taken) row)),
+          (every-fails (rowB limit (a .settings) (a .t1)) limit (o .q) (omega arith)
+          (row-is limit (a .settings) (a .t1) (o .q) (t1 .before .is-parent .ensures) (t1 .if1 .taken) row)),
       λ e. absurd (clash e),
     )
 
