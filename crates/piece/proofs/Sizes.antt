@@ -1,6 +1,6 @@
 -- Laws of sizes: what stays of a size, whatever cut it is laid by, and how great its area can be.
 use mathlib.Core.Path.{_≡_, refl, subst⁻¹}
-use mathlib.Core.Bool.{Bool, true, false, _&&_, and-comm, false≢true}
+use mathlib.Core.Bool.{true, and-comm}
 use Prim.Native.Nat.{ℕ, _+_, _*_, _^_, _≤_, _<_}
 use native.Mathlib.Nat.{mul-comm, lt-of-le-of-lt, mul-le-mul-left, mul-lt-mul-of-pos-right, le-of-lt}
 use native.Mathlib.Omega.{arith}
@@ -12,6 +12,7 @@ use Rattle.piece.specs.declared.orientation.Orientation.the-variants.{Ho
 use Rattle.piece.specs.declared.size.Size.{Size}
 use Rattle.piece.specs.Sides.{other, exchanged, laid, area}
 use Rattle.piece.specs.Offers.{fits}
+use Rattle.piece.proofs.Tests.{both}
 
 pub other-twice : (c : Orientation) → other (other c) ≡ c
 other-twice Horizontal = refl
@@ -38,10 +39,6 @@ pub fits-sides : (piece part : Size) → fits piece part ≡ true → (part .wid
 fits-sides piece part f =
     let b = both (leb (part .width) (piece .width)) (leb (part .height) (piece .height)) f in
     (leb-true _ _ (b .0), leb-true _ _ (b .1))
-  where
-    both : (a b : Bool) → (a && b) ≡ true → (a ≡ true) × (b ≡ true)
-    both true b e = (refl, e)
-    both false b e = absurd (false≢true e)
 
 -- the product of two numbers of k bits has 2 k bits
 pub below : (k : ℕ) {a b : ℕ} → a < 2 ^ k → b < 2 ^ k → a * b < 2 ^ (k + k)

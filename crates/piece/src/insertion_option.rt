@@ -1,6 +1,8 @@
-// The offers of a free piece for a part. Rust: core/insertion/insertion_option.rs, with the shapes of core/entities/node.rs.
+// The offers of a free piece for a part, and whether a rotation and a shape are among them. Rust: core/insertion/insertion_option.rs, with the shapes of core/entities/node.rs.
 ghost use mathlib.Core.Path.{_≡_};
 ghost use Prim.Native.Nat.{_<_, _≤_};
+ghost use lib.ListN.{take};
+ghost use Rattle.piece.specs.Offered.{amongB, offeredB, sameOffer};
 ghost use Rattle.piece.specs.Offers.{held, inRotation, noOffers, offer, offersIn, offersOf, shapes, withOffer, withOffers};
 use crate::insertion_blueprint::InsertionShape;
 use crate::node::Datum;
@@ -106,4 +108,47 @@ pub fn offers(piece: Datum, part: PartType, settings: Settings) -> OfferList
 {
     let first = OfferList::none().with_rotation(piece, part, settings, Rotation::Default);
     first.with_rotation(piece, part, settings, Rotation::Rotated)
+}
+
+// Whether a rotation and a shape are among the offers.
+
+fn same_offer(rotation: Rotation, shape: InsertionShape, offer: Offer) -> bool
+    ensures { λ r. ⌜ r ≡ sameOffer rotation shape offer ⌝ }
+{
+    let r = offer.rotation;
+    let s = offer.shape;
+    if r.number() == rotation.number() {
+        s.number() == shape.number()
+    } else {
+        false
+    }
+}
+
+// One of the offers is this one.
+fn is_among(rotation: Rotation, shape: InsertionShape, offers: OfferList) -> bool
+    requires { ⌜ offers .count ≤ 4 ⌝ }
+    ensures { λ r. ⌜ r ≡ amongB rotation shape (take (offers .count) (offers .list)) ⌝ }
+{
+    let count = offers.count;
+    let mut i: usize = 0;
+    while i < count {
+        if same_offer(rotation, shape, offers.list[i]) {
+            return true;
+        }
+        i += 1;
+    }
+    false
+}
+
+// The free piece offers the part in this rotation and shape.
+pub fn is_offered(
+    piece: Datum,
+    part: PartType,
+    settings: Settings,
+    rotation: Rotation,
+    shape: InsertionShape,
+) -> bool
+    ensures { λ r. ⌜ r ≡ offeredB piece part settings rotation shape ⌝ }
+{
+    is_among(rotation, shape, offers(piece, part, settings))
 }

@@ -1,12 +1,12 @@
--- `offered::is_offered` meets its contract. Assumes nothing.
+-- `insertion_option::is_offered` meets its contract. Assumes nothing.
 use mathlib.Core.Path.{_≡_, refl, sym, ap, _∙_}
 use native.Mathlib.Omega.{arith}
 use borrow.Author.Needs.{needs}
 use Rattle.piece.specs.Offers.{offersOf}
 use Rattle.piece.proofs.Offered.{offers-few, held-count, held-whole}
-use Rattle.booking.specs.Offered.{amongB, offeredB}
-use Rattle.booking.proofs.offered.is_offered.Statement.{statement}
-use Rattle.booking.proofs.offered.is_offered.Tie as tie
+use Rattle.piece.specs.Offered.{amongB, offeredB}
+use Rattle.piece.proofs.insertion_option.is_offered.Statement.{statement}
+use Rattle.piece.proofs.insertion_option.is_offered.Tie as tie
 
 is-among-requires : tie.Need-is-among-requires
 is-among-requires c κs =

@@ -1,27 +1,25 @@
 -- What is offered: a rotation and a shape among the offers of a free piece. What is offered can be booked: it fits. Assumes nothing.
-use mathlib.Core.Path.{_≡_, refl, sym, subst}
-use mathlib.Core.Bool.{Bool, true, false, cond, _&&_, _||_}
+use mathlib.Core.Path.{_≡_, refl, sym, ap, _∙_, subst}
+use mathlib.Core.Bool.{Bool, true, false, cond, _&&_, _||_, or-true, false≢true}
 use mathlib.Core.List.{List, [], _∷_, _++_, List·Memᴰ, List·Memᴰ·head, List·Memᴰ·tail}
 use mathlib.Core.Logic.{_⊎_, inl, inr, ⊎-elim}
 use Prim.Native.Nat.{ℕ, zero, suc, _+_, _<_, _≤_}
 use native.Mathlib.Numerals.{add-one}
 use native.Mathlib.Omega.{arith}
 use lib.ListN.{getD, length, take}
+use borrow.Author.Tests.{eqb-true}
 use Rattle.piece.specs.declared.rotation.Rotation.{Rotation}
 use Rattle.piece.specs.declared.rotation.Rotation.the-variants.{Default, Rotated}
 use Rattle.piece.specs.declared.parttype.PartType.{PartType}
 use Rattle.piece.specs.declared.node.Datum.{Datum}
 use Rattle.piece.specs.declared.insertion_blueprint.InsertionShape.{InsertionShape}
-use Rattle.piece.specs.declared.insertion_blueprint.InsertionShape.the-variants.{AlongCurrentCut, AcrossCurrentCut, AlongThenAcross, AcrossThenAlong}
 use Rattle.piece.specs.declared.insertion_option.Offer.{Offer}
 use Rattle.piece.specs.declared.settings.Settings.{Settings}
+use Rattle.piece.specs.Numbers.{rotationNo, shapeNo, rotationOf, shapeOf}
 use Rattle.piece.specs.Offers.{allowed, along, across, fits, inRotation, noOffer, offersIn, offersOf, shapes, turned}
-use Rattle.lists.proofs.Scan.{clash, and-left, and-right}
-use Rattle.booking.specs.Offered.{sameRotation, sameShape, sameOffer, amongB, offeredB}
-
-or-true : (b : Bool) → (b || true) ≡ true
-or-true true = refl
-or-true false = refl
+use Rattle.piece.specs.Offered.{sameRotation, sameShape, sameOffer, amongB, offeredB}
+use Rattle.piece.proofs.Tests.{both}
+use Rattle.piece.proofs.Numbers.{rotation-back, shape-back}
 
 module _ (r : Rotation) (s : InsertionShape) where
   -- an offer that is found among the first n
@@ -51,28 +49,10 @@ module _ (r : Rotation) (s : InsertionShape) where
 -- ---- what is offered fits
 
 same-rotation-is : (a b : Rotation) → sameRotation a b ≡ true → a ≡ b
-same-rotation-is Default Default e = refl
-same-rotation-is Default Rotated e = absurd (clash e)
-same-rotation-is Rotated Default e = absurd (clash e)
-same-rotation-is Rotated Rotated e = refl
+same-rotation-is a b e = sym (rotation-back a) ∙ ap rotationOf (eqb-true (rotationNo a) (rotationNo b) e) ∙ rotation-back b
 
 same-shape-is : (a b : InsertionShape) → sameShape a b ≡ true → a ≡ b
-same-shape-is AlongCurrentCut AlongCurrentCut e = refl
-same-shape-is AlongCurrentCut AcrossCurrentCut e = absurd (clash e)
-same-shape-is AlongCurrentCut AlongThenAcross e = absurd (clash e)
-same-shape-is AlongCurrentCut AcrossThenAlong e = absurd (clash e)
-same-shape-is AcrossCurrentCut AlongCurrentCut e = absurd (clash e)
-same-shape-is AcrossCurrentCut AcrossCurrentCut e = refl
-same-shape-is AcrossCurrentCut AlongThenAcross e = absurd (clash e)
-same-shape-is AcrossCurrentCut AcrossThenAlong e = absurd (clash e)
-same-shape-is AlongThenAcross AlongCurrentCut e = absurd (clash e)
-same-shape-is AlongThenAcross AcrossCurrentCut e = absurd (clash e)
-same-shape-is AlongThenAcross AlongThenAcross e = refl
-same-shape-is AlongThenAcross AcrossThenAlong e = absurd (clash e)
-same-shape-is AcrossThenAlong AlongCurrentCut e = absurd (clash e)
-same-shape-is AcrossThenAlong AcrossCurrentCut e = absurd (clash e)
-same-shape-is AcrossThenAlong AlongThenAcross e = absurd (clash e)
-same-shape-is AcrossThenAlong AcrossThenAlong e = refl
+same-shape-is a b e = sym (shape-back a) ∙ ap shapeOf (eqb-true (shapeNo a) (shapeNo b) e) ∙ shape-back b
 
 or-true-cases : (a b : Bool) → (a || b) ≡ true → (a ≡ true) ⊎ (b ≡ true)
 or-true-cases true b e = inl refl
@@ -92,13 +72,10 @@ among-either r s (o ∷ a) b e = go (sameOffer r s o) e (among-either r s a b)
 -- the offers in one rotation: it is that one, and the shape is one of the shapes
 among-rotation : (q r : Rotation) (s : InsertionShape) (ss : List InsertionShape) → amongB r s (inRotation q ss) ≡ true
     → (q ≡ r) × List·Memᴰ s ss
-among-rotation q r s [] e = absurd (clash e)
+among-rotation q r s [] e = absurd (false≢true e)
 among-rotation q r s (u ∷ us) e =
     ⊎-elim
-    (λ h. (
-      same-rotation-is q r (and-left (sameRotation q r) (sameShape u s) h),
-      List·Memᴰ·head (sym (same-shape-is u s (and-right (sameRotation q r) (sameShape u s) h))),
-    ))
+    (λ h. let g = both (sameRotation q r) (sameShape u s) h in (same-rotation-is q r (g .0), List·Memᴰ·head (sym (same-shape-is u s (g .1)))))
     (λ h. let g = among-rotation q r s us h in (g .0, List·Memᴰ·tail (g .1)))
     (or-true-cases (sameRotation q r && sameShape u s) (amongB r s (inRotation q us)) e)
 
@@ -121,15 +98,10 @@ module _ (d : Datum) (p : PartType) (settings : Settings) (r : Rotation) (s : In
           → Offers d p settings r s
       go true t e =
           let g = among-rotation q r s ss e in
-          let offers : Offers d p settings q s =
-          record {
-            allows = and-left (allowed (p .turn) q) (fits (d .size) (turned q (p .size))) t;
-            inside = and-right (allowed (p .turn) q) (fits (d .size) (turned q (p .size))) t;
-            shaped = g .1;
-          }
-          in
+          let h = both (allowed (p .turn) q) (fits (d .size) (turned q (p .size))) t in
+          let offers : Offers d p settings q s = record { allows = h .0; inside = h .1; shaped = g .1 } in
           subst (λ (z : Rotation). Offers d p settings z s) (g .0) offers
-      go false t e = absurd (clash e)
+      go false t e = absurd (false≢true e)
 
   pub offered-says : offeredB d p settings r s ≡ true → Offers d p settings r s
   unfolding offeredB offersOf

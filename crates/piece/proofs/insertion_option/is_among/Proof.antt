@@ -1,14 +1,14 @@
--- `offered::is_among` meets its contract: none of the offers that were passed is the one sought. Assumes nothing.
+-- `insertion_option::is_among` meets its contract: none of the offers that were passed is the one sought. Assumes nothing.
 use mathlib.Core.Path.{_≡_, refl, sym, _∙_}
 use mathlib.Core.Bool.{false}
 use Prim.Native.Nat.{_-_, _≤_}
 use native.Mathlib.Omega.{arith}
 use borrow.Author.Needs.{needs}
 use lib.ListN.{length, take, length-map}
-use Rattle.booking.specs.Offered.{amongB}
-use Rattle.booking.proofs.Offering.{among-at, among-more}
-use Rattle.booking.proofs.offered.is_among.Statement.{statement}
-use Rattle.booking.proofs.offered.is_among.Tie as tie
+use Rattle.piece.specs.Offered.{amongB}
+use Rattle.piece.proofs.Offering.{among-at, among-more}
+use Rattle.piece.proofs.insertion_option.is_among.Statement.{statement}
+use Rattle.piece.proofs.insertion_option.is_among.Tie as tie
 
 abbrev Inv-loop : tie.InvT-loop
 Inv-loop rotation shape offers count i₀ i = (i ≤ count) × (amongB rotation shape (take i (offers .list)) ≡ false)
