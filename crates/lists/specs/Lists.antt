@@ -2,7 +2,7 @@
 -- `sets l k vs` is l with vs written from k on. It says something of lists of every length, as the code does: a check knows of a lent array
 -- that it has `limit` entries where it is read or written, and not that its list is as long. proofs/Padded.antt has the steps on whole lists.
 use mathlib.Core.List.{List, [], _∷_, _++_}
-use Prim.Native.Nat.{ℕ, _+_, _-_}
+use Prim.Native.Nat.{ℕ, zero, suc, _+_, _-_}
 use lib.ListN.{getD, set, length, take, drop, replicate}
 use lib.Seq.{sets}
 
@@ -13,6 +13,11 @@ limit = 255
 -- n zeros
 abbrev pub zeros : ℕ → List ℕ
 zeros n = replicate n 0
+
+-- the first n entries of a list, where 0 stands for what is not there: on a list that is long enough it is `take` (walks/proofs/Entries.antt)
+unfoldable pub entries : ℕ → List ℕ → List ℕ
+entries zero l = []
+entries (suc n) l = entries n l ++ (getD l n 0 ∷ [])
 
 -- the entries that count, and zeros up to the bound
 unfoldable pub padded : ℕ → List ℕ → List ℕ

@@ -14,7 +14,8 @@ use Rattle.piece.specs.declared.node.Kind.the-variants.{Free, Part, Structure}
 use Rattle.piece.specs.declared.settings.Settings.{Settings}
 use Rattle.piece.specs.Sides.{other, laid, area}
 use Rattle.piece.specs.Row.{nil, grow}
-use Rattle.tree.specs.Tree.{Tree, isFree, isPart}
+use Rattle.piece.specs.Kinds.{isFree, isPart}
+use Rattle.tree.specs.Tree.{Tree}
 use Rattle.tree.specs.Sound.{extent, StructurePiece, Kinded, Children}
 use Rattle.tree.specs.Figures.{partArea, freeArea}
 

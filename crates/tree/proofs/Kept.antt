@@ -11,7 +11,8 @@ use Rattle.piece.specs.declared.node.Kind.the-variants.{Free, Part, Structure}
 use Rattle.piece.specs.declared.settings.Settings.{Settings}
 use Rattle.piece.specs.Sides.{other, laid}
 use Rattle.piece.specs.Row.{nil, grow}
-use Rattle.tree.specs.Tree.{Tree, In, At, Distinct, count, isFree, change}
+use Rattle.piece.specs.Kinds.{isFree}
+use Rattle.tree.specs.Tree.{Tree, In, At, Distinct, count, change}
 use Rattle.tree.specs.Sound.{extent, FreePiece, StructurePiece, Kinded, Children, Topped}
 use Rattle.tree.proofs.Rows.{same?, in-eq, at-in}
 use Rattle.tree.proofs.Pieces.{free-piece, part-piece, structure-piece, top}

@@ -1,7 +1,7 @@
 -- A snapshot can be read back: from its bytes follow the pieces, in their order and each under its parent. Assumes nothing.
 use mathlib.Core.Path.{_≡_, refl, sym, ap, _∙_, subst}
 use mathlib.Core.List.{List, [], _∷_, _++_, append-assoc, append-nil}
-use Prim.Native.Nat.{ℕ, zero, suc, _+_, _/_, _%_, _≤_, _<_}
+use Prim.Native.Nat.{ℕ, _+_, _/_, _%_, _≤_, _<_}
 use native.Mathlib.Omega.{arith}
 use Rattle.piece.specs.declared.orientation.Orientation.{Orientation}
 use Rattle.piece.specs.declared.orientation.Orientation.the-variants.{Horizontal, Vertical}
@@ -12,9 +12,11 @@ use Rattle.piece.specs.declared.node.Kind.the-variants.{Free, Part, Structure}
 use Rattle.piece.specs.declared.settings.Settings.{Settings}
 use Rattle.piece.specs.Sides.{other, laid}
 use Rattle.piece.specs.Row.{nil, grow}
+use Rattle.piece.proofs.Numbers.{kind-back, cut-back}
+use Rattle.piece.specs.Numbers.{kindNo, cutNo, kindOf, cutOf}
 use Rattle.tree.specs.Tree.{Tree}
 use Rattle.tree.specs.Sound.{maxSide, maxNumber, extent, Kinded, Children, Sound}
-use Rattle.tree.specs.Snapshot.{kindNo, cutNo, two, four, nodeBytes, snapshot, Same, bare, shape}
+use Rattle.tree.specs.Snapshot.{two, four, nodeBytes, snapshot, Same, bare, shape}
 
 -- ---- one node
 
@@ -28,27 +30,6 @@ pub record Written (l : ℕ) (d : Datum) : Type 0 where
   pub level : d .level ≡ l
   pub number : d .number ≤ maxNumber
   pub small : Small (d .size)
-
--- the kind and the cut that a byte stands for
-kindOf : ℕ → Kind
-kindOf zero = Free
-kindOf (suc zero) = Part
-kindOf (suc (suc n)) = Structure
-
-kind-back : (x : Kind) → kindOf (kindNo x) ≡ x
-unfolding kindOf
-kind-back Free = refl
-kind-back Part = refl
-kind-back Structure = refl
-
-cutOf : ℕ → Orientation
-cutOf zero = Horizontal
-cutOf (suc n) = Vertical
-
-cut-back : (x : Orientation) → cutOf (cutNo x) ≡ x
-unfolding cutOf
-cut-back Horizontal = refl
-cut-back Vertical = refl
 
 -- what the bytes of a number say, and what follows them
 two-read : (v w : ℕ) {x y : List ℕ} → v ≤ maxNumber → w ≤ maxNumber → two v x ≡ two w y → (v ≡ w) × (x ≡ y)
@@ -80,8 +61,10 @@ node-read : {l m : ℕ} (d e : Datum) {x y : List ℕ} → Written l d → Writt
     → (bare d ≡ bare e) × (x ≡ y)
 unfolding nodeBytes
 node-read d e {x} {y} a b h =
-    let kind : d .kind ≡ e .kind = sym (kind-back (d .kind)) ∙ ap kindOf (cc) ∙ kind-back (e .kind) in
-    let cut : d .cut ≡ e .cut = sym (cut-back (d .cut)) ∙ ap cutOf (cc) ∙ cut-back (e .cut) in
+    let kinds : kindNo (d .kind) ≡ kindNo (e .kind) = cc in
+    let kind : d .kind ≡ e .kind = sym (kind-back (d .kind)) ∙ ap kindOf kinds ∙ kind-back (e .kind) in
+    let cuts : cutNo (d .cut) ≡ cutNo (e .cut) = cc in
+    let cut : d .cut ≡ e .cut = sym (cut-back (d .cut)) ∙ ap cutOf cuts ∙ cut-back (e .cut) in
     let rest : two (d .number) (sides d x) ≡ two (e .number) (sides e y) = cc in
     let number = two-read (d .number) (e .number) (a .number) (b .number) rest in
     let width = four-read (d .size .width) (e .size .width) (a .small .width) (b .small .width) (number .1) in

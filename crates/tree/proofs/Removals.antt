@@ -13,8 +13,9 @@ use Rattle.piece.specs.declared.settings.Settings.{Settings}
 use Rattle.piece.specs.Sides.{other, laid}
 use Rattle.piece.specs.Row.{nil, grow}
 use Rattle.piece.proofs.Sizes.{laid-twice}
-use Rattle.tree.specs.Tree.{Tree, At, Distinct, isFree, isNil, after}
+use Rattle.tree.specs.Tree.{Tree, At, Distinct, isNil, after}
 use Rattle.tree.specs.Sound.{Child, Children, Sound}
+use Rattle.piece.specs.Kinds.{isFree}
 use Rattle.tree.specs.Snapshot.{shape, bare}
 use Rattle.tree.specs.Removal.{freed, joined, board, lastFree, withoutLast, settled, remove}
 use Rattle.tree.specs.Apart.{Removable}

@@ -14,8 +14,9 @@ use Rattle.piece.specs.declared.node.Kind.the-variants.{Free, Part, Structure}
 use Rattle.piece.specs.declared.settings.Settings.{Settings}
 use Rattle.piece.specs.Sides.{sized, laid}
 use Rattle.piece.specs.Row.{nil, grow}
+use Rattle.piece.specs.Kinds.{isFree}
 use Rattle.piece.proofs.Sizes.{laid-twice}
-use Rattle.tree.specs.Tree.{Tree, In, Distinct, count, after, isFree, isNil, change}
+use Rattle.tree.specs.Tree.{Tree, In, Distinct, count, after, isNil, change}
 use Rattle.tree.specs.Sound.{extent, Kinded, Child, Children, Topped}
 use Rattle.tree.specs.Removal.{freed, joined, board, lastFree, withoutLast, settled, remove, left, cleared}
 use Rattle.tree.specs.Apart.{Removable}

@@ -9,7 +9,8 @@ use borrow.Author.Tests.{eq-eqb, ne-eqb}
 use Rattle.piece.specs.declared.node.Datum.{Datum}
 use Rattle.piece.specs.declared.settings.Settings.{Settings}
 use Rattle.piece.specs.Row.{nil, grow}
-use Rattle.tree.specs.Tree.{Tree, At, Inside, after, isFree, isNil, change, rest}
+use Rattle.tree.specs.Tree.{Tree, At, Inside, after, isNil, change, rest}
+use Rattle.piece.specs.Kinds.{isFree}
 use Rattle.tree.specs.Sound.{Children, Topped}
 use Rattle.tree.specs.Booking.{Booking, block, booked, book}
 use Rattle.tree.specs.Removal.{withoutLast, settled, remove, left, cleared}

@@ -11,7 +11,8 @@ use Rattle.piece.specs.declared.node.Kind.the-variants.{Free, Part, Structure}
 use Rattle.piece.specs.declared.settings.Settings.{Settings}
 use Rattle.piece.specs.Sides.{area}
 use Rattle.piece.specs.Row.{nil, grow}
-use Rattle.tree.specs.Tree.{Tree, isFree}
+use Rattle.piece.specs.Kinds.{isFree}
+use Rattle.tree.specs.Tree.{Tree}
 use Rattle.tree.specs.Sound.{Domain, StructurePiece, Kinded, Children}
 use Rattle.tree.specs.Figures.{freeArea, nought, one, whole, usageOf, added}
 use Rattle.tree.proofs.Areas.{rowArea, filled-area}

@@ -3,7 +3,8 @@ use mathlib.Core.Path.{_≡_}
 use mathlib.Core.Bool.{false}
 use Prim.Native.Nat.{ℕ, _<_}
 use Rattle.piece.specs.declared.node.Datum.{Datum}
-use Rattle.tree.specs.Tree.{Tree, At, isFree}
+use Rattle.piece.specs.Kinds.{isFree}
+use Rattle.tree.specs.Tree.{Tree, At}
 use Rattle.tree.specs.Booking.{Booking}
 
 -- the same booking but for its marks: which places and serials the new nodes get depends on what was done before

@@ -8,7 +8,8 @@ use Rattle.piece.specs.declared.insertion_blueprint.InsertionShape.{InsertionSh
 use Rattle.piece.specs.Sides.{other}
 use Rattle.piece.specs.Row.{Row, nil, grow}
 use Rattle.piece.specs.Insertion.{Made, blockOf}
-use Rattle.tree.specs.Tree.{Tree, isPart, after, change}
+use Rattle.piece.specs.Kinds.{isPart}
+use Rattle.tree.specs.Tree.{Tree, after, change}
 
 -- What is booked: a shape; the part's sides in its rotation, and its number; and the marks that the new nodes get: the place of each, by its
 -- place in the order of creation, and the serial of the first, from which "they rise by one per node in creation order".

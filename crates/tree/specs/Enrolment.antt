@@ -5,7 +5,8 @@ use mathlib.Core.List.{List, [], _∷_, _++_}
 use Prim.Native.Nat.{ℕ}
 use Rattle.piece.specs.declared.node.Datum.{Datum}
 use Rattle.piece.specs.Row.{nil, grow}
-use Rattle.tree.specs.Tree.{Tree, isPart}
+use Rattle.piece.specs.Kinds.{isPart}
+use Rattle.tree.specs.Tree.{Tree}
 use Rattle.tree.specs.Booking.{Booking, block}
 use Rattle.tree.specs.Removal.{cleared, subtree}
 use Rattle.tree.specs.Steps.{less, leaving}

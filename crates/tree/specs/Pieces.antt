@@ -9,7 +9,8 @@ use lib.ListN.{getD, length}
 use Rattle.piece.specs.declared.node.Datum.{Datum}
 use Rattle.piece.specs.declared.node.Kind.the-variants.{Free}
 use Rattle.piece.specs.Sides.{area}
-use Rattle.tree.specs.Tree.{Tree, At, isFree}
+use Rattle.piece.specs.Kinds.{isFree}
+use Rattle.tree.specs.Tree.{Tree, At}
 
 -- the greatest serial
 abbrev pub maxSerial : ℕ

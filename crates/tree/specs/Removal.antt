@@ -11,7 +11,8 @@ use Rattle.piece.specs.declared.node.Datum.{Datum}
 use Rattle.piece.specs.declared.node.Kind.the-variants.{Free}
 use Rattle.piece.specs.Sides.{sized, laid}
 use Rattle.piece.specs.Row.{nil, grow}
-use Rattle.tree.specs.Tree.{Tree, isFree, isPart, isNil, after, change}
+use Rattle.piece.specs.Kinds.{isFree, isPart}
+use Rattle.tree.specs.Tree.{Tree, isNil, after, change}
 
 -- the free piece with this serial that stands where d stood, of this size
 abbrev pub freed : ℕ → Datum → Size → Datum

@@ -4,22 +4,10 @@
 use mathlib.Core.Path.{_≡_}
 use mathlib.Core.List.{List, [], _∷_, _++_}
 use Prim.Native.Nat.{ℕ, _/_, _%_}
-use Rattle.piece.specs.declared.orientation.Orientation.{Orientation}
-use Rattle.piece.specs.declared.orientation.Orientation.the-variants.{Horizontal, Vertical}
 use Rattle.piece.specs.declared.node.Datum.{Datum}
-use Rattle.piece.specs.declared.node.Kind.{Kind}
-use Rattle.piece.specs.declared.node.Kind.the-variants.{Free, Part, Structure}
+use Rattle.piece.specs.Numbers.{kindNo, cutNo}
 use Rattle.piece.specs.Row.{nil, grow}
 use Rattle.tree.specs.Tree.{Tree}
-
-abbrev pub kindNo : Kind → ℕ
-kindNo Free = 0
-kindNo Part = 1
-kindNo Structure = 2
-
-abbrev pub cutNo : Orientation → ℕ
-cutNo Horizontal = 0
-cutNo Vertical = 1
 
 -- two and four bytes, highest first, before the others
 abbrev pub two : ℕ → List ℕ → List ℕ

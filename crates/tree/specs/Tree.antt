@@ -6,27 +6,10 @@ use mathlib.Core.Logic.{_⊎_}
 use Prim.Native.Nat.{ℕ, _+_}
 use lib.Dec.{eqb}
 use Rattle.piece.specs.declared.node.Datum.{Datum}
-use Rattle.piece.specs.declared.node.Kind.{Kind}
-use Rattle.piece.specs.declared.node.Kind.the-variants.{Free, Part, Structure}
 use Rattle.piece.specs.Row.{Row, nil, grow}
 
 abbrev pub Tree : Type 0
 Tree = Row Datum
-
-abbrev pub isFree : Kind → Bool
-isFree Free = true
-isFree Part = false
-isFree Structure = false
-
-abbrev pub isPart : Kind → Bool
-isPart Free = false
-isPart Part = true
-isPart Structure = false
-
-abbrev pub isStructure : Kind → Bool
-isStructure Free = false
-isStructure Part = false
-isStructure Structure = true
 
 abbrev pub isNil : {A : Type 0} → Row A → Bool
 isNil nil = true

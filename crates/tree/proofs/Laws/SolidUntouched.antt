@@ -5,7 +5,8 @@ use mathlib.Core.Bool.{false}
 use Prim.Native.Nat.{ℕ}
 use Rattle.piece.specs.declared.node.Datum.{Datum}
 use Rattle.piece.specs.declared.settings.Settings.{Settings}
-use Rattle.tree.specs.Tree.{Tree, At, Inside, isFree}
+use Rattle.tree.specs.Tree.{Tree, At, Inside}
+use Rattle.piece.specs.Kinds.{isFree}
 use Rattle.tree.specs.Sound.{Sound}
 use Rattle.tree.specs.Removal.{remove}
 use Rattle.tree.specs.Apart.{Removable}
