@@ -9,8 +9,9 @@ use Prim.Native.Nat.{ℕ, _<_}
 use borrow.Author.Tests.{eq-eqb, ne-eqb}
 use Rattle.piece.specs.declared.node.Datum.{Datum}
 use Rattle.piece.specs.Row.{nil, grow}
-use Rattle.tree.specs.Tree.{Tree, In, Distinct, isFree, isNil, after}
+use Rattle.tree.specs.Tree.{Tree, In, Distinct, isNil, after}
 use Rattle.tree.specs.Removal.{freed, board, lastFree, withoutLast, settled, remove, cleared}
+use Rattle.piece.specs.Kinds.{isFree}
 use Rattle.tree.specs.Steps.{app, less, Kids, leaving}
 use Rattle.tree.proofs.Rows.{after-nil, after-assoc}
 use Rattle.tree.proofs.Kids.{kids-in, kids-kids, kids-row, put, put-kids, put-put, put-same, pass-piece}

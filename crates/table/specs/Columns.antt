@@ -2,7 +2,7 @@
 use mathlib.Core.List.{List, map}
 use Prim.Native.Nat.{ℕ}
 use Rattle.piece.specs.Sides.{area}
-use Rattle.tree.specs.Snapshot.{kindNo}
+use Rattle.piece.specs.Numbers.{kindNo}
 use Rattle.table.specs.declared.Node.{Node}
 
 -- the numbers
@@ -18,8 +18,8 @@ firstOf n = n .first
 abbrev pub nextOf : Node → ℕ
 nextOf n = n .next
 
-abbrev pub kindOf : Node → ℕ
-kindOf n = kindNo (n .datum .kind)
+abbrev pub kindNoOf : Node → ℕ
+kindNoOf n = kindNo (n .datum .kind)
 
 -- the column of each
 abbrev pub areasOf : List Node → List ℕ
@@ -35,4 +35,4 @@ abbrev pub nextsOf : List Node → List ℕ
 nextsOf t = map nextOf t
 
 abbrev pub kindsOf : List Node → List ℕ
-kindsOf t = map kindOf t
+kindsOf t = map kindNoOf t

@@ -9,7 +9,8 @@ use Rattle.piece.specs.declared.node.Datum.{Datum}
 use Rattle.piece.specs.Row.{nil, grow}
 use Rattle.piece.specs.declared.insertion_blueprint.InsertionNode.{InsertionNode}
 use Rattle.piece.specs.Insertion.{Made}
-use Rattle.tree.specs.Tree.{Tree, isFree}
+use Rattle.piece.specs.Kinds.{isFree}
+use Rattle.tree.specs.Tree.{Tree}
 use Rattle.tree.specs.Removal.{subtree}
 use Rattle.tree.specs.Steps.{leaving}
 use Rattle.table.specs.declared.Node.{Node}

@@ -2,7 +2,7 @@
 ghost use mathlib.Core.Path.{_≡_};
 ghost use lib.ListN.{replicate};
 ghost use Rattle.lists.specs.Lists.{limit};
-ghost use Rattle.table.specs.Table.{mk, zeroNode, withFirst, withLast, withNext, withPrev};
+ghost use Rattle.table.specs.Table.{mk, zeroDatum, zeroNode, withFirst, withLast, withNext, withPrev};
 use crate::LIMIT;
 use crate::NONE;
 use crate::Node;
@@ -11,11 +11,11 @@ use piece::node::Kind;
 use piece::orientation::Orientation;
 use piece::size::Size;
 
-// What stands at an unheld place.
-pub fn no_node() -> Node
-    ensures { λ r. ⌜ r ≡ zeroNode ⌝ }
+// No piece: all zero.
+pub fn no_datum() -> Datum
+    ensures { λ r. ⌜ r ≡ zeroDatum ⌝ }
 {
-    let datum = Datum {
+    Datum {
         serial: 0,
         size: Size {
             width: 0,
@@ -25,9 +25,15 @@ pub fn no_node() -> Node
         level: 0,
         kind: Kind::Free,
         cut: Orientation::Horizontal,
-    };
+    }
+}
+
+// What stands at an unheld place.
+pub fn no_node() -> Node
+    ensures { λ r. ⌜ r ≡ zeroNode ⌝ }
+{
     Node {
-        datum,
+        datum: no_datum(),
         parent: 0,
         first: 0,
         last: 0,
