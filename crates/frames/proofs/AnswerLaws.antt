@@ -4,6 +4,7 @@ use mathlib.Core.List.{List, [], _∷_}
 use Prim.Native.Nat.{ℕ, _-_, _%_, _<_}
 use native.Mathlib.Omega.{arith}
 use Rattle.piece.specs.declared.insertion_option.Offer.{Offer}
+use Rattle.piece.proofs.Numbers.{rotation-small, shape-small}
 use Rattle.answers.specs.declared.Refusal.{Refusal}
 use Rattle.answers.specs.declared.Refusal.the-variants.{NotSound, OpeningOutside, PartOutside, OtherLayout, Gone, NotFree, NotOffered, TheTop}
 use Rattle.answers.specs.declared.Refusal.the-variants.{FreePiece, TooManyNodes, SerialsSpent, PastTheEnd, BufferTooShort, Malformed as BadFrame}
@@ -13,8 +14,7 @@ use Rattle.frames.specs.Fields.{markBytes}
 use Rattle.frames.specs.Answers.{Answer, refused, opened, offered, inserted, removed, done, reported, malformed, each, offerBytes, contentOf}
 use Rattle.frames.specs.Answers.{answerBytes}
 use Rattle.frames.specs.Ranges.{Each, none, more, AnswerFits}
-use Rattle.frames.proofs.Laws.{framed-adds, pairs-chars, AreBytes, no-bytes, then, join, are-two, are-eight, rotation-small}
-use Rattle.frames.proofs.Laws.{shape-small, are-framed}
+use Rattle.frames.proofs.Laws.{framed-adds, pairs-chars, AreBytes, no-bytes, then, join, are-two, are-eight, are-framed}
 use Rattle.frames.proofs.Forms.{are-mark}
 
 pub answer-adds : (a : Answer) → total (answerBytes a) % 256 ≡ 0

@@ -8,10 +8,11 @@ use borrow.Author.Tests.{le-leb}
 use Rattle.piece.specs.declared.rotation.Rotation.{Rotation}
 use Rattle.piece.specs.declared.parttype.PartType.{PartType}
 use Rattle.piece.specs.declared.insertion_blueprint.InsertionShape.{InsertionShape}
+use Rattle.piece.specs.Numbers.{rotationOf, shapeOf}
 use Rattle.answers.specs.declared.Mark.{Mark}
 use Rattle.frames.specs.declared.Ask.the-variants.{Insert}
 use Rattle.frames.specs.declared.Request.the-variants.{OfLayout}
-use Rattle.frames.specs.Fields.{markAt, partAt, rotationOf, shapeOf}
+use Rattle.frames.specs.Fields.{markAt, partAt}
 use Rattle.frames.specs.Requests.{insertOf}
 
 pub serial-place : (i : ℕ) → i + 2 + 1 ≡ i + 3

@@ -10,12 +10,13 @@ use lib.ListN.{length, getD, drop, length-append, length-drop}
 use lib.Seq.{getD-drop, drop-drop}
 use borrow.Author.Tests.{ltb-true}
 use Rattle.piece.specs.declared.parttype.PartType.{PartType}
+use Rattle.piece.proofs.Numbers.{turn-small}
 use Rattle.answers.specs.declared.Mark.{Mark}
 use Rattle.frames.specs.Bytes.{allBytes, two, four}
 use Rattle.frames.specs.Fields.{Width, single, double, quad, Field, markFields, partFields, sizeOf, widths, valueAt, values, bytesIn, written}
 use Rattle.frames.specs.Fields.{markNos, partNos, markBytes}
 use Rattle.frames.specs.Ranges.{MarkFits, PartFits}
-use Rattle.frames.proofs.Laws.{first-true, second-true, AreBytes, no-bytes, then, join, are-two, are-four, turn-small}
+use Rattle.frames.proofs.Laws.{first-true, second-true, AreBytes, no-bytes, then, join, are-two, are-four}
 
 abbrev boundOf : Width → ℕ
 boundOf single = 2 ^ 8

@@ -8,14 +8,15 @@ use native.Mathlib.Omega.{arith}
 use lib.Dec.{eqb, leb, ltb}
 use lib.ListN.{length, getD}
 use borrow.Author.Tests.{ltb-true, ltb-false, leb-true, leb-false, eqb-true, eqb-false, lt-ltb, le-ltb}
+use Rattle.piece.specs.Numbers.{cutListed, turnListed, rotationListed, shapeListed}
+use Rattle.piece.proofs.Numbers.{cut-stays, turn-stays, rotation-stays, shape-stays}
 use Rattle.hex.specs.Hex.{digitOf, letterOf, pairOf}
 use Rattle.hex.proofs.Pairs.{high-bad, low-bad, both-good}
 use Rattle.frames.specs.declared.Ask.the-variants.{Report}
 use Rattle.frames.specs.declared.Request.{Request}
 use Rattle.frames.specs.declared.Request.the-variants.{OfLayout, Keep, Restore, Malformed}
 use Rattle.frames.specs.Bytes.{pairs, allBytes, charsOf, total, checkOf, framed}
-use Rattle.frames.specs.Fields.{cutNo, turnNo, rotationNo, shapeNo, cutListed, turnListed, rotationListed, shapeListed, cutOf, turnOf}
-use Rattle.frames.specs.Fields.{rotationOf, shapeOf, widths, values, allListed, given}
+use Rattle.frames.specs.Fields.{widths, values, allListed, given}
 use Rattle.frames.specs.Requests.{Form, openForm, offersForm, insertForm, removeForm, bare, formOf, lengthOf, readAs, askedBy}
 use Rattle.frames.specs.Requests.{wellFormed, requestOf, carried, carriedBy, frameOf}
 use Rattle.frames.specs.Ranges.{RequestFits}
@@ -90,30 +91,6 @@ chars-pairs (h ∷ l ∷ s) e a =
     let rest = chars-pairs s (omega arith) (second-true (ltb (pairOf h l) 256) (allBytes (pairs s)) a) in
     rw (first-letter h l small, second-letter h l small, rest) refl
 
--- ---- what a listed number says, as a number again
-cut-of : (n : ℕ) → n ≤ 1 → cutNo (cutOf n) ≡ n
-cut-of n h =
-    by-test (eqb n 0) (λ e. rw e (sym (eqb-true n 0 e)))
-    (λ e. rw e (let ne = eqb-false n 0 e in omega (arith, ne)))
-
-rotation-of : (n : ℕ) → n ≤ 1 → rotationNo (rotationOf n) ≡ n
-rotation-of n h =
-    by-test (eqb n 0) (λ e. rw e (sym (eqb-true n 0 e)))
-    (λ e. rw e (let ne = eqb-false n 0 e in omega (arith, ne)))
-
-turn-of : (n : ℕ) → n ≤ 2 → turnNo (turnOf n) ≡ n
-turn-of n h =
-    by-test (eqb n 0) (λ e. rw e (sym (eqb-true n 0 e)))
-    (λ e. by-test (eqb n 1) (λ f. rw (e, f) (sym (eqb-true n 1 f)))
-    (λ f. rw (e, f) (let ne = eqb-false n 0 e in let nf = eqb-false n 1 f in omega (arith, ne, nf))))
-
-shape-of : (n : ℕ) → 1 ≤ n → n ≤ 4 → shapeNo (shapeOf n) ≡ n
-shape-of n l h =
-    by-test (eqb n 1) (λ e. rw e (sym (eqb-true n 1 e)))
-    (λ e. by-test (eqb n 2) (λ f. rw (e, f) (sym (eqb-true n 2 f)))
-    (λ f. by-test (eqb n 3) (λ g. rw (e, f, g) (sym (eqb-true n 3 g)))
-    (λ g. rw (e, f, g) (let ne = eqb-false n 1 e in let nf = eqb-false n 2 f in let ng = eqb-false n 3 g in omega (arith, ne, nf, ng)))))
-
 -- the last byte is the check of those before it
 closed : (b c : List ℕ) (k : ℕ) (q : Request) → b ≡ c ++ (k ∷ []) → k < 256 → total b % 256 ≡ 0 → c ≡ carriedBy q → b ≡ framed (carriedBy q)
 unfolding total
@@ -132,13 +109,13 @@ Meant op f = (vs : List ℕ) → Fits (f .fields) vs → allListed (f .fields) v
 open-meant : Meant 1 openForm
 unfolding carriedBy
 open-meant vs (more a (more b (more c (more {v = n} d (more e none))))) h =
-    let k = cut-of n (leb-true n 1 (first-true (cutListed n) true h)) in
+    let k = cut-stays n (first-true (cutListed n) true h) in
     record { carries = inr (rw k refl); fits = record { number = a; sheet = record { width = b; height = c }; stages = e } }
 
 offers-meant : Meant 2 offersForm
 unfolding carriedBy
 offers-meant vs (more a (more b (more c (more d (more e (more f (more {v = n} g none))))))) h =
-    let k = turn-of n (leb-true n 2 (first-true (turnListed n) true h)) in
+    let k = turn-stays n (first-true (turnListed n) true h) in
     record {
       carries = inr (rw k refl);
       fits = (record { layout = a; place = b; serial = c }, record { number = d; size = record { width = e; height = f } });
@@ -149,9 +126,9 @@ unfolding carriedBy
 insert-meant vs (more a (more b (more c (more d (more e (more f (more {v = n} g (more {v = r} i (more {v = k} j none))))))))) h =
     let y = second-true (turnListed n) (rotationListed r && (shapeListed k && true)) h in
     let z = first-true (shapeListed k) true (second-true (rotationListed r) (shapeListed k && true) y) in
-    let t = turn-of n (leb-true n 2 (first-true (turnListed n) (rotationListed r && (shapeListed k && true)) h)) in
-    let u = rotation-of r (leb-true r 1 (first-true (rotationListed r) (shapeListed k && true) y)) in
-    let v = shape-of k (leb-true 1 k (first-true (leb 1 k) (leb k 4) z)) (leb-true k 4 (second-true (leb 1 k) (leb k 4) z)) in
+    let t = turn-stays n (first-true (turnListed n) (rotationListed r && (shapeListed k && true)) h) in
+    let u = rotation-stays r (first-true (rotationListed r) (shapeListed k && true) y) in
+    let v = shape-stays k z in
     record {
       carries = inr (rw (t, u, v) refl);
       fits = (record { layout = a; place = b; serial = c }, record { number = d; size = record { width = e; height = f } });

@@ -8,16 +8,7 @@ use lib.Dec.{ltb}
 use borrow.Author.Tests.{ltb-true, ltb-false, lt-ltb, le-ltb}
 use Rattle.hex.specs.Hex.{digitOf, letterOf, pairOf}
 use Rattle.hex.proofs.Pairs.{both-good}
-use Rattle.piece.specs.declared.orientation.Orientation.{Orientation}
-use Rattle.piece.specs.declared.orientation.Orientation.the-variants.{Horizontal, Vertical}
-use Rattle.piece.specs.declared.rotation.Rotation.{Rotation}
-use Rattle.piece.specs.declared.rotation.Rotation.the-variants.{Default, Rotated}
-use Rattle.piece.specs.declared.parttype.Turn.{Turn}
-use Rattle.piece.specs.declared.parttype.Turn.the-variants.{Either, Fixed}
-use Rattle.piece.specs.declared.insertion_blueprint.InsertionShape.{InsertionShape}
-use Rattle.piece.specs.declared.insertion_blueprint.InsertionShape.the-variants.{AlongCurrentCut, AcrossCurrentCut, AlongThenAcross, AcrossThenAlong}
 use Rattle.frames.specs.Bytes.{pairs, allBytes, charsOf, total, checkOf, framed, two, four, eight}
-use Rattle.frames.specs.Fields.{cutNo, turnNo, rotationNo, shapeNo}
 use Rattle.frames.proofs.Lists.{total-append, all-append}
 
 -- ---- the check: the bytes of every frame add to 0
@@ -93,25 +84,6 @@ are-four n h = join (are-two (n / 65536) (omega arith)) (are-two (n % 65536) (om
 
 pub are-eight : (n : ℕ) → n < 2 ^ 64 → AreBytes (eight n)
 are-eight n h = join (are-four (n / 4294967296) (omega arith)) (are-four (n % 4294967296) (omega arith))
-
-pub turn-small : (t : Turn) → turnNo t < 256
-turn-small Either = omega arith
-turn-small (Fixed Default) = omega arith
-turn-small (Fixed Rotated) = omega arith
-
-pub rotation-small : (r : Rotation) → rotationNo r < 256
-rotation-small Default = omega arith
-rotation-small Rotated = omega arith
-
-pub shape-small : (s : InsertionShape) → shapeNo s < 256
-shape-small AlongCurrentCut = omega arith
-shape-small AcrossCurrentCut = omega arith
-shape-small AlongThenAcross = omega arith
-shape-small AcrossThenAlong = omega arith
-
-pub cut-small : (c : Orientation) → cutNo c < 256
-cut-small Horizontal = omega arith
-cut-small Vertical = omega arith
 
 pub are-framed : {bs : List ℕ} → AreBytes bs → AreBytes (framed bs)
 are-framed e = join e (then (omega arith) no-bytes)

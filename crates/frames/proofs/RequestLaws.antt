@@ -7,25 +7,17 @@ use native.Mathlib.Omega.{arith}
 use lib.ListN.{length, getD, length-append}
 use borrow.Author.Tests.{le-leb, eq-eqb}
 use Rattle.hex.specs.Hex.{digitOf, letterOf, pairOf}
-use Rattle.piece.specs.declared.orientation.Orientation.{Orientation}
-use Rattle.piece.specs.declared.orientation.Orientation.the-variants.{Horizontal, Vertical}
-use Rattle.piece.specs.declared.rotation.Rotation.{Rotation}
-use Rattle.piece.specs.declared.rotation.Rotation.the-variants.{Default, Rotated}
-use Rattle.piece.specs.declared.parttype.Turn.{Turn}
-use Rattle.piece.specs.declared.parttype.Turn.the-variants.{Either, Fixed}
-use Rattle.piece.specs.declared.insertion_blueprint.InsertionShape.{InsertionShape}
-use Rattle.piece.specs.declared.insertion_blueprint.InsertionShape.the-variants.{AlongCurrentCut, AcrossCurrentCut, AlongThenAcross, AcrossThenAlong}
 use Rattle.frames.specs.declared.Ask.the-variants.{Open, Offers, Insert, Remove, Report}
+use Rattle.piece.proofs.Numbers.{cut-small, rotation-small, shape-small, cut-listed, turn-listed, rotation-listed, shape-listed, cut-back, turn-back, rotation-back, shape-back}
 use Rattle.frames.specs.declared.Request.{Request}
 use Rattle.frames.specs.declared.Request.the-variants.{OfLayout, Keep, Restore, Malformed}
 use Rattle.frames.specs.Bytes.{pairs, allBytes, charsOf, total, checkOf, framed}
-use Rattle.frames.specs.Fields.{cutNo, turnNo, rotationNo, shapeNo, cutListed, turnListed, rotationListed, shapeListed, cutOf, turnOf, rotationOf}
-use Rattle.frames.specs.Fields.{shapeOf, widths, values}
+use Rattle.frames.specs.Fields.{widths, values}
 use Rattle.frames.specs.Requests.{Form, openForm, offersForm, insertForm, removeForm, bare, formOf, lengthOf, made, readAs, askedBy}
 use Rattle.frames.specs.Requests.{wellFormed, requestOf, carried, carriedBy, frameOf}
 use Rattle.frames.specs.Ranges.{RequestFits}
 use Rattle.frames.proofs.Lists.{length-chars}
-use Rattle.frames.proofs.Laws.{framed-adds, pairs-chars, then, rotation-small, shape-small, cut-small, are-framed}
+use Rattle.frames.proofs.Laws.{framed-adds, pairs-chars, then, are-framed}
 use Rattle.frames.proofs.Forms.{Fits, none, more, mark-fits, part-fits, values-drop, values-back, length-written, are-written}
 
 module _ (bs : List ℕ) (bytes : allBytes bs ≡ true) (short : length bs ≤ 32) (adds : total bs % 256 ≡ 0)
@@ -69,26 +61,6 @@ module _ (op : ℕ) (f : Form) (vs : List ℕ) (is : formOf op ≡ f) (small : o
       ∙ ap (made f) read
 
 -- ---- each op
--- what a number is given for is listed, and says it
-turn-back : (t : Turn) → (turnListed (turnNo t) ≡ true) × (turnOf (turnNo t) ≡ t)
-turn-back Either = (refl, refl)
-turn-back (Fixed Default) = (refl, refl)
-turn-back (Fixed Rotated) = (refl, refl)
-
-rotation-back : (r : Rotation) → (rotationListed (rotationNo r) ≡ true) × (rotationOf (rotationNo r) ≡ r)
-rotation-back Default = (refl, refl)
-rotation-back Rotated = (refl, refl)
-
-shape-back : (s : InsertionShape) → (shapeListed (shapeNo s) ≡ true) × (shapeOf (shapeNo s) ≡ s)
-shape-back AlongCurrentCut = (refl, refl)
-shape-back AcrossCurrentCut = (refl, refl)
-shape-back AlongThenAcross = (refl, refl)
-shape-back AcrossThenAlong = (refl, refl)
-
-cut-back : (c : Orientation) → (cutListed (cutNo c) ≡ true) × (cutOf (cutNo c) ≡ c)
-cut-back Horizontal = (refl, refl)
-cut-back Vertical = (refl, refl)
-
 -- the line of no bytes but a check
 malformed-back : requestOf (frameOf Malformed) ≡ Malformed
 unfolding requestOf wellFormed pairs allBytes total lengthOf formOf charsOf carriedBy digitOf letterOf pairOf
@@ -99,12 +71,12 @@ unfolding carriedBy formOf
 request-back (OfLayout (Open o)) f =
     asks 1 openForm _ refl (omega arith)
     (more (f .number) (more (f .sheet .width) (more (f .sheet .height) (more (cut-small (o .cut)) (more (f .stages) none))))) (omega arith)
-    ∙ rw (cut-back (o .cut) .0, cut-back (o .cut) .1) refl
+    ∙ rw (cut-listed (o .cut), cut-back (o .cut)) refl
 request-back (OfLayout (Offers m p)) f =
-    asks 2 offersForm _ refl (omega arith) (mark-fits (part-fits none p (f .1)) m (f .0)) (omega arith) ∙ rw (turn-back (p .turn) .0, turn-back (p .turn) .1) refl
+    asks 2 offersForm _ refl (omega arith) (mark-fits (part-fits none p (f .1)) m (f .0)) (omega arith) ∙ rw (turn-listed (p .turn), turn-back (p .turn)) refl
 request-back (OfLayout (Insert m p r s)) f =
     asks 3 insertForm _ refl (omega arith) (mark-fits (part-fits (more (rotation-small r) (more (shape-small s) none)) p (f .1)) m (f .0)) (omega arith)
-    ∙ rw (turn-back (p .turn) .0, rotation-back r .0, shape-back s .0, turn-back (p .turn) .1, rotation-back r .1, shape-back s .1) refl
+    ∙ rw (turn-listed (p .turn), rotation-listed r, shape-listed s, turn-back (p .turn), rotation-back r, shape-back s) refl
 request-back (OfLayout (Remove m)) f = asks 4 removeForm _ refl (omega arith) (mark-fits none m f) (omega arith)
 request-back (OfLayout Report) f = asks 7 (bare (OfLayout Report)) [] refl (omega arith) none (omega arith)
 request-back Keep f = asks 5 (bare Keep) [] refl (omega arith) none (omega arith)

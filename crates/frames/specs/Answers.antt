@@ -4,11 +4,12 @@ use mathlib.Core.List.{List, [], _∷_, _++_}
 use Prim.Native.Nat.{ℕ, _%_}
 use lib.ListN.{length}
 use Rattle.piece.specs.declared.insertion_option.Offer.{Offer}
+use Rattle.piece.specs.Numbers.{rotationNo, shapeNo}
 use Rattle.answers.specs.declared.Mark.{Mark}
 use Rattle.answers.specs.declared.Refusal.{Refusal}
 use Rattle.answers.specs.Refusals.{refusalNo}
 use Rattle.frames.specs.Bytes.{framed, lineOf, two, eight}
-use Rattle.frames.specs.Fields.{rotationNo, shapeNo, markBytes}
+use Rattle.frames.specs.Fields.{markBytes}
 
 pub data Answer : Type 0 where
   -- the op, and what it is refused with

@@ -1,69 +1,14 @@
 -- Document 01, "Counter frames": the fields of a frame, as bytes and back. Rests on Bytes.
-use mathlib.Core.Bool.{Bool, true, cond, _&&_}
+use mathlib.Core.Bool.{Bool, true, _&&_}
 use mathlib.Core.List.{List, [], _∷_, _++_}
 use Prim.Native.Nat.{ℕ, _+_, _%_}
-use lib.Dec.{eqb, leb}
 use lib.ListN.{getD}
-use Rattle.piece.specs.declared.orientation.Orientation.{Orientation}
-use Rattle.piece.specs.declared.orientation.Orientation.the-variants.{Horizontal, Vertical}
-use Rattle.piece.specs.declared.rotation.Rotation.{Rotation}
-use Rattle.piece.specs.declared.rotation.Rotation.the-variants.{Default, Rotated}
-use Rattle.piece.specs.declared.parttype.Turn.{Turn}
-use Rattle.piece.specs.declared.parttype.Turn.the-variants.{Either, Fixed}
 use Rattle.piece.specs.declared.parttype.PartType.{PartType}
 use Rattle.piece.specs.declared.settings.Opening.{Opening}
 use Rattle.piece.specs.declared.size.Size.{Size}
-use Rattle.piece.specs.declared.insertion_blueprint.InsertionShape.{InsertionShape}
-use Rattle.piece.specs.declared.insertion_blueprint.InsertionShape.the-variants.{AlongCurrentCut, AcrossCurrentCut, AlongThenAcross, AcrossThenAlong}
+use Rattle.piece.specs.Numbers.{cutListed, turnListed, rotationListed, shapeListed, turnNo, turnOf}
 use Rattle.answers.specs.declared.Mark.{Mark}
 use Rattle.frames.specs.Bytes.{two, four, twoAt, fourAt}
-
--- cut "0 Horizontal, 1 Vertical"; turn "0 either, 1 Default, 2 Rotated"; "Rotation is 0 or 1; shape 1..4 in the table's order"
-abbrev pub cutNo : Orientation → ℕ
-cutNo Horizontal = 0
-cutNo Vertical = 1
-
-abbrev pub turnNo : Turn → ℕ
-turnNo Either = 0
-turnNo (Fixed Default) = 1
-turnNo (Fixed Rotated) = 2
-
-abbrev pub rotationNo : Rotation → ℕ
-rotationNo Default = 0
-rotationNo Rotated = 1
-
-abbrev pub shapeNo : InsertionShape → ℕ
-shapeNo AlongCurrentCut = 1
-shapeNo AcrossCurrentCut = 2
-shapeNo AlongThenAcross = 3
-shapeNo AcrossThenAlong = 4
-
--- whether such a number is listed, and what a listed one says
-abbrev pub cutListed : ℕ → Bool
-cutListed n = leb n 1
-
-abbrev pub turnListed : ℕ → Bool
-turnListed n = leb n 2
-
-abbrev pub rotationListed : ℕ → Bool
-rotationListed n = leb n 1
-
-abbrev pub shapeListed : ℕ → Bool
-shapeListed n = leb 1 n && leb n 4
-
-abbrev pub cutOf : ℕ → Orientation
-cutOf n = cond (eqb n 0) Horizontal Vertical
-
-abbrev pub turnOf : ℕ → Turn
-turnOf n = cond (eqb n 0) Either (cond (eqb n 1) (Fixed Default) (Fixed Rotated))
-
-abbrev pub rotationOf : ℕ → Rotation
-rotationOf n = cond (eqb n 0) Default Rotated
-
-abbrev pub shapeOf : ℕ → InsertionShape
-shapeOf n =
-    cond (eqb n 1) AlongCurrentCut
-    (cond (eqb n 2) AcrossCurrentCut (cond (eqb n 3) AlongThenAcross AcrossThenAlong))
 
 -- ---- a field: how many bytes it has, and which of their numbers are listed
 pub data Width : Type 0 where

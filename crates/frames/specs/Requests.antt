@@ -5,12 +5,11 @@ use Prim.Native.Nat.{ℕ, _+_, _%_}
 use lib.Dec.{eqb, leb}
 use lib.ListN.{length, getD}
 use Rattle.frames.specs.declared.Ask.the-variants.{Open, Offers, Insert, Remove, Report}
+use Rattle.piece.specs.Numbers.{cutNo, rotationNo, shapeNo, cutOf, rotationOf, shapeOf}
 use Rattle.frames.specs.declared.Request.{Request}
 use Rattle.frames.specs.declared.Request.the-variants.{OfLayout, Keep, Restore, Malformed}
 use Rattle.frames.specs.Bytes.{pairs, allBytes, charsOf, total, framed}
-use Rattle.frames.specs.Fields.{rotationNo, shapeNo, rotationOf, shapeOf, Field, byte, twoBytes, fourBytes, cutByte, rotationByte, shapeByte}
-use Rattle.frames.specs.Fields.{markFields, partFields, widths, values, allListed, written, Takes, given, anOpening, aMark, aPart}
-use Rattle.frames.specs.Fields.{openingNos, markNos, partNos}
+use Rattle.frames.specs.Fields.{Field, byte, twoBytes, fourBytes, cutByte, rotationByte, shapeByte, markFields, partFields, widths, values, allListed, written, Takes, given, anOpening, aMark, aPart, openingNos, markNos, partNos}
 
 -- ---- the table "op | carries": the fields of each op, said once, and the request that their numbers make
 pub record Form : Type 0 where

@@ -4,7 +4,7 @@ ghost use Prim.Native.Nat.{_+_, _≤_};
 ghost use lib.ListN.{length};
 ghost use Rattle.frames.specs.Bytes.{twoAt, fourAt};
 ghost use Rattle.frames.specs.Inner.{Decodes};
-ghost use Rattle.frames.specs.Fields.{cutOf, turnOf, rotationOf, shapeOf, markFields, partFields, widths, sizeAt, markAt, partAt};
+ghost use Rattle.frames.specs.Fields.{markFields, partFields, widths, sizeAt, markAt, partAt};
 ghost use Rattle.frames.specs.Requests.{openOf, offersOf, insertOf, removeOf, lengthOf, askedBy, requestOf};
 use crate::Ask;
 use crate::Request;
@@ -161,60 +161,11 @@ fn part_at(b: &[u8; 32], i: usize) -> PartType
     PartType {
         number: two_at(b, i),
         size: size_at(b, i + PART_SIZE),
-        turn: turn_of(b[i + PART_TURN]),
+        turn: Turn::of_number(b[i + PART_TURN]),
     }
 }
 
-// A cut, a turn, a rotation and a shape; what is not listed is tested for where an op is read.
-
-fn cut_of(n: u8) -> Orientation
-    ensures { λ r. ⌜ r ≡ cutOf n ⌝ }
-{
-    if n == 0 {
-        Orientation::Horizontal
-    } else {
-        Orientation::Vertical
-    }
-}
-
-fn turn_of(n: u8) -> Turn
-    ensures { λ r. ⌜ r ≡ turnOf n ⌝ }
-{
-    if n == 0 {
-        return Turn::Either;
-    }
-    if n == 1 {
-        return Turn::Fixed(Rotation::Default);
-    }
-    Turn::Fixed(Rotation::Rotated)
-}
-
-fn rotation_of(n: u8) -> Rotation
-    ensures { λ r. ⌜ r ≡ rotationOf n ⌝ }
-{
-    if n == 0 {
-        Rotation::Default
-    } else {
-        Rotation::Rotated
-    }
-}
-
-fn shape_of(n: u8) -> InsertionShape
-    ensures { λ r. ⌜ r ≡ shapeOf n ⌝ }
-{
-    if n == 1 {
-        return InsertionShape::AlongCurrentCut;
-    }
-    if n == 2 {
-        return InsertionShape::AcrossCurrentCut;
-    }
-    if n == 3 {
-        return InsertionShape::AlongThenAcross;
-    }
-    InsertionShape::AcrossThenAlong
-}
-
-// One function for each op that carries something.
+// One function for each op that carries something; it tests that a cut, a turn, a rotation and a shape are listed.
 
 fn open(b: &[u8; 32]) -> Request
     ensures { λ r. ⌜ r ≡ openOf (now (b .entry)) ⌝ }
@@ -230,7 +181,7 @@ fn open(b: &[u8; 32]) -> Request
                 stages: b[OPEN_STAGES],
                 sheet: size_at(b, OPEN_SIZE),
             },
-            cut: cut_of(cut),
+            cut: Orientation::of_number(cut),
         },
     })
 }
@@ -269,8 +220,8 @@ fn insert(b: &[u8; 32]) -> Request
     Request::OfLayout(Ask::Insert {
         mark: mark_at(b, FIRST),
         part: part_at(b, INSERT_PART),
-        rotation: rotation_of(rotation),
-        shape: shape_of(shape),
+        rotation: Rotation::of_number(rotation),
+        shape: InsertionShape::of_number(shape),
     })
 }
 

@@ -5,16 +5,14 @@ ghost use Prim.Native.Nat.{_+_, _*_, _≤_};
 ghost use lib.ListN.{length, take};
 ghost use lib.Seq.{sets};
 ghost use Rattle.frames.specs.Bytes.{two, four, eight};
-ghost use Rattle.frames.specs.Fields.{rotationNo, shapeNo, markBytes};
+ghost use Rattle.frames.specs.Fields.{markBytes};
 ghost use Rattle.frames.specs.Answers.{Answer, offerBytes, each};
 ghost use Rattle.frames.specs.Writing.{Answered};
 ghost use Rattle.frames.specs.Inner.{Wrote, start, ending};
 use answers::Mark;
 use answers::Refusal;
-use piece::insertion_blueprint::InsertionShape;
 use piece::insertion_option::Offer;
 use piece::insertion_option::OfferList;
-use piece::rotation::Rotation;
 
 // Where the next character goes, and the sum of the bytes so far, counting past 255 from 0 again.
 struct Pen {
@@ -70,36 +68,14 @@ fn put_mark(out: &mut [u8], pen: Pen, mark: Mark) -> Pen
     put_four(out, place, mark.serial)
 }
 
-// The numbers of a rotation and a shape.
-
-fn rotation_no(rotation: Rotation) -> u8
-    ensures { λ r. ⌜ r ≡ rotationNo rotation ⌝ }
-{
-    match rotation {
-        Rotation::Default => 0,
-        Rotation::Rotated => 1,
-    }
-}
-
-fn shape_no(shape: InsertionShape) -> u8
-    ensures { λ r. ⌜ r ≡ shapeNo shape ⌝ }
-{
-    match shape {
-        InsertionShape::AlongCurrentCut => 1,
-        InsertionShape::AcrossCurrentCut => 2,
-        InsertionShape::AlongThenAcross => 3,
-        InsertionShape::AcrossThenAlong => 4,
-    }
-}
-
 fn put_offer(out: &mut [u8], pen: Pen, offer: Offer) -> Pen
     requires { ⌜ pen .at + 4 ≤ length (now out) ⌝ }
     ensures { λ r. ⌜ Wrote (now (out .entry)) pen (offerBytes offer) (now (out .exit)) r ⌝ }
 {
     let rotation = offer.rotation;
     let shape = offer.shape;
-    let next = put(out, pen, rotation_no(rotation));
-    put(out, next, shape_no(shape))
+    let next = put(out, pen, rotation.number());
+    put(out, next, shape.number())
 }
 
 // Lists, each after its count.

@@ -40,8 +40,8 @@ returns-5 c =
     (t .if4 .left)
     (f .mark-at .ensures)
     (c .before .before .part-at .ensures)
-    (c .before .rotation-of .ensures)
-    (c .shape-of .ensures)
+    (c .before .of-number .ensures)
+    (c .of-number2 .ensures)
 
 pub insert-spec : {M : Type 1} → statement M
 insert-spec =
@@ -56,6 +56,6 @@ insert-spec =
     returns-4
     (λ c κs. search needs)  -- mark-at-requires
     (λ c κs. search needs)  -- part-at-requires
-    (λ c κs. search needs)  -- rotation-of-requires
-    (λ c κs. search needs)  -- shape-of-requires
+    (λ c κs. search needs)  -- of-number-requires
+    (λ c κs. search needs)  -- of-number-requires-2
     returns-5)

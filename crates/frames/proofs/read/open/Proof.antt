@@ -14,7 +14,7 @@ unfolding openOf
 returns-2 c =
     let s = c .before in
     let n = s .before .before in
-    simp (le-leb _ _ (n .before .if1 .left), n .two-at .ensures, s .size-at .ensures, c .cut-of .ensures)
+    simp (le-leb _ _ (n .before .if1 .left), n .two-at .ensures, s .size-at .ensures, c .of-number .ensures)
 
 pub open-spec : {M : Type 1} → statement M
 open-spec =
@@ -25,5 +25,5 @@ open-spec =
     (λ c κs. search needs)  -- two-at-requires
     (λ c. search needs)  -- element-copy-out-t4
     (λ c κs. search needs)  -- size-at-requires
-    (λ c κs. search needs)  -- cut-of-requires
+    (λ c κs. search needs)  -- of-number-requires
     returns-2)

@@ -5,7 +5,7 @@ use Rattle.frames.proofs.read.part_at.Statement.{statement}
 use Rattle.frames.proofs.read.part_at.Tie as tie
 
 returns : tie.Need-returns
-returns c = simp (c .before .before .before .two-at .ensures, c .before .before .size-at .ensures, c .turn-of .ensures, turn-place)
+returns c = simp (c .before .before .before .two-at .ensures, c .before .before .size-at .ensures, c .of-number .ensures, turn-place)
 
 pub part-at-spec : {M : Type 1} → statement M
 part-at-spec =
@@ -14,7 +14,7 @@ part-at-spec =
     (λ c κs. search needs)  -- two-at-requires
     (λ c. search needs)  -- add-size-at
     (λ c κs. search needs)  -- size-at-requires
-    (λ c. search needs)  -- add-turn-of
-    (λ c. search needs)  -- element-copy-out-turn-of
-    (λ c κs. search needs)  -- turn-of-requires
+    (λ c. search needs)  -- add-of-number
+    (λ c. search needs)  -- element-copy-out-of-number
+    (λ c κs. search needs)  -- of-number-requires
     returns)

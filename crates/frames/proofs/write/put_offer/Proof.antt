@@ -8,16 +8,16 @@ returns : tie.Need-returns
 returns c =
     let shape = c .before .before in
     let rotation = shape .before .before .before .before .before in
-    and-then (as-byte (rotation .before .rotation-no .ensures) (rotation .put .ensures))
-    (as-byte (shape .before .shape-no .ensures) (shape .put2 .ensures))
+    and-then (as-byte (rotation .before .number .ensures) (rotation .put .ensures))
+    (as-byte (shape .before .number2 .ensures) (shape .put2 .ensures))
 
 pub put-offer-spec : {M : Type 1} → statement M
 put-offer-spec =
     tie.close
     (tie.spec
-    (λ c κs. search needs)  -- rotation-no-requires
+    (λ c κs. search needs)  -- number-requires
     (λ c κs. search needs)  -- put-requires
-    (λ c κs. search needs)  -- shape-no-requires
+    (λ c κs. search needs)  -- number-requires-2
     (λ c κs. search needs)  -- put-requires-2
     (λ c. search needs)  -- same-length
     returns)
