@@ -41,34 +41,48 @@ unfolding adds
 adds-append p [] b = refl
 adds-append p (x ∷ a) b = adds-append (add p x) a b
 
--- the cases of a step, by what is pending after it and where the text goes on: how far that is tells whether a newline stands behind the characters
-module _ (p q : Pending) (chunk chars : List ℕ) (at n : ℕ) (are : chars ≡ charsAt chunk at) (made : q ≡ adds p chars)
-    (there : n ≡ pastAt chunk at) where
-  grown : q ≡ adds p (charsAt chunk at)
-  grown = made ∙ ap (λ (l : List ℕ). adds p l) are
+-- a step: the characters of the chunk there, what is pending with them, and where the text goes on
+pub record Step : Type 0 where
+  pub p : Pending
+  pub chunk : List ℕ
+  pub at : ℕ
+  pub chars : List ℕ
+  pub q : Pending
+  pub n : ℕ
+  pub are : chars ≡ charsAt chunk at
+  pub made : q ≡ adds p chars
+  pub there : n ≡ pastAt chunk at
 
-  reach : at + length chars ≡ newlineFrom chunk at
-  reach = ap (λ (l : List ℕ). at + length l) are ∙ chars-length chunk at
+-- its cases: how far the text goes on tells whether a newline stands behind the characters
+module _ (s : Step) where
+  abbrev end : ℕ
+  end = newlineFrom (s .chunk) (s .at)
 
-  far : (b : Bool) → ltb (newlineFrom chunk at) (length chunk) ≡ b → n ≡ cond b (newlineFrom chunk at + 1) (newlineFrom chunk at)
-  far b e = there ∙ ap (λ (c : Bool). cond c (newlineFrom chunk at + 1) (newlineFrom chunk at)) e
+  grown : s .q ≡ adds (s .p) (charsAt (s .chunk) (s .at))
+  grown = s .made ∙ ap (adds (s .p)) (s .are)
 
-  none : n - at ≤ length chars → (b : Bool) → ltb (newlineFrom chunk at) (length chunk) ≡ b → b ≡ false
+  reach : s .at + length (s .chars) ≡ end
+  reach = ap (λ (l : List ℕ). s .at + length l) (s .are) ∙ chars-length (s .chunk) (s .at)
+
+  far : (b : Bool) → ltb end (length (s .chunk)) ≡ b → s .n ≡ cond b (end + 1) end
+  far b e = s .there ∙ ap (λ (c : Bool). cond c (end + 1) end) e
+
+  none : s .n - s .at ≤ length (s .chars) → (b : Bool) → ltb end (length (s .chunk)) ≡ b → b ≡ false
   none h true e = absurd (omega (arith, far true e, reach))
   none h false e = refl
 
-  newline : length chars < n - at → (b : Bool) → ltb (newlineFrom chunk at) (length chunk) ≡ b → b ≡ true
+  newline : length (s .chars) < s .n - s .at → (b : Bool) → ltb end (length (s .chunk)) ≡ b → b ≡ true
   newline h true e = refl
   newline h false e = absurd (omega (arith, far false e, reach))
 
-  pub took-all : n - at ≤ length chars → stepOf q n More ≡ takeOf p chunk at
+  pub took-all : s .n - s .at ≤ length (s .chars) → stepOf (s .q) (s .n) More ≡ takeOf (s .p) (s .chunk) (s .at)
   unfolding takeOf
-  took-all h = rw (← there, ← grown, none h (ltb (newlineFrom chunk at) (length chunk)) refl) refl
+  took-all h = rw (← s .there, ← grown, none h (ltb end (length (s .chunk))) refl) refl
 
-  pub took-long : length chars < n - at → q .over ≡ true → stepOf q n Long ≡ takeOf p chunk at
+  pub took-long : length (s .chars) < s .n - s .at → s .q .over ≡ true → stepOf (s .q) (s .n) Long ≡ takeOf (s .p) (s .chunk) (s .at)
   unfolding takeOf
-  took-long h o = rw (← there, ← grown, newline h (ltb (newlineFrom chunk at) (length chunk)) refl, o) refl
+  took-long h o = rw (← s .there, ← grown, newline h (ltb end (length (s .chunk))) refl, o) refl
 
-  pub took-line : length chars < n - at → q .over ≡ false → stepOf q n Whole ≡ takeOf p chunk at
+  pub took-line : length (s .chars) < s .n - s .at → s .q .over ≡ false → stepOf (s .q) (s .n) Whole ≡ takeOf (s .p) (s .chunk) (s .at)
   unfolding takeOf
-  took-line h o = rw (← there, ← grown, newline h (ltb (newlineFrom chunk at) (length chunk)) refl, o) refl
+  took-line h o = rw (← s .there, ← grown, newline h (ltb end (length (s .chunk))) refl, o) refl

@@ -2,74 +2,33 @@
 use mathlib.Core.Path.{_∙_}
 use native.Mathlib.Omega.{arith}
 use Rattle.lines.proofs.Ahead.{at-past}
-use Rattle.lines.proofs.Adds.{took-all, took-long, took-line}
+use Rattle.lines.proofs.Adds.{Step, took-all, took-long, took-line}
 use borrow.Author.Needs.{needs}
 use Rattle.lines.proofs.stream.Pending.take.Statement.{statement}
 use Rattle.lines.proofs.stream.Pending.take.Tie as tie
 
+-- after its three calls
+abbrev step : tie.After-after → Step
+step c =
+    let s = c .before in
+    let r = s .before in
+    let a = r .before .before .args in
+    record {
+      p = a .self;
+      chunk = a .chunk .now;
+      at = a .at;
+      chars = _;
+      q = _;
+      n = _;
+      are = r .read .ensures;
+      made = s .some .ensures;
+      there = c .after .ensures;
+    }
+
 sub-if1 : tie.Need-sub-if1
 sub-if1 c =
-    let a = c .before .before .before .before .args in
-    omega (arith, c .after .ensures, at-past (a .chunk .now) (a .at))
-
-returns : tie.Need-returns
-returns c =
-    let n = c .before .before in
-    let s = n .before in
-    let r = s .before in
-    let a = r .before .before .args in
-    c .step .ensures
-    ∙ took-all
-    (a .self)
-    (s .some .result)
-    (a .chunk .now)
-    (r .read .result .now)
-    (a .at)
-    (n .after .result)
-    (r .read .ensures)
-    (s .some .ensures)
-    (n .after .ensures)
-    (c .before .if1 .taken)
-
-returns-2 : tie.Need-returns-2
-returns-2 c =
-    let n = c .before .before .before in
-    let s = n .before in
-    let r = s .before in
-    let a = r .before .before .args in
-    c .step2 .ensures
-    ∙ took-long
-    (a .self)
-    (s .some .result)
-    (a .chunk .now)
-    (r .read .result .now)
-    (a .at)
-    (n .after .result)
-    (r .read .ensures)
-    (s .some .ensures)
-    (n .after .ensures)
-    (c .before .before .if1 .left)
-    (c .before .if2 .taken)
-
-returns-3 : tie.Need-returns-3
-returns-3 c =
-    let n = c .before .before .before in
-    let s = n .before in
-    let r = s .before in
-    let a = r .before .before .args in
-    c .step3 .ensures
-    ∙ took-line
-    (a .self)
-    (s .some .result)
-    (a .chunk .now)
-    (r .read .result .now)
-    (a .at)
-    (n .after .result)
-    (r .read .ensures)
-    (s .some .ensures)
-    (n .after .ensures)
-    (c .before .before .if1 .left)
-    (c .before .if2 .left)
+    let s = step c in
+    omega (arith, s .there, at-past (s .chunk) (s .at))
 
 pub take-spec : {M : Type 1} → statement M
 take-spec =
@@ -80,8 +39,8 @@ take-spec =
     (λ c κs. search needs)  -- after-requires
     sub-if1
     (λ c κs. search needs)  -- step-requires
-    returns
+    (λ c. c .step .ensures ∙ took-all (step (c .before .before)) (c .before .if1 .taken))  -- returns
     (λ c κs. search needs)  -- step-requires-2
-    returns-2
+    (λ c. let b = c .before in c .step2 .ensures ∙ took-long (step (b .before .before)) (b .before .if1 .left) (b .if2 .taken))  -- returns-2
     (λ c κs. search needs)  -- step-requires-3
-    returns-3)
+    (λ c. let b = c .before in c .step3 .ensures ∙ took-line (step (b .before .before)) (b .before .if1 .left) (b .if2 .left)))  -- returns-3
