@@ -3,10 +3,12 @@
 # A block that is fenced as `session` is a run of the program from its start. A line of it is SENT -> ANSWER, with words behind two spaces; what is sent may be empty.
 # What stands between `repeat N` and `end` is sent N times, and an answer * is any that is accepted. Sessions that repeat are too long for the gate: they are run if
 # `long` is said.
-# Each refusal that frames can reach has a session in docs/REFUSALS.md, in the section with its number, and so has each op with each number of that page's table.
+# docs/RULES.md has each section of document 01 that is cited by its name. Each refusal that frames can reach has a session in docs/REFUSALS.md, in the section with its
+# number, and so has each op with each number of that page's table.
 set -u
 cd "$(dirname "$0")/.." || exit 2
 . tests/run.bash
+papers=(RULES FRAMES REFUSALS DIFFERENCES)
 
 # Of each session, in the order of the papers: PAPER.N.sent, its lines; PAPER.N.said, their answers; PAPER.N.long, if it repeats. A line for each answer in `answers`:
 # the paper, the number of its section, the answer's op and its second byte. What is neither goes to `unread`.
@@ -26,12 +28,19 @@ read_paper() { # FILE
     inside != 1 { next }
     /^repeat [0-9]+$/ && !times { times = $2; print times > (name ".long"); next }
     $0 == "end" && times { for (; times > 0; times--) for (i = 1; i <= kept; i++) send(lines[i], said[i]); kept = 0; next }
-    /^[^>]* -> ([0-9a-f]+|\*)(  .*)?$/ { line = $0; sub(/ -> .*/, "", line); answer = $0; sub(/^[^>]* -> /, "", answer); sub(/  .*/, "", answer); give(line, answer); next }
+    /^[^>]* -> ([0-9a-f]+|\*)(  .*)?$/ {
+      line = answer = $0
+      sub(/ -> .*/, "", line)
+      sub(/^[^>]* -> /, "", answer)
+      sub(/  .*/, "", answer)
+      give(line, answer)
+      next
+    }
     { print FILENAME ":" FNR ": " $0 >> (room "/unread") }
     END { if (inside || times) print FILENAME ": a block without its end" >> (room "/unread") }' "$1"
 }
 : > "$room/answers" && : > "$room/unread"
-for paper in FRAMES REFUSALS DIFFERENCES; do read_paper "docs/$paper.md"; done
+for paper in "${papers[@]}"; do read_paper "docs/$paper.md"; done
 [ ! -s "$room/unread" ]
 tried $? 'each line of a session is SENT -> ANSWER' || cat "$room/unread"
 
@@ -41,7 +50,7 @@ starred() {
   return "${PIPESTATUS[0]}"
 }
 long=0
-for paper in FRAMES REFUSALS DIFFERENCES; do
+for paper in "${papers[@]}"; do
   for sent in $(ls "$room/$paper".*.sent | sort -V); do
     session=${sent%.sent}
     if [ -e "$session.long" ]; then
@@ -53,7 +62,7 @@ for paper in FRAMES REFUSALS DIFFERENCES; do
 done
 [ "$long" -eq 1 ]
 tried $? 'one session is long'
-sessions=17
+sessions=20
 [ "${1:-}" != long ] || sessions=$((sessions + long))
 
 # The numbers, against the papers' own words.
@@ -76,4 +85,11 @@ awk '$1 == "REFUSALS" && $4 != "00" && $4 != "" { print $3, $4 }' "$room/answers
 tried $? "the table of ops lists $(wc -l < "$room/listed") refusals"
 diff "$room/listed" "$room/seen"
 tried $? 'a session of docs/REFUSALS.md is answered with each of them, and with no other'
-finished $((sessions + 18))
+
+# What the files cite by the name of a section of document 01, docs/RULES.md has.
+grep -rhoE '[Dd]ocument 01, "[^"]+"(( and|,) "[^"]+")*' README.md crates docs kiosk oracle recorded tests |
+  grep -oE '"[^"]+"' | sed 's/"//g; s/ (.*//; s/:.*//' | sort -u > "$room/cited"
+sed -n 's/^###* //p' docs/RULES.md | sort > "$room/sections"
+[ "$(wc -l < "$room/cited")" -ge 10 ] && [ -z "$(comm -23 "$room/cited" "$room/sections")" ]
+tried $? "docs/RULES.md has the $(wc -l < "$room/cited") sections that are cited" || comm -23 "$room/cited" "$room/sections"
+finished $((sessions + 19))

@@ -7,7 +7,7 @@
 set -u
 cd "$(dirname "$0")/.." || exit 2
 . tests/run.bash
-papers=(README.md docs/READING.md docs/DECISIONS.md docs/CHANGES.md docs/FRAMES.md docs/REFUSALS.md)
+papers=(README.md docs/READING.md docs/DECISIONS.md docs/CHANGES.md docs/RULES.md docs/FRAMES.md docs/REFUSALS.md)
 for paper in "${papers[@]}"; do
   rows=0
   [ "$paper" != docs/READING.md ] || rows=1
