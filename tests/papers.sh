@@ -62,8 +62,17 @@ for paper in "${papers[@]}"; do
 done
 [ "$long" -eq 1 ]
 tried $? 'one session is long'
-sessions=20
+sessions=21
 [ "${1:-}" != long ] || sessions=$((sessions + long))
+
+# The bytes of docs/RULES.md, a tree snapshot and a list of cuts: those that `inspect` shows after the first and the second line of its last session.
+bytes_in() { awk '/^```/ { inside = $0 == "```text"; if (bytes != "") print bytes; bytes = ""; next } inside && /^[0-9a-f ]+$/ { gsub(/ /, ""); bytes = bytes $0 }' "$1"; }
+shown() {
+  run inspect | awk 'NR == 1 { print $2 } NR == 2 { print $8 }'
+  return "${PIPESTATUS[0]}"
+}
+bytes_in docs/RULES.md > "$room/bytes"
+writes 'the snapshot and the cuts of docs/RULES.md' "$room/bytes" shown < "$room/RULES.4.sent"
 
 # The numbers, against the papers' own words.
 given() { awk -v number="$1" '$1 == "REFUSALS" && $2 == number && $4 == sprintf("%02x", number)' "$room/answers" | grep -q .; } # NUMBER
@@ -92,4 +101,4 @@ grep -rhoE '[Dd]ocument 01, "[^"]+"(( and|,) "[^"]+")*' README.md crates docs ki
 sed -n 's/^###* //p' docs/RULES.md | sort > "$room/sections"
 [ "$(wc -l < "$room/cited")" -ge 10 ] && [ -z "$(comm -23 "$room/cited" "$room/sections")" ]
 tried $? "docs/RULES.md has the $(wc -l < "$room/cited") sections that are cited" || comm -23 "$room/cited" "$room/sections"
-finished $((sessions + 19))
+finished $((sessions + 20))
