@@ -96,7 +96,7 @@ diff "$room/listed" "$room/seen"
 tried $? 'a session of docs/REFUSALS.md is answered with each of them, and with no other'
 
 # What the files cite by the name of a section of document 01, docs/RULES.md has.
-grep -rhoE '[Dd]ocument 01, "[^"]+"(( and|,) "[^"]+")*' README.md crates docs kiosk oracle recorded tests |
+grep -rhIoE '[Dd]ocument 01, "[^"]+"(( and|,) "[^"]+")*' README.md crates docs kiosk oracle recorded tests |
   grep -oE '"[^"]+"' | sed 's/"//g; s/ (.*//; s/:.*//' | sort -u > "$room/cited"
 sed -n 's/^###* //p' docs/RULES.md | sort > "$room/sections"
 [ "$(wc -l < "$room/cited")" -ge 10 ] && [ -z "$(comm -23 "$room/cited" "$room/sections")" ]
