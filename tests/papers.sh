@@ -1,7 +1,7 @@
 #!/usr/bin/env bash
 # The sessions of the papers, through the counter: tests/papers.sh [long]
 # A block that is fenced as `session` is a run of the program from its start. A line of it is SENT -> ANSWER, with words behind two spaces; what is sent may be empty.
-# What stands between `repeat N` and `end` is sent N times, and an answer * is any that is accepted. Sessions that repeat are too long for the gate: they are run if
+# What stands between `repeat N` and `end` is sent N times, and there an answer * is any that is accepted. Sessions that repeat are too long for the gate: they are run if
 # `long` is said.
 # docs/RULES.md has each section of document 01 that is cited by its name. Each refusal that frames can reach has a session in docs/REFUSALS.md, in the section with its
 # number, and so has each op with each number of that page's table.
@@ -28,7 +28,7 @@ read_paper() { # FILE
     inside != 1 { next }
     /^repeat [0-9]+$/ && !times { times = $2; print times > (name ".long"); next }
     $0 == "end" && times { for (; times > 0; times--) for (i = 1; i <= kept; i++) send(lines[i], said[i]); kept = 0; next }
-    /^[^>]* -> ([0-9a-f]+|\*)(  .*)?$/ {
+    /^[^>]* -> [0-9a-f]+(  .*)?$/ || times && /^[^>]* -> \*(  .*)?$/ {
       line = answer = $0
       sub(/ -> .*/, "", line)
       sub(/^[^>]* -> /, "", answer)
@@ -52,12 +52,12 @@ starred() {
 long=0
 for paper in "${papers[@]}"; do
   for sent in $(ls "$room/$paper".*.sent | sort -V); do
-    session=${sent%.sent}
+    session=${sent%.sent} answers=(run counter)
     if [ -e "$session.long" ]; then
-      long=$((long + 1))
+      long=$((long + 1)) answers=(starred "$session.said")
       [ "${1:-}" = long ] || continue
     fi
-    writes "docs/$paper.md, session ${session##*.}: $(wc -l < "$sent") lines" "$session.said" starred "$session.said" < "$sent"
+    writes "docs/$paper.md, session ${session##*.}: $(wc -l < "$sent") lines" "$session.said" "${answers[@]}" < "$sent"
   done
 done
 [ "$long" -eq 1 ]
