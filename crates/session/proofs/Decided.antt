@@ -5,6 +5,7 @@ use mathlib.Core.List.{List, _∷_, _++_}
 use Prim.Native.Nat.{ℕ}
 use lib.ListN.{length}
 use Rattle.lines.specs.Text.{Line, linesOf, joined}
+use Rattle.layout.specs.declared.layout.Layout.{Layout}
 use Rattle.layout.specs.Check.{limit}
 use Rattle.layout.proofs.Determined.{insert-is-one, remove-is-one}
 use Rattle.frames.specs.declared.Request.{Request}
@@ -12,9 +13,12 @@ use Rattle.frames.specs.declared.Request.the-variants.{Open, Offers, Insert, Re
 use Rattle.frames.specs.Answers.{Answer, answerLine}
 use Rattle.session.specs.declared.Session.{Session}
 use Rattle.session.specs.declared.replies.Said.{Said}
+use Rattle.session.specs.declared.replies.Response.{Response}
+use Rattle.session.specs.declared.replies.Keeping.{Keeping}
 use Rattle.session.specs.declared.desk.Desk.{Desk}
 use Rattle.session.specs.declared.desk.Turn.{Turn}
 use Rattle.session.specs.Session.{Reply, reply, afterInsert, afterRemove, Answers, held, Says}
+use Rattle.session.specs.Replies.{both, refusal, Replies, Keeps, Restores}
 use Rattle.session.specs.Desk.{askedIn, Runs, none, more, opening, textOf, Ends, Served}
 use Rattle.session.proofs.Laws.{input-run}
 
@@ -32,13 +36,33 @@ answers-once s Restore g h = g ∙ sym h
 answers-once s Report g h = g ∙ sym h
 answers-once s Malformed g h = g ∙ sym h
 
--- and so is the line that says it
+-- and where only layouts are at hand, a layout and a request, or the two layouts
 pub same-said : {a b : Answer} {r p : Said} → a ≡ b → Says a r → Says b p → r ≡ p
 same-said e x y i =
     record {
       line = (x .padded ∙ ap held e ∙ sym (y .padded)) i;
       count = (x .count ∙ ap (λ (c : Answer). length (answerLine c)) e ∙ sym (y .count)) i;
     }
+
+pub replies-once : (l : Layout) (q : Request) {r p : Response} → Replies l q r → Replies l q p → r ≡ p
+replies-once l q x y =
+    let e = answers-once (both l l) q (x .answers l) (y .answers l) in
+    let same = same-said (ap (λ (w : Reply). w .answer) e) (x .says) (y .says) in
+    let no = x .refused ∙ ap (λ (w : Reply). refusal (w .answer)) e ∙ sym (y .refused) in
+    λ i. record { layout = e i .session .layout; refused = no i; said = same i }
+
+pub keeps-once : (l : Layout) {r p : Keeping} → Keeps l r → Keeps l p → r ≡ p
+keeps-once l x y =
+    let e = answers-once (both l l) Keep (x .answers l) (y .answers l) in
+    let same = same-said (ap (λ (w : Reply). w .answer) e) (x .says) (y .says) in
+    λ i. record { sound = (x .sound ∙ sym (y .sound)) i; said = same i }
+
+pub restores-once : (l kept : Layout) {r p : Response} → Restores l kept r → Restores l kept p → r ≡ p
+restores-once l kept x y =
+    let e = answers-once (both l kept) Restore (x .answers) (y .answers) in
+    let same = same-said (ap (λ (w : Reply). w .answer) e) (x .says) (y .says) in
+    let no = x .refused ∙ ap (λ (w : Reply). refusal (w .answer)) e ∙ sym (y .refused) in
+    λ i. record { layout = e i .session .layout; refused = no i; said = same i }
 
 -- a run of lines
 pub runs-once : {s u v : Session} {ls : List Line} {xs ys : List Answer} → Runs s ls xs u → Runs s ls ys v → (xs ≡ ys) × (u ≡ v)
