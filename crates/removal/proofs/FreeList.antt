@@ -4,8 +4,8 @@ use mathlib.Core.Path.{_≡_}
 use mathlib.Core.List.{List}
 use Prim.Native.Nat.{ℕ, _+_}
 use native.Mathlib.Omega.{arith}
-use Rattle.piece.specs.declared.size.Size.{Size}
 use Rattle.piece.specs.declared.node.Datum.{Datum}
+use Rattle.piece.specs.declared.settings.Settings.{Settings}
 use Rattle.piece.specs.Sides.{area}
 use Rattle.tree.specs.Tree.{Tree, In, At, Distinct}
 use Rattle.tree.specs.Sound.{Sound}
@@ -30,18 +30,18 @@ use Rattle.removal.proofs.Serials.{new-serial, new-free}
 alone : (v : Tree) → Distinct v → (i : ℕ) (e f : Datum) → At i e v → At i f v → e ≡ f
 alone v dis i e f y g = at-unique i f e v dis g y
 
-module _ (limit stages : ℕ) (sheet : Size) (t : List Node) (w : Tree) (sound : Sound limit stages sheet w) (h : Holds limit t w)
+module _ (limit : ℕ) (settings : Settings) (t : List Node) (w : Tree) (sound : Sound limit settings w) (h : Holds limit t w)
     (x : ℕ) (z : Removable x w) (xs : List ℕ) (free : FreeList w xs) where
   left-alone : (i : ℕ) (e f : Datum) → At i e (cleared x w) → At i f (cleared x w) → e ≡ f
-  left-alone = alone (cleared x w) (clear-sound limit stages sheet t w sound h x z .distinct)
+  left-alone = alone (cleared x w) (clear-sound limit settings t w sound h x z .distinct)
 
   -- when all that goes has gone
   pub cleared-free : FreeList (cleared x w) (cutAll xs (going t x w))
   cleared-free =
       free-cut-all (piecesOf w) (piecesOf (cleared x w)) (going t x w) xs
-      (λ i e y q n. cleared-stays limit stages sheet t w sound h x z i e y n)
+      (λ i e y q n. cleared-stays limit settings t w sound h x z i e y n)
       (λ i e y q. cleared-at i e x w y)
-      (λ i e y q. cleared-was limit stages sheet t w sound h x z i e y .1)
+      (λ i e y q. cleared-was limit settings t w sound h x z i e y .1)
       left-alone free
 
   -- and when the new piece is there; the areas are those of the pieces then
@@ -51,8 +51,8 @@ module _ (limit stages : ℕ) (sheet : Size) (t : List Node) (w : Tree) (sound :
   remove-free n last unheld serials areas sized =
       free-put (piecesOf (cleared x w)) (piecesOf (remove x n (last + 1) w)) areas n (newFree t x last) (cutAll xs (going t x w))
       (λ i e y q. at-remove x n (last + 1) i e w y)
-      (λ i e y q. remove-pieces limit stages sheet t w sound h x z n last unheld i e y)
-      (new-there limit stages sheet t w sound h x z n last)
+      (λ i e y q. remove-pieces limit settings t w sound h x z n last unheld i e y)
+      (new-there limit settings t w sound h x z n last)
       (new-free t x last)
       (λ e y q. unheld (at-in n e (cleared x w) y))
       (λ i e y q. omega (arith, serials .most i e (cleared-at i e x w y), new-serial t x last))

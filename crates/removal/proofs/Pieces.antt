@@ -6,8 +6,8 @@ use mathlib.Core.Bool.{Bool, true, false, cond, _&&_}
 use mathlib.Core.Logic.{_⊎_, inl, inr, ⊎-elim}
 use Prim.Native.Nat.{ℕ, _+_, _<_}
 use native.Mathlib.Omega.{arith}
-use Rattle.piece.specs.declared.size.Size.{Size}
 use Rattle.piece.specs.declared.node.Datum.{Datum}
+use Rattle.piece.specs.declared.settings.Settings.{Settings}
 use Rattle.piece.specs.Row.{nil, grow}
 use Rattle.tree.specs.Tree.{Tree, In, At, Distinct, isFree, isNil, after}
 use Rattle.tree.specs.Sound.{Sound}
@@ -195,10 +195,10 @@ module _ (t : List Node) (x : ℕ) (d : Datum) (w : Tree) (dis : Distinct w) (o 
 
 -- ---- The laws.
 
-module _ (limit stages : ℕ) (sheet : Size) (t : List Node) (w : Tree) (sound : Sound limit stages sheet w) (h : Holds limit t w)
+module _ (limit : ℕ) (settings : Settings) (t : List Node) (w : Tree) (sound : Sound limit settings w) (h : Holds limit t w)
     (x : ℕ) (z : Removable x w) where
   abbrev o : RowOf t x (z .piece) w
-  o = row-of limit stages sheet t w sound h x z
+  o = row-of limit settings t w sound h x z
 
   -- what goes is in the tree
   pub going-in : (i : ℕ) → Names i (going t x w) → In i w

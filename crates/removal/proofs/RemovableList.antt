@@ -7,8 +7,8 @@ use mathlib.Core.Bool.{Bool, true, false, cond, false≢true}
 use mathlib.Core.Logic.{_⊎_, inl, inr, ⊎-elim}
 use Prim.Native.Nat.{ℕ, _+_}
 use lib.Dec.{leb}
-use Rattle.piece.specs.declared.size.Size.{Size}
 use Rattle.piece.specs.declared.node.Datum.{Datum}
+use Rattle.piece.specs.declared.settings.Settings.{Settings}
 use Rattle.lists.specs.Lists.{limit}
 use Rattle.tree.specs.Tree.{Tree, In, At, isFree}
 use Rattle.tree.specs.Sound.{Sound}
@@ -61,14 +61,14 @@ back-last A xs q d one there solid h =
 
 -- ---- what is left
 
-module _ (stages : ℕ) (sheet : Size) (t : List Node) (w : Tree) (sound : Sound limit stages sheet w) (h : Holds limit t w)
+module _ (settings : Settings) (t : List Node) (w : Tree) (sound : Sound limit settings w) (h : Holds limit t w)
     (x : ℕ) (z : Removable x w) (ys : List ℕ) (removable : RemovableList w ys) where
   -- when all that goes has gone
   pub cleared-removable : RemovableList (cleared x w) (strikeAll ys (going t x w))
   cleared-removable =
       holding-strike-all Solid (piecesOf w) (piecesOf (cleared x w)) (going t x w) ys
-      (λ i e y s n. cleared-stays limit stages sheet t w sound h x z i e y n)
-      (λ i e y s. cleared-was limit stages sheet t w sound h x z i e y) removable
+      (λ i e y s n. cleared-stays limit settings t w sound h x z i e y n)
+      (λ i e y s. cleared-was limit settings t w sound h x z i e y) removable
 
   -- the free last piece is not in the list: to strike it changes nothing
   end-absent : (q : ℕ) → freeLast t q ≡ true → Absent (at t q .last) (strikeAll ys (leaving (subtree x w)))
@@ -97,23 +97,23 @@ module _ (stages : ℕ) (sheet : Size) (t : List Node) (w : Tree) (sound : Sound
   q = at t x .parent
 
   hangs : at t x .parent ≡ parentOf limit x w
-  hangs = parent-is limit stages sheet w sound x (at-in x (z .piece) w (z .there)) (z .below) t h
+  hangs = parent-is limit settings w sound x (at-in x (z .piece) w (z .there)) (z .below) t h
 
   -- it stays, and is no free piece
   parent-stays : (e : Datum) × At q e (cleared x w) × Solid e
   parent-stays =
       let i = at-in x (z .piece) w (z .there) in
-      let g = in-at (parentOf limit x w) w (parent-held limit stages sheet w sound x i (z .below)) in
+      let g = in-at (parentOf limit x w) w (parent-held limit settings w sound x i (z .below)) in
       rw hangs (
         g .0,
-        parent-cleared-at limit stages sheet w sound x i (z .below) (g .0) (g .1),
-        ap isFree (parent-solid limit stages sheet w sound x i (z .below) (g .0) (g .1)),
+        parent-cleared-at limit settings w sound x i (z .below) (g .0) (g .1),
+        ap isFree (parent-solid limit settings w sound x i (z .below) (g .0) (g .1)),
       )
 
   -- what is left shows whether it has lost its last child
   parent-bare : leb limit (at (unlinkAll limit t (going t x w)) q .first) ≡ childless (parentOf limit x w) (cleared x w)
   parent-bare =
-      no-child limit (unlinkAll limit t (going t x w)) q (cleared x w) (clear-sound limit stages sheet t w sound h x z)
+      no-child limit (unlinkAll limit t (going t x w)) q (cleared x w) (clear-sound limit settings t w sound h x z)
       (at-in q (parent-stays .0) (cleared x w) (parent-stays .1))
       ∙ ap (λ (p : ℕ). childless p (cleared x w)) hangs
 
@@ -130,7 +130,7 @@ module _ (stages : ℕ) (sheet : Size) (t : List Node) (w : Tree) (sound : Sound
     struck-removable =
         holding-same Solid (piecesOf (cleared x w)) (piecesOf w′) struck (λ i e y s. at-remove x n (last + 1) i e w y)
         (λ i e y s. ⊎-elim (λ v. v) (λ v. absurd (false≢true (sym s ∙ new i e v)))
-        (remove-pieces limit stages sheet t w sound h x z n last unheld i e y)) cleared-removable
+        (remove-pieces limit settings t w sound h x z n last unheld i e y)) cleared-removable
       where
         new : (i : ℕ) (e : Datum) → (i ≡ n) × (e ≡ newFree t x last) → isFree (e .kind) ≡ true
         new i e v = ap (λ (c : Datum). isFree (c .kind)) (v .1) ∙ ap isFree (new-free t x last)

@@ -6,8 +6,8 @@ use mathlib.Core.Logic.{inl, inr}
 use Prim.Native.Nat.{ℕ, _+_, _<_}
 use native.Mathlib.Omega.{arith}
 use lib.ListN.{length}
-use Rattle.piece.specs.declared.size.Size.{Size}
 use Rattle.piece.specs.declared.node.Datum.{Datum}
+use Rattle.piece.specs.declared.settings.Settings.{Settings}
 use Rattle.piece.specs.Row.{nil, grow}
 use Rattle.lists.specs.Lists.{limit}
 use Rattle.tree.specs.Tree.{Tree, At, count}
@@ -40,35 +40,35 @@ sides-small i e l (grow p d k r) f (inl g) = rw (g .1) (f .0 .small)
 sides-small i e l (grow p d k r) f (inr (inl h)) = sides-small i e (l + 1) k (f .1) h
 sides-small i e l (grow p d k r) f (inr (inr h)) = sides-small i e l r (f .2) h
 
-module _ (stages : ℕ) (sheet : Size) (t : List Node) (w : Tree) (sound : Sound limit stages sheet w) (h : Holds limit t w)
+module _ (settings : Settings) (t : List Node) (w : Tree) (sound : Sound limit settings w) (h : Holds limit t w)
     (x : ℕ) (z : Removable x w) where
   -- one place is unheld when all that goes has gone
   left-fewer : count (cleared x w) < limit
   left-fewer =
-      omega (arith, cleared-count limit stages sheet w sound x (at-in x (z .piece) w (z .there)) (z .below), sound .room)
+      omega (arith, cleared-count limit settings w sound x (at-in x (z .piece) w (z .there)) (z .below), sound .room)
 
   pub free-room : (xs : List ℕ) → FreeList w xs → length (cutAll xs (going t x w)) < limit
   free-room xs f =
-      let g = cleared-free limit stages sheet t w sound h x z xs f in
+      let g = cleared-free limit settings t w sound h x z xs f in
       omega (arith, holding-most _ (cleared x w) (cutAll xs (going t x w)) (g .holding), left-fewer)
 
   pub removable-room : (ys : List ℕ) → RemovableList w ys → length (strikeAll ys (going t x w)) < limit
   removable-room ys f =
-      let g = cleared-removable stages sheet t w sound h x z ys f in
+      let g = cleared-removable settings t w sound h x z ys f in
       omega (arith, holding-most _ (cleared x w) (strikeAll ys (going t x w)) g, left-fewer)
 
   -- the lowest unheld place is one
   pub place-room : lowestFrom limit (unlinkAll limit t (going t x w)) 0 < limit
   place-room =
-      lowest-room limit (unlinkAll limit t (going t x w)) 0 (cleared x w) (clear-sound limit stages sheet t w sound h x z)
+      lowest-room limit (unlinkAll limit t (going t x w)) 0 (cleared x w) (clear-sound limit settings t w sound h x z)
       (omega (arith, left-fewer))
 
   -- the new free piece is one of a sound tree
   pub new-small : (last : ℕ) → Small (newFree t x last .size)
   new-small last =
-      let f = fresh-removal limit stages sheet w sound x z in
+      let f = fresh-removal limit settings w sound x z in
       let n = newPlace limit (cleared x w) 0 in
       let v = remove x n (last + 1) w in
       sides-small n (newFree t x last) 0 v
-      (sound-readable v (removal-sound limit stages sheet w x n (last + 1) sound z (f .0) (f .1)))
-      (new-there limit stages sheet t w sound h x z n last)
+      (sound-readable v (removal-sound limit settings w x n (last + 1) sound z (f .0) (f .1)))
+      (new-there limit settings t w sound h x z n last)

@@ -4,8 +4,8 @@ use mathlib.Core.Path.{_≡_, refl}
 use mathlib.Core.List.{List, _++_}
 use mathlib.Core.Bool.{true, _&&_, false≢true}
 use Prim.Native.Nat.{ℕ, _+_}
-use Rattle.piece.specs.declared.size.Size.{Size}
 use Rattle.piece.specs.declared.node.Datum.{Datum}
+use Rattle.piece.specs.declared.settings.Settings.{Settings}
 use Rattle.piece.specs.Row.{nil, grow}
 use Rattle.lists.proofs.Scan.{and-left, and-right}
 use Rattle.tree.specs.Tree.{Tree, isFree, isNil, after}
@@ -59,11 +59,11 @@ module _ (t : List Node) (x : ℕ) (d : Datum) (w : Tree) (o : RowOf t x d w) wh
   unfolding newFree
   new-is last = rw (o .shown, o .hangs, o .end) refl
 
-pub row-of : (limit stages : ℕ) (sheet : Size) (t : List Node) (w : Tree) → Sound limit stages sheet w → Holds limit t w
+pub row-of : (limit : ℕ) (settings : Settings) (t : List Node) (w : Tree) → Sound limit settings w → Holds limit t w
     → (x : ℕ) (z : Removable x w) → RowOf t x (z .piece) w
-row-of limit stages sheet t w sound h x z =
-    let s = spot limit stages sheet t w sound h x z in
-    let r = row limit stages sheet t w sound h x z in
+row-of limit settings t w sound h x z =
+    let s = spot limit settings t w sound h x z in
+    let r = row limit settings t w sound h x z in
     let d = z .piece in
     record {
       parent = s .parent;
@@ -71,11 +71,11 @@ row-of limit stages sheet t w sound h x z =
       below = s .below;
       behind = s .behind;
       kids = r;
-      leaves = leaves limit stages sheet t w sound h x z;
-      hangs = parent-is limit stages sheet t w sound h x s;
+      leaves = leaves limit settings t w sound h x z;
+      hangs = parent-is limit settings t w sound h x s;
       shown = datum-is limit t limit limit x d w (h .rep) (z .there);
       end = end-is limit t (s .parent) x (s .before) d (s .below) (s .behind) w h r (z .solid) .1;
-      goes = going-row limit stages sheet t w sound h x z;
+      goes = going-row limit settings t w sound h x z;
       left = cleared-put (s .parent) x (s .before) d (s .below) (s .behind) w (h .distinct) r;
       comes = remove-put (s .parent) x (s .before) d (s .below) (s .behind) w (h .distinct) r;
     }

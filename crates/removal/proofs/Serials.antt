@@ -4,9 +4,9 @@ use mathlib.Core.List.{List}
 use mathlib.Core.Logic.{_⊎_, inl, inr, ⊎-elim}
 use Prim.Native.Nat.{ℕ, _+_, _≤_}
 use native.Mathlib.Omega.{arith}
-use Rattle.piece.specs.declared.size.Size.{Size}
 use Rattle.piece.specs.declared.node.Datum.{Datum}
 use Rattle.piece.specs.declared.node.Kind.the-variants.{Free}
+use Rattle.piece.specs.declared.settings.Settings.{Settings}
 use Rattle.tree.specs.Tree.{Tree, In, At}
 use Rattle.tree.specs.Sound.{Sound}
 use Rattle.tree.specs.Removal.{remove, cleared}
@@ -27,7 +27,7 @@ pub new-free : (t : List Node) (x last : ℕ) → newFree t x last .kind ≡ Fre
 unfolding newFree
 new-free t x last = refl
 
-module _ (limit stages : ℕ) (sheet : Size) (t : List Node) (w : Tree) (sound : Sound limit stages sheet w) (h : Holds limit t w)
+module _ (limit : ℕ) (settings : Settings) (t : List Node) (w : Tree) (sound : Sound limit settings w) (h : Holds limit t w)
     (x : ℕ) (z : Removable x w) (n last : ℕ) (unheld : In n (cleared x w) → ⊥) (serials : Serials w last) where
   abbrev w′ : Tree
   w′ = remove x n (last + 1) w
@@ -37,7 +37,7 @@ module _ (limit stages : ℕ) (sheet : Size) (t : List Node) (w : Tree) (sound :
   serial-is i e y =
       ⊎-elim (λ v. inl (cleared-at i e x w v))
       (λ v. inr (v .0, ap (λ (f : Datum). f .serial) (v .1) ∙ new-serial t x last))
-      (remove-pieces limit stages sheet t w sound h x z n last unheld i e y)
+      (remove-pieces limit settings t w sound h x z n last unheld i e y)
 
   pub remove-serials : last + 1 ≤ maxSerial → Serials w′ (last + 1)
   remove-serials room =

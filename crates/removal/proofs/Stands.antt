@@ -5,8 +5,8 @@ use mathlib.Core.List.{List}
 use Prim.Native.Nat.{ℕ, _+_, _≤_, _<_}
 use native.Mathlib.Omega.{arith}
 use lib.ListN.{length}
-use Rattle.piece.specs.declared.size.Size.{Size}
 use Rattle.piece.specs.declared.node.Datum.{Datum}
+use Rattle.piece.specs.declared.settings.Settings.{Settings}
 use Rattle.piece.specs.Sides.{area}
 use Rattle.lists.specs.Lists.{limit}
 use Rattle.tree.specs.Tree.{Tree, In}
@@ -42,7 +42,7 @@ use Rattle.removal.proofs.FreeList.{remove-free}
 use Rattle.removal.proofs.RemovableList.{remove-removable, returned-is}
 use Rattle.removal.proofs.Rooms.{free-room, removable-room, place-room, new-small}
 
-module _ (stages : ℕ) (sheet : Size) (last : ℕ) (w : Tree) (n : LayoutNodes) (stands : Stands stages sheet last w n) (x : ℕ)
+module _ (settings : Settings) (last : ℕ) (w : Tree) (n : LayoutNodes) (stands : Stands settings last w n) (x : ℕ)
     (z : Removable x w) (spent : last + 1 ≤ maxSerial) where
   -- what goes
   abbrev g : List ℕ
@@ -52,7 +52,7 @@ module _ (stages : ℕ) (sheet : Size) (last : ℕ) (w : Tree) (n : LayoutNodes)
   left = unlinkAll limit (n .nodes) g
 
   gone : Holds limit left (cleared x w)
-  gone = clear-sound limit stages sheet (n .nodes) w (stands .sound) (stands .holds) x z
+  gone = clear-sound limit settings (n .nodes) w (stands .sound) (stands .holds) x z
 
   marked : Marked (cleared x w)
   marked i e y = let h = stands .serials .least i e (cleared-at i e x w y) in omega arith
@@ -68,16 +68,16 @@ module _ (stages : ℕ) (sheet : Size) (last : ℕ) (w : Tree) (n : LayoutNodes)
   place-is = lowest-is limit left (cleared x w) gone marked 0
 
   place-low : place < limit
-  place-low = fresh-removal limit stages sheet w (stands .sound) x z .0
+  place-low = fresh-removal limit settings w (stands .sound) x z .0
 
   place-new : In place (cleared x w) → ⊥
-  place-new = fresh-removal limit stages sheet w (stands .sound) x z .1
+  place-new = fresh-removal limit settings w (stands .sound) x z .1
 
   abbrev after : Tree
   after = remove x place (last + 1) w
 
-  sound-is : Sound limit stages sheet after
-  sound-is = removal-sound limit stages sheet w x place (last + 1) (stands .sound) z place-low place-new
+  sound-is : Sound limit settings after
+  sound-is = removal-sound limit settings w x place (last + 1) (stands .sound) z place-low place-new
 
   abbrev table : List Node
   table = append limit left (at (n .nodes) x .parent) place (newFree (n .nodes) x last)
@@ -85,14 +85,14 @@ module _ (stages : ℕ) (sheet : Size) (last : ℕ) (w : Tree) (n : LayoutNodes)
   table-is : Holds limit table after
   unfolding newFree
   table-is =
-      rw datum (remove-sound limit stages sheet (n .nodes) w (stands .sound) (stands .holds) x z place (last + 1) place-low place-new)
+      rw datum (remove-sound limit settings (n .nodes) w (stands .sound) (stands .holds) x z place (last + 1) place-low place-new)
 
   abbrev frees : List ℕ
   frees = put (areaIn table) (cutAll (entriesOf (n .free)) g) place
 
   free-is : FreeList after frees
   free-is =
-      remove-free limit stages sheet (n .nodes) w (stands .sound) (stands .holds) x z (entriesOf (n .free)) (stands .free) place last place-new
+      remove-free limit settings (n .nodes) w (stands .sound) (stands .holds) x z (entriesOf (n .free)) (stands .free) place last place-new
       (stands .serials) (areaIn table)
       (λ i e y. ap (λ (f : Datum). area (f .size)) (datum-is limit table limit limit i e after (table-is .rep) y))
 
@@ -101,7 +101,7 @@ module _ (stages : ℕ) (sheet : Size) (last : ℕ) (w : Tree) (n : LayoutNodes)
 
   solid-is : RemovableList after solids
   solid-is =
-      remove-removable stages sheet (n .nodes) w (stands .sound) (stands .holds) x z (entriesOf (n .removable)) (stands .removable) place last
+      remove-removable settings (n .nodes) w (stands .sound) (stands .holds) x z (entriesOf (n .removable)) (stands .removable) place last
       place-new
 
   rooms : (P : Datum → Type 0) (l : List ℕ) → Holding P (piecesOf after) l → length l ≤ limit
@@ -112,27 +112,27 @@ module _ (stages : ℕ) (sheet : Size) (last : ℕ) (w : Tree) (n : LayoutNodes)
   remove-clearable =
       record {
         placed = stands .sound .placed x (at-in x (z .piece) w (z .there));
-        hung = parent-low limit stages sheet (n .nodes) w (stands .sound) (stands .holds) x z;
-        ended = last-low limit stages sheet (n .nodes) w (stands .sound) (stands .holds) x z;
+        hung = parent-low limit settings (n .nodes) w (stands .sound) (stands .holds) x z;
+        ended = last-low limit settings (n .nodes) w (stands .sound) (stands .holds) x z;
         freeKept = stands .freeKept;
         removableKept = stands .removableKept;
         freeSingle = holding-single _ w (entriesOf (n .free)) (stands .free .holding) (stands .sound .placed);
         removableSingle = holding-single _ w (entriesOf (n .removable)) (stands .removable) (stands .sound .placed);
-        goes = goes limit stages sheet (n .nodes) w (stands .sound) (stands .holds) x z;
-        some = place-room stages sheet (n .nodes) w (stands .sound) (stands .holds) x z;
-        freeRoom = free-room stages sheet (n .nodes) w (stands .sound) (stands .holds) x z (entriesOf (n .free)) (stands .free);
+        goes = goes limit settings (n .nodes) w (stands .sound) (stands .holds) x z;
+        some = place-room settings (n .nodes) w (stands .sound) (stands .holds) x z;
+        freeRoom = free-room settings (n .nodes) w (stands .sound) (stands .holds) x z (entriesOf (n .free)) (stands .free);
         removableRoom =
-            removable-room stages sheet (n .nodes) w (stands .sound) (stands .holds) x z (entriesOf (n .removable)) (stands .removable);
+            removable-room settings (n .nodes) w (stands .sound) (stands .holds) x z (entriesOf (n .removable)) (stands .removable);
         wide = let s = small .width in omega arith;
         tall = let s = small .height in omega arith;
         spent = let s = spent in omega arith;
       }
     where
       small : Small (newFree (n .nodes) x last .size)
-      small = new-small stages sheet (n .nodes) w (stands .sound) (stands .holds) x z last
+      small = new-small settings (n .nodes) w (stands .sound) (stands .holds) x z last
 
   -- all stands again
-  pub remove-stands : Stands stages sheet (last + 1) after (removed n g x last .nodes)
+  pub remove-stands : Stands settings (last + 1) after (removed n g x last .nodes)
   unfolding removed removedFrom
   remove-stands =
       rw place-is
@@ -144,7 +144,7 @@ module _ (stages : ℕ) (sheet : Size) (last : ℕ) (w : Tree) (n : LayoutNodes)
         freeKept = kept-listing frees (rooms _ frees (free-is .holding));
         removableKept = kept-listing solids (rooms _ solids solid-is);
         serials =
-            remove-serials limit stages sheet (n .nodes) w (stands .sound) (stands .holds) x z place last place-new (stands .serials) spent;
+            remove-serials limit settings (n .nodes) w (stands .sound) (stands .holds) x z place last place-new (stands .serials) spent;
       })
 
   pub remove-place : removed n g x last .place ≡ place
@@ -155,4 +155,4 @@ module _ (stages : ℕ) (sheet : Size) (last : ℕ) (w : Tree) (n : LayoutNodes)
   unfolding removed removedFrom
   remove-list =
       entries-listing solids
-      ∙ returned-is stages sheet (n .nodes) w (stands .sound) (stands .holds) x z (entriesOf (n .removable)) (stands .removable) place last place-new
+      ∙ returned-is settings (n .nodes) w (stands .sound) (stands .holds) x z (entriesOf (n .removable)) (stands .removable) place last place-new

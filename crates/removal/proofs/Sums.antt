@@ -7,10 +7,10 @@ use mathlib.Core.Logic.{inl, inr}
 use Prim.Native.Nat.{ℕ, _+_, _≤_}
 use native.Mathlib.Omega.{arith}
 use lib.ListN.{length, length-append}
-use Rattle.piece.specs.declared.size.Size.{Size}
 use Rattle.piece.specs.declared.node.Datum.{Datum}
 use Rattle.piece.specs.declared.node.Kind.{Kind}
 use Rattle.piece.specs.declared.node.Kind.the-variants.{Free, Part, Structure}
+use Rattle.piece.specs.declared.settings.Settings.{Settings}
 use Rattle.piece.specs.Row.{nil, grow}
 use Rattle.tree.specs.Tree.{Tree, Distinct, count, isFree, isPart, isNil, after}
 use Rattle.tree.specs.Sound.{Sound}
@@ -139,10 +139,10 @@ end-numberless t q = go (freeLast t q) refl
     go true e = rw (free-numberless (at t (at t q .last) .datum .kind) (at t (at t q .last) .datum .number) e) refl
     go false e = refl
 
-module _ (limit stages : ℕ) (sheet : Size) (t : List Node) (w : Tree) (sound : Sound limit stages sheet w) (h : Holds limit t w)
+module _ (limit : ℕ) (settings : Settings) (t : List Node) (w : Tree) (sound : Sound limit settings w) (h : Holds limit t w)
     (x : ℕ) (z : Removable x w) where
   abbrev o : RowOf t x (z .piece) w
-  o = row-of limit stages sheet t w sound h x z
+  o = row-of limit settings t w sound h x z
 
   pub left-count : count (cleared x w) + length (going t x w) ≡ count w
   left-count =
@@ -168,7 +168,7 @@ module _ (limit stages : ℕ) (sheet : Size) (t : List Node) (w : Tree) (sound :
   removed-numbers =
       gathered-append (numberAt t) (leaving (subtree x w)) (freeLastPlace t (at t x .parent))
       ∙ rw (← leaving-is (subtree x w), end-numberless t (at t x .parent), append-nil (numbersAlong t (childrenFirst (subtree x w))))
-      (numbers-removed limit t w h x (sound-ends limit stages sheet w sound))
+      (numbers-removed limit t w h x (sound-ends limit settings w sound))
 
   pub removed-few : length (removed x w) ≤ limit
   removed-few =
