@@ -13,12 +13,11 @@ use lib.ListN.{getD, set, length, length-append, drop-of-length-le}
 use lib.Seq.{take-all}
 use borrow.Author.Tests.{lt-ltb, le-ltb}
 use Rattle.tree.specs.ListSteps.{spot, cut, strike, push, berth, put, cutAll, strikeAll}
-use Rattle.lists.specs.Lists.{limit, padded, putIn, takeOut, swapOut, swapped}
+use Rattle.lists.specs.Lists.{limit, padded, putIn, takeOut, swapOut, swapped, entries}
 use Rattle.lists.specs.Search.{firstFrom, indexOf}
 use Rattle.lists.proofs.Scan.{first-most}
 use Rattle.lists.proofs.Padded.{getD-padded, take-padded, put-in-length, put-in-padded, take-out-length, take-out-padded}
 use Rattle.lists.proofs.Padded.{swapped-length, swap-out-padded, append-padded}
-use Rattle.walks.specs.Along.{entries}
 use Rattle.register.specs.declared.listing.Listing.{Listing}
 use Rattle.register.specs.Listings.{listing, entriesOf, Kept}
 

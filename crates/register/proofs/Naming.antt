@@ -7,7 +7,7 @@ use native.Mathlib.Omega.{arith}
 use native.Mathlib.Decide.{ℕ-discrete}
 use lib.ListN.{getD}
 use Rattle.tree.specs.ListSteps.{Names}
-use Rattle.walks.specs.Along.{entries}
+use Rattle.lists.specs.Lists.{entries}
 
 module _ (i : ℕ) where
   pub names-cases : (xs ys : List ℕ) → Names i (xs ++ ys) → Names i xs ⊎ Names i ys

@@ -12,10 +12,9 @@ use lib.Seq.{take-suc, take-all, take-append-le, drop-append-le, getD-append-sea
 use Rattle.tree.proofs.Rows.{same?}
 use Rattle.tree.specs.ListSteps.{Names, cut, cutAll, push, spot}
 use Rattle.tree.proofs.ListSteps.{Absent, spot-case, cut-absent, cut-fewer}
-use Rattle.lists.specs.Lists.{limit, padded}
+use Rattle.lists.specs.Lists.{limit, padded, entries}
 use Rattle.lists.specs.Search.{indexOf}
 use Rattle.lists.proofs.Found.{index-before, index-found, index-holds}
-use Rattle.walks.specs.Along.{entries}
 use Rattle.register.specs.declared.listing.Listing.{Listing}
 use Rattle.register.specs.Listings.{Kept, entriesOf, listing}
 use Rattle.register.specs.Spots.{spotsOf}
