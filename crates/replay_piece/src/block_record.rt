@@ -1,41 +1,11 @@
 // A record of a block: 18 bytes that ask and 56 that answer.
-use crate::offer_record::cut_of;
 use hex::four;
 use piece::insertion_blueprint::InsertionBlueprint;
 use piece::insertion_blueprint::InsertionNode;
 use piece::insertion_blueprint::InsertionShape;
 use piece::insertion_blueprint::nodes;
-use piece::node::Kind;
 use piece::orientation::Orientation;
 use piece::size::Size;
-
-fn shape_of(b: u8) -> InsertionShape {
-    if b == 1 {
-        return InsertionShape::AlongCurrentCut;
-    }
-    if b == 2 {
-        return InsertionShape::AcrossCurrentCut;
-    }
-    if b == 3 {
-        return InsertionShape::AlongThenAcross;
-    }
-    InsertionShape::AcrossThenAlong
-}
-
-fn kind_number(k: Kind) -> u8 {
-    match k {
-        Kind::Free => 0,
-        Kind::Part => 1,
-        Kind::Structure => 2,
-    }
-}
-
-fn cut_number(c: Orientation) -> u8 {
-    match c {
-        Orientation::Horizontal => 0,
-        Orientation::Vertical => 1,
-    }
-}
 
 // What our call answers to the record's question.
 fn asked(b: [u8; 74]) -> InsertionBlueprint {
@@ -47,7 +17,12 @@ fn asked(b: [u8; 74]) -> InsertionBlueprint {
         width: four(b[10], b[11], b[12], b[13]),
         height: four(b[14], b[15], b[16], b[17]),
     };
-    nodes(shape_of(b[1]), cut_of(b[0]), piece, part)
+    nodes(
+        InsertionShape::of_number(b[1]),
+        Orientation::of_number(b[0]),
+        piece,
+        part,
+    )
 }
 
 // Whether a node is what the eleven recorded bytes from `at` on say; past the count both are zero.
@@ -57,13 +32,13 @@ fn same_node(n: InsertionNode, b: [u8; 74], at: usize) -> bool {
     }
     let kind = n.kind;
     let cut = n.cut;
-    if kind_number(kind) != b[at] {
+    if kind.number() != b[at] {
         return false;
     }
     if n.parent != b[at + 1] {
         return false;
     }
-    if cut_number(cut) != b[at + 2] {
+    if cut.number() != b[at + 2] {
         return false;
     }
     if n.size.width != four(b[at + 3], b[at + 4], b[at + 5], b[at + 6]) {

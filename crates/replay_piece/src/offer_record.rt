@@ -1,6 +1,5 @@
 // A record of offers: 20 bytes that ask and 9 that answer.
 use hex::four;
-use piece::insertion_blueprint::InsertionShape;
 use piece::insertion_option::Offer;
 use piece::insertion_option::OfferList;
 use piece::insertion_option::offers;
@@ -9,43 +8,8 @@ use piece::node::Kind;
 use piece::orientation::Orientation;
 use piece::parttype::PartType;
 use piece::parttype::Turn;
-use piece::rotation::Rotation;
 use piece::settings::Settings;
 use piece::size::Size;
-
-pub fn cut_of(b: u8) -> Orientation {
-    if b == 0 {
-        Orientation::Horizontal
-    } else {
-        Orientation::Vertical
-    }
-}
-
-fn turn_of(b: u8) -> Turn {
-    if b == 0 {
-        return Turn::Either;
-    }
-    if b == 1 {
-        return Turn::Fixed(Rotation::Default);
-    }
-    Turn::Fixed(Rotation::Rotated)
-}
-
-fn rotation_number(r: Rotation) -> u8 {
-    match r {
-        Rotation::Default => 0,
-        Rotation::Rotated => 1,
-    }
-}
-
-fn shape_number(s: InsertionShape) -> u8 {
-    match s {
-        InsertionShape::AlongCurrentCut => 1,
-        InsertionShape::AcrossCurrentCut => 2,
-        InsertionShape::AlongThenAcross => 3,
-        InsertionShape::AcrossThenAlong => 4,
-    }
-}
 
 // What our offers call answers to the record's question. The sheet is the piece itself: no offer goes by the sheet.
 fn asked(b: [u8; 74]) -> OfferList {
@@ -59,7 +23,7 @@ fn asked(b: [u8; 74]) -> OfferList {
         number: 0,
         level: b[0],
         kind: Kind::Free,
-        cut: cut_of(b[2]),
+        cut: Orientation::of_number(b[2]),
     };
     let part = PartType {
         number: 0,
@@ -67,7 +31,7 @@ fn asked(b: [u8; 74]) -> OfferList {
             width: four(b[12], b[13], b[14], b[15]),
             height: four(b[16], b[17], b[18], b[19]),
         },
-        turn: turn_of(b[3]),
+        turn: Turn::of_number(b[3]),
     };
     let settings = Settings {
         stages: b[1],
@@ -81,8 +45,8 @@ fn same_entry(offer: Offer, within: bool, rotation: u8, shape: u8) -> bool {
     let r = offer.rotation;
     let s = offer.shape;
     if within {
-        if rotation_number(r) == rotation {
-            shape_number(s) == shape
+        if r.number() == rotation {
+            s.number() == shape
         } else {
             false
         }
