@@ -83,8 +83,8 @@ module _ (l : Layout) (m : Mark) (room : ℕ) (a : Removed) (says : RemoveSays l
   told = says
 
   -- refused: the layout comes back as it came, and all else is zero
-  pub refused-back : (e : Refusal) → a .outcome ≡ Refused e → a ≡ refusedRemove l e
-  refused-back e d = refused-means (removeNo l m room) l (m .place) a e told d .1
+  pub remove-refused : (e : Refusal) → a .outcome ≡ Refused e → (removeNo l m room ≡ some e) × (a ≡ refusedRemove l e)
+  remove-refused e d = refused-means (removeNo l m room) l (m .place) a e told d
 
   module _ (done : a .outcome ≡ Done) where
     pub remove-accepted : (removeNo l m room ≡ none) × RemoveDone l (m .place) a

@@ -18,3 +18,4 @@ pub mod TakenOut
 pub mod RemoveEnds
 pub mod Gone
 pub mod Answered
+pub mod Refusals

@@ -6,3 +6,4 @@ pub mod FiguresSay
 pub mod Lent
 pub mod Snapshots
 pub mod Determined
+pub mod Refusals

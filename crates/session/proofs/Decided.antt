@@ -1,4 +1,4 @@
--- A request's answer, a run's answers and the whole output are decided by the state and the input. Rests on specs/Desk, and on the layout's
+-- A request's answer, a run's answers and the whole output are decided by the state and the input. Rests on specs/Listener, and on the layout's
 -- theorems that the answers of `insert` and `remove` are.
 use mathlib.Core.Path.{_≡_, refl, sym, ap, _∙_}
 use mathlib.Core.List.{List, _∷_, _++_}
@@ -8,35 +8,37 @@ use Rattle.lines.specs.Text.{Line, linesOf, joined}
 use Rattle.layout.specs.declared.layout.Layout.{Layout}
 use Rattle.layout.specs.Check.{limit}
 use Rattle.layout.proofs.Determined.{insert-is-one, remove-is-one}
+use Rattle.frames.specs.declared.Ask.{Ask}
+use Rattle.frames.specs.declared.Ask.the-variants.{Open, Offers, Insert, Remove, Report}
 use Rattle.frames.specs.declared.Request.{Request}
-use Rattle.frames.specs.declared.Request.the-variants.{Open, Offers, Insert, Remove, Keep, Restore, Report, Malformed}
+use Rattle.frames.specs.declared.Request.the-variants.{OfLayout, Keep, Restore, Malformed}
 use Rattle.frames.specs.Answers.{Answer, answerLine}
 use Rattle.session.specs.declared.Session.{Session}
 use Rattle.session.specs.declared.replies.Said.{Said}
 use Rattle.session.specs.declared.replies.Response.{Response}
 use Rattle.session.specs.declared.replies.Keeping.{Keeping}
-use Rattle.session.specs.declared.desk.Desk.{Desk}
-use Rattle.session.specs.declared.desk.Turn.{Turn}
+use Rattle.session.specs.declared.listener.Listener.{Listener}
+use Rattle.session.specs.declared.listener.Turn.{Turn}
 use Rattle.session.specs.Session.{Reply, reply, afterInsert, afterRemove, Answers, held, Says}
 use Rattle.session.specs.Replies.{both, refusal, Replies, Keeps, Restores}
-use Rattle.session.specs.Desk.{askedIn, Runs, none, more, opening, textOf, Ends, Served}
+use Rattle.session.specs.Listener.{askedIn, Runs, none, more, opening, textOf, Ends, Served}
 use Rattle.session.proofs.Laws.{input-run}
 
 -- a request
 pub answers-once : (s : Session) (q : Request) {t u : Session} {a b : Answer} → Answers s q t a → Answers s q u b → reply t a ≡ reply u b
 unfolding Answers
-answers-once s (Open number size cut stages) g h = g ∙ sym h
-answers-once s (Offers mark part) g h = g ∙ sym h
-answers-once s (Insert m p r f) g h =
+answers-once s (OfLayout (Open o)) g h = g ∙ sym h
+answers-once s (OfLayout (Offers mark part)) g h = g ∙ sym h
+answers-once s (OfLayout (Insert m p r f)) g h =
     g .2 ∙ ap (afterInsert s) (insert-is-one (s .layout) m p r f (g .0) (h .0) (g .1) (h .1)) ∙ sym (h .2)
-answers-once s (Remove m) g h =
+answers-once s (OfLayout (Remove m)) g h =
     g .2 ∙ ap (afterRemove s m) (remove-is-one (s .layout) m limit (g .0) (h .0) (g .1) (h .1)) ∙ sym (h .2)
+answers-once s (OfLayout Report) g h = g ∙ sym h
 answers-once s Keep g h = g ∙ sym h
 answers-once s Restore g h = g ∙ sym h
-answers-once s Report g h = g ∙ sym h
 answers-once s Malformed g h = g ∙ sym h
 
--- and where only layouts are at hand, a layout and a request, or the two layouts
+-- and where only layouts are at hand, a layout and what is asked of it, or the two layouts
 pub same-said : {a b : Answer} {r p : Said} → a ≡ b → Says a r → Says b p → r ≡ p
 same-said e x y i =
     record {
@@ -44,9 +46,9 @@ same-said e x y i =
       count = (x .count ∙ ap (λ (c : Answer). length (answerLine c)) e ∙ sym (y .count)) i;
     }
 
-pub replies-once : (l : Layout) (q : Request) {r p : Response} → Replies l q r → Replies l q p → r ≡ p
-replies-once l q x y =
-    let e = answers-once (both l l) q (x .answers l) (y .answers l) in
+pub replies-once : (l : Layout) (ask : Ask) {r p : Response} → Replies l ask r → Replies l ask p → r ≡ p
+replies-once l ask x y =
+    let e = answers-once (both l l) (OfLayout ask) (x .answers l) (y .answers l) in
     let same = same-said (ap (λ (w : Reply). w .answer) e) (x .says) (y .says) in
     let no = x .refused ∙ ap (λ (w : Reply). refusal (w .answer)) e ∙ sym (y .refused) in
     λ i. record { layout = e i .session .layout; refused = no i; said = same i }
@@ -74,9 +76,9 @@ runs-once (more {s} {t} {line = line} a q) (more {t = t'} b r) =
     ((λ i. e i .answer ∷ same .0 i), same .1)
 
 -- the output to an input, however it was cut into chunks
-pub output-once : {cs ds : List (List ℕ)} {xs ys : List Answer} {d e : Desk} {r q : Turn} → joined cs ≡ joined ds
+pub output-once : {cs ds : List (List ℕ)} {xs ys : List Answer} {d e : Listener} {r q : Turn} → joined cs ≡ joined ds
     → Served opening cs xs d → (y : Ends d r) → Served opening ds ys e → (z : Ends e q)
-    → (textOf (xs ++ y .turned .answers) ≡ textOf (ys ++ z .turned .answers)) × (r .desk .session ≡ q .desk .session)
+    → (textOf (xs ++ y .turned .answers) ≡ textOf (ys ++ z .turned .answers)) × (r .listener .session ≡ q .listener .session)
 output-once {cs} {ds} same a y b z =
     let once = runs-once (input-run a y) (rw (← ap linesOf same) at (input-run b z)) in
     (ap textOf (once .0), once .1)

@@ -51,8 +51,9 @@ use Rattle.layout.proofs.Areas.{used-small}
 use Rattle.layout.proofs.Exactly.{sound-says}
 use Rattle.layout.proofs.Listed.{piece-low}
 use Rattle.looks.specs.Answers.{offersCall}
+use Rattle.frames.specs.declared.Ask.the-variants.{Open, Offers, Insert, Remove, Report}
 use Rattle.frames.specs.declared.Request.{Request}
-use Rattle.frames.specs.declared.Request.the-variants.{Open, Offers, Insert, Remove, Keep, Restore, Report, Malformed}
+use Rattle.frames.specs.declared.Request.the-variants.{OfLayout, Keep, Restore, Malformed}
 use Rattle.frames.specs.Bytes.{pairs, charsOf}
 use Rattle.frames.specs.Answers.{Answer, done, answerBytes}
 use Rattle.frames.specs.Ranges.{MarkFits, RequestFits, Each, none, more, AnswerFits}
@@ -239,24 +240,24 @@ module _ (s : Session) (sized : Sized (s .layout)) (number : s .layout .number <
   -- THE LAW: a request that fits, at a layout that is as its type says, gets an answer that fits
   pub answer-fits : (q : Request) (t : Session) (a : Answer) → RequestFits q → Answers s q t a → AnswerFits a
   unfolding Answers afterOpen afterOffers afterInsert afterRemove afterKeep afterRestore afterReport
-  answer-fits (Open n size cut stages) t a f h =
-      rw (ap (λ (r : Reply). r .answer) h) (by-opening s n size cut stages (f .0))
-  answer-fits (Offers m p) t a f h =
+  answer-fits (OfLayout (Open o)) t a f h =
+      rw (ap (λ (r : Reply). r .answer) h) (by-opening s (o .number) (o .settings .sheet) (o .cut) (o .settings .stages) (f .number))
+  answer-fits (OfLayout (Offers m p)) t a f h =
       let o = offersCall (s .layout) m p in
       rw (ap (λ (r : Reply). r .answer) h)
       (by-outcome 2 (offersSaid (o .offers)) (o .outcome) (omega arith)
       (λ e. omega (arith, length-take (o .offers .count) (o .offers .list), offers-four (s .layout) m p)))
-  answer-fits (Insert m p r g) t a f h =
+  answer-fits (OfLayout (Insert m p r g)) t a f h =
       rw (ap (λ (r : Reply). r .answer) (h .2))
       (by-outcome 3 (marksSaid (h .0 .marks)) (h .0 .outcome) (omega arith) (insert-fits m p r g (h .0) (h .1)))
-  answer-fits (Remove m) t a f h =
+  answer-fits (OfLayout (Remove m)) t a f h =
       rw (ap (λ (r : Reply). r .answer) (h .2))
       (by-outcome 4 (numbersSaid s m (h .0)) (h .0 .outcome) (omega arith) (remove-fits m (h .0) (h .1)))
+  answer-fits (OfLayout Report) t a f h = rw (ap (λ (r : Reply). r .answer) h) (report-fits (soundB (s .layout)) refl)
   answer-fits Keep t a f h = rw (ap (λ (r : Reply). r .answer) h) (keep-fits (soundB (s .layout)))
   answer-fits Restore t a f h =
       rw (ap (λ (r : Reply). r .answer) h)
       (by-outcome 6 (done 6) (restoreOf (s .layout) (s .kept) .outcome) (omega arith) (λ e. omega arith))
-  answer-fits Report t a f h = rw (ap (λ (r : Reply). r .answer) h) (report-fits (soundB (s .layout)) refl)
   answer-fits Malformed t a f h = rw (ap (λ (r : Reply). r .answer) h) tt
 
   -- so what is written reads back

@@ -32,21 +32,20 @@ use Rattle.layout.specs.Restore.{greater, withSerial, refusedRestore, restoreOf
 use Rattle.layout.proofs.Exactly.{zero-sized}
 use Rattle.layout.proofs.Opened.{fresh-sized}
 use Rattle.layout.proofs.Inserted.{insert-accepted, refused-as-it-came}
-use Rattle.layout.proofs.Gone.{refused-back, remove-accepted}
+use Rattle.layout.proofs.Gone.{remove-refused, remove-accepted}
+use Rattle.frames.specs.declared.Ask.the-variants.{Open, Offers, Insert, Remove, Report}
 use Rattle.frames.specs.declared.Request.{Request}
-use Rattle.frames.specs.declared.Request.the-variants.{Open, Offers, Insert, Remove, Keep, Restore, Report, Malformed}
+use Rattle.frames.specs.declared.Request.the-variants.{OfLayout, Keep, Restore, Malformed}
 use Rattle.frames.specs.Answers.{Answer}
 use Rattle.frames.specs.Ranges.{RequestFits, Each, none as none-left, more as and-then, AnswerFits}
 use Rattle.frames.proofs.Heard.{request-fits}
 use Rattle.session.specs.declared.Session.{Session}
-use Rattle.session.specs.declared.desk.Desk.{Desk}
-use Rattle.session.specs.declared.desk.Turn.{Turn}
-use Rattle.session.specs.declared.replies.Scope.{Scope}
-use Rattle.session.specs.declared.replies.Scope.the-variants as scopes
+use Rattle.session.specs.declared.listener.Listener.{Listener}
+use Rattle.session.specs.declared.listener.Turn.{Turn}
 use Rattle.session.specs.Session.{started, Reply, keptBy, Answers}
 use Rattle.session.specs.Session.{afterOpen, afterOffers, afterInsert, afterRemove, afterKeep, afterRestore, afterReport}
-use Rattle.session.specs.Replies.{scopeOf, keptIn}
-use Rattle.session.specs.Desk.{askedIn, Runs, none, more, opening, Ends, Served}
+use Rattle.session.specs.Replies.{keptIn}
+use Rattle.session.specs.Listener.{askedIn, Runs, none, more, opening, Ends, Served}
 use Rattle.session.proofs.Kept.{kept-after}
 use Rattle.session.proofs.Laws.{input-run}
 use Rattle.session.proofs.Fits.{answer-fits}
@@ -85,7 +84,7 @@ module _ (l : Layout) (t : Typed l) where
     where
       go : (v : Outcome) → r .outcome ≡ v → Typed (r .layout)
       go outcomes.Done e = typed-next t (remove-accepted l m limit r says e .1 .next)
-      go (outcomes.Refused x) e = rw (ap (λ (a : Removed). a .layout) (refused-back l m limit r says x e)) t
+      go (outcomes.Refused x) e = rw (ap (λ (a : Removed). a .layout) (remove-refused l m limit r says x e .1)) t
 
   restored : (k : Layout) → Typed k → Typed (restoreOf l k .layout)
   unfolding restoreOf
@@ -107,32 +106,34 @@ record Held (s : Session) : Type 0 where
 
 layout-after : (s : Session) → Held s → (q : Request) (t : Session) (a : Answer) → RequestFits q → Answers s q t a → Typed (t .layout)
 unfolding Answers afterOpen afterOffers afterInsert afterRemove afterKeep afterRestore afterReport
-layout-after s x (Open n size first stages) t a f h = rw (ap (λ (r : Reply). r .session .layout) h) (opened s n size first stages (f .0) (x .layout))
-layout-after s x (Offers m p) t a f h = rw (ap (λ (r : Reply). r .session .layout) h) (x .layout)
-layout-after s x (Insert m p r g) t a f h =
+layout-after s x (OfLayout (Open o)) t a f h =
+    rw (ap (λ (r : Reply). r .session .layout) h) (opened s (o .number) (o .settings .sheet) (o .cut) (o .settings .stages) (f .number) (x .layout))
+layout-after s x (OfLayout (Offers m p)) t a f h = rw (ap (λ (r : Reply). r .session .layout) h) (x .layout)
+layout-after s x (OfLayout (Insert m p r g)) t a f h =
     rw (ap (λ (r : Reply). r .session .layout) (h .2)) (inserted (s .layout) (x .layout) m p r g (h .0) (h .1))
-layout-after s x (Remove m) t a f h = rw (ap (λ (r : Reply). r .session .layout) (h .2)) (removed (s .layout) (x .layout) m (h .0) (h .1))
+layout-after s x (OfLayout (Remove m)) t a f h = rw (ap (λ (r : Reply). r .session .layout) (h .2)) (removed (s .layout) (x .layout) m (h .0) (h .1))
+layout-after s x (OfLayout Report) t a f h = rw (ap (λ (r : Reply). r .session .layout) h) (x .layout)
 layout-after s x Keep t a f h = rw (ap (λ (r : Reply). r .session .layout) h) (go (soundB (s .layout)))
   where
     go : (b : Bool) → Typed (keptBy s b .session .layout)
     go true = x .layout
     go false = x .layout
 layout-after s x Restore t a f h = rw (ap (λ (r : Reply). r .session .layout) h) (restored (s .layout) (x .layout) (s .kept) (x .kept))
-layout-after s x Report t a f h = rw (ap (λ (r : Reply). r .session .layout) h) (x .layout)
 layout-after s x Malformed t a f h = rw (ap (λ (r : Reply). r .session .layout) h) (x .layout)
 
-kept-typed : (s : Session) → Held s → (v : Scope) → Typed (keptIn s v)
-kept-typed s x scopes.Alone = x .kept
-kept-typed s x scopes.Keep = go (soundB (s .layout))
+kept-typed : (s : Session) → Held s → (q : Request) → Typed (keptIn s q)
+kept-typed s x (OfLayout ask) = x .kept
+kept-typed s x Keep = go (soundB (s .layout))
   where
     go : (b : Bool) → Typed (cond b (s .layout) (s .kept))
     go true = x .layout
     go false = x .kept
-kept-typed s x scopes.Restore = x .kept
+kept-typed s x Restore = x .kept
+kept-typed s x Malformed = x .kept
 
 held-after : (s : Session) → Held s → (q : Request) (t : Session) (a : Answer) → RequestFits q → Answers s q t a → Held t
 held-after s x q t a f h =
-    record { layout = layout-after s x q t a f h; kept = rw (kept-after s q t a h) (kept-typed s x (scopeOf q)) }
+    record { layout = layout-after s x q t a f h; kept = rw (kept-after s q t a h) (kept-typed s x q) }
 
 -- ---- runs
 asked-fits : (line : Line) → RequestFits (askedIn line)
@@ -152,6 +153,6 @@ started-held =
     let zero : Typed zeroLayout = record { sized = zero-sized; number = omega arith } in record { layout = zero; kept = zero }
 
 -- THE LAW: all answers to an input, however it is cut into chunks
-pub counter-fits : {cs : List (List ℕ)} {xs : List Answer} {e : Desk} {r : Turn} → Served opening cs xs e → (z : Ends e r)
+pub counter-fits : {cs : List (List ℕ)} {xs : List Answer} {e : Listener} {r : Turn} → Served opening cs xs e → (z : Ends e r)
     → Each AnswerFits (xs ++ z .turned .answers)
 counter-fits q z = runs-fit started-held (input-run q z)

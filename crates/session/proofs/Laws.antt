@@ -1,5 +1,5 @@
 -- Document 01, "Counter frames", of the whole counter: each line of the input gets one answer, and neither the answers nor the state depend on
--- how the input was cut into chunks. Rests on specs/Desk and on the laws of `lines`.
+-- how the input was cut into chunks. Rests on specs/Listener and on the laws of `lines`.
 use mathlib.Core.Path.{_≡_, refl, sym, ap, _∙_}
 use mathlib.Core.Bool.{Bool, true, false, cond}
 use mathlib.Core.List.{List, _++_}
@@ -17,11 +17,11 @@ use Rattle.lines.specs.Stream.{empty, adds, takeOf, Fed, still, followed, given
 use Rattle.lines.proofs.Cuts.{feed-step, feed-none, lines-given, cut-anyhow}
 use Rattle.frames.specs.Answers.{Answer}
 use Rattle.session.specs.declared.Session.{Session}
-use Rattle.session.specs.declared.desk.Desk.{Desk}
-use Rattle.session.specs.declared.desk.Turn.{Turn}
+use Rattle.session.specs.declared.listener.Listener.{Listener}
+use Rattle.session.specs.declared.listener.Turn.{Turn}
 use Rattle.session.specs.Session.{started}
-use Rattle.session.specs.Desk.{Runs, none, more, opening, oneStep, Ends, Turns, Served}
-use Rattle.session.specs.Desk as desk
+use Rattle.session.specs.Listener.{Runs, none, more, opening, oneStep, Ends, Turns, Served}
+use Rattle.session.specs.Listener as listener
 
 -- ---- runs
 
@@ -70,24 +70,24 @@ turn-feed p chunk at =
 -- ---- chunks
 
 -- the lines f are answered by xs, and what they leave is pending
-pub record Answered (d : Desk) (f : Fed) (xs : List Answer) (e : Desk) : Type 0 where
+pub record Answered (d : Listener) (f : Fed) (xs : List Answer) (e : Listener) : Type 0 where
   pub runs : Runs (d .session) (f .lines) xs (e .session)
   pub pending : e .pending ≡ f .left
 
 -- A RUN OF TURNS over a chunk answers the lines that the chunk gives
-pub turns-run : {chunk : List ℕ} {d e : Desk} {at : ℕ} {xs : List Answer} → Turns chunk d at xs e
+pub turns-run : {chunk : List ℕ} {d e : Listener} {at : ℕ} {xs : List Answer} → Turns chunk d at xs e
     → Answered d (feed (d .pending) (drop at chunk)) xs e
-turns-run {chunk} {d} {e} {at} (desk.Turns.stop h) = rw (feed-none (d .pending) chunk at h) (record { runs = none; pending = refl })
-turns-run {chunk} {d} {e} {at} (desk.Turns.go h t q) =
+turns-run {chunk} {d} {e} {at} (listener.Turns.stop h) = rw (feed-none (d .pending) chunk at h) (record { runs = none; pending = refl })
+turns-run {chunk} {d} {e} {at} (listener.Turns.go h t q) =
     let r = turns-run q in
     rw (turn-feed (d .pending) chunk at, ← t .next, ← t .turned .pending)
     (record { runs = runs-on (t .turned .runs) (r .runs); pending = r .pending })
 
 -- and over one chunk after another
-pub served-run : {d e : Desk} {cs : List (List ℕ)} {xs : List Answer} → Served d cs xs e → Answered d (feeds (d .pending) cs) xs e
+pub served-run : {d e : Listener} {cs : List (List ℕ)} {xs : List Answer} → Served d cs xs e → Answered d (feeds (d .pending) cs) xs e
 unfolding feeds
-served-run desk.Served.stop = record { runs = none; pending = refl }
-served-run (desk.Served.go t q) =
+served-run listener.Served.stop = record { runs = none; pending = refl }
+served-run (listener.Served.go t q) =
     let a = turns-run t in
     let b = served-run q in
     rw (← a .pending) (record { runs = runs-on (a .runs) (b .runs); pending = b .pending })
@@ -95,8 +95,8 @@ served-run (desk.Served.go t q) =
 -- ---- the whole input
 
 -- THE LAW: the chunks of an input, whatever they are, and then its end give one answer to each line of the text that they make
-pub input-run : {cs : List (List ℕ)} {xs : List Answer} {e : Desk} {r : Turn} → Served opening cs xs e → (z : Ends e r)
-    → Runs started (linesOf (joined cs)) (xs ++ z .turned .answers) (r .desk .session)
+pub input-run : {cs : List (List ℕ)} {xs : List Answer} {e : Listener} {r : Turn} → Served opening cs xs e → (z : Ends e r)
+    → Runs started (linesOf (joined cs)) (xs ++ z .turned .answers) (r .listener .session)
 unfolding linesGiven
 input-run {cs} q z =
     let a = served-run q in
@@ -108,6 +108,6 @@ pub cut-any-way : {s u : Session} {xs : List Answer} (cs ds : List (List ℕ)) �
 cut-any-way cs ds e r = rw (← cut-anyhow cs ds e) r
 
 -- as many answers as lines
-pub answers-given : {cs : List (List ℕ)} {xs : List Answer} {e : Desk} {r : Turn} → Served opening cs xs e → (z : Ends e r)
+pub answers-given : {cs : List (List ℕ)} {xs : List Answer} {e : Listener} {r : Turn} → Served opening cs xs e → (z : Ends e r)
     → length (xs ++ z .turned .answers) ≡ length (linesOf (joined cs))
 answers-given q z = one-each (input-run q z)

@@ -3,11 +3,12 @@ pub mod Ways
 pub mod Usage
 pub mod Given
 pub mod Reported
-pub mod AtDesk
+pub mod Listening
 pub mod Laws
 pub mod Decided
 pub mod Unique
 pub mod Kept
+pub mod Refused
 pub mod Uses
 pub mod Fits
 pub mod Fitting

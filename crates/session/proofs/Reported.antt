@@ -20,7 +20,7 @@ use Rattle.looks.specs.declared.replies.UsageAnswer.{UsageAnswer}
 use Rattle.looks.specs.declared.replies.UsageAnswer.the-variants.{Usage, Refused}
 use Rattle.looks.specs.Answers.{sheetUsageOf}
 use Rattle.frames.specs.Answers.{refused, reported}
-use Rattle.frames.specs.declared.Request.the-variants.{Report}
+use Rattle.frames.specs.declared.Ask.the-variants.{Report}
 use Rattle.session.specs.declared.replies.Said.{Said}
 use Rattle.session.specs.Session.{figures, Says}
 use Rattle.session.specs.Replies.{Replies}

@@ -1,5 +1,6 @@
--- The contract of each public call of the session and the desk determines its answer, and with it the next state and the line that is said: two answers
--- that meet it are the same. Rests on Decided, which says so of what is answered. Assumes nothing.
+-- The contract of each public call of the session and the listener determines its answer, and with it the next state and the line that is said: two answers
+-- that meet it are the same. Rests on Decided, which says so of what is answered, and of the calls of replies.rt
+-- (`replies-once`, `keeps-once`, `restores-once`). Assumes nothing.
 use mathlib.Core.Path.{_≡_, sym, ap, _∙_}
 use mathlib.Core.List.{List}
 use Prim.Native.Nat.{ℕ}
@@ -12,12 +13,10 @@ use Rattle.frames.specs.declared.Request.the-variants.{Malformed}
 use Rattle.frames.specs.Requests.{requestOf}
 use Rattle.session.specs.declared.Session.{Session}
 use Rattle.session.specs.declared.Stepped.{Stepped}
-use Rattle.session.specs.declared.replies.Scope.{Scope}
-use Rattle.session.specs.declared.desk.Desk.{Desk}
-use Rattle.session.specs.declared.desk.Turn.{Turn}
+use Rattle.session.specs.declared.listener.Listener.{Listener}
+use Rattle.session.specs.declared.listener.Turn.{Turn}
 use Rattle.session.specs.Session.{Reply, Says, Steps, longest, started}
-use Rattle.session.specs.Replies.{scopeOf}
-use Rattle.session.specs.Desk.{Ends, Takes, Turned, opening, textOf}
+use Rattle.session.specs.Listener.{Ends, Takes, Turned, opening, textOf}
 use Rattle.session.proofs.Decided.{answers-once, runs-once, same-said}
 
 -- ---- Session
@@ -41,28 +40,23 @@ step-is-one s line = asked-is-one s (requestOf line)
 pub malformed-is-one : (s : Session) (r p : Stepped) → Steps s Malformed r → Steps s Malformed p → r ≡ p
 malformed-is-one s = asked-is-one s Malformed
 
--- ---- Desk
+-- ---- Listener
 
-pub desk-start-is-one : (r p : Desk) → r ≡ opening → p ≡ opening → r ≡ p
-desk-start-is-one = only
+pub listener-start-is-one : (r p : Listener) → r ≡ opening → p ≡ opening → r ≡ p
+listener-start-is-one = only
 
 -- the same lines were answered, and the chunk goes on at the same position
-turned-is-one : (d : Desk) (f : Fed) (r p : Turn) → r .next ≡ p .next → Turned d f r → Turned d f p → r ≡ p
+turned-is-one : (d : Listener) (f : Fed) (r p : Turn) → r .next ≡ p .next → Turned d f r → Turned d f p → r ≡ p
 turned-is-one d f r p next x y =
     let e = runs-once (x .runs) (y .runs) in
     let text = ap textOf (e .0) in
-    let pending = only (r .desk .pending) (p .desk .pending) (x .pending) (y .pending) in
+    let pending = only (r .listener .pending) (p .listener .pending) (x .pending) (y .pending) in
     let line = x .padded ∙ ap (λ (t : List ℕ). sets (replicate longest 0) 0 t) text ∙ sym (y .padded) in
     let count = x .count ∙ ap length text ∙ sym (y .count) in
-    λ i. record { desk = record { session = e .1 i; pending = pending i }; next = next i; line = line i; count = count i }
+    λ i. record { listener = record { session = e .1 i; pending = pending i }; next = next i; line = line i; count = count i }
 
-pub turn-is-one : (d : Desk) (chunk : List ℕ) (at : ℕ) (r p : Turn) → Takes d chunk at r → Takes d chunk at p → r ≡ p
+pub turn-is-one : (d : Listener) (chunk : List ℕ) (at : ℕ) (r p : Turn) → Takes d chunk at r → Takes d chunk at p → r ≡ p
 turn-is-one d chunk at r p x y = turned-is-one d _ r p (only (r .next) (p .next) (x .next) (y .next)) (x .turned) (y .turned)
 
-pub end-is-one : (d : Desk) (r p : Turn) → Ends d r → Ends d p → r ≡ p
+pub end-is-one : (d : Listener) (r p : Turn) → Ends d r → Ends d p → r ≡ p
 end-is-one d r p x y = turned-is-one d _ r p (only (r .next) (p .next) (x .next) (y .next)) (x .turned) (y .turned)
-
--- ---- replies.rt (Decided has `replies-once`, `keeps-once` and `restores-once`, for the answers over layouts)
-
-pub scope-of-is-one : (q : Request) (r p : Scope) → r ≡ scopeOf q → p ≡ scopeOf q → r ≡ p
-scope-of-is-one q = only

@@ -5,9 +5,8 @@ use mathlib.Core.List.{List}
 use Prim.Native.Nat.{ℕ, _≤_}
 use native.Mathlib.Omega.{arith}
 use lib.ListN.{take, replicate, length-replicate}
-use Rattle.piece.specs.declared.orientation.Orientation.{Orientation}
 use Rattle.piece.specs.declared.rotation.Rotation.{Rotation}
-use Rattle.piece.specs.declared.size.Size.{Size}
+use Rattle.piece.specs.declared.settings.Opening.{Opening}
 use Rattle.piece.specs.declared.parttype.PartType.{PartType}
 use Rattle.piece.specs.declared.insertion_blueprint.InsertionShape.{InsertionShape}
 use Rattle.piece.specs.Offers.{offersOf}
@@ -15,7 +14,7 @@ use Rattle.piece.proofs.Offered.{held-count, offers-few}
 use Rattle.answers.specs.declared.Mark.{Mark}
 use Rattle.answers.specs.declared.Refusal.the-variants.{NotSound}
 use Rattle.layout.specs.declared.layout.Layout.{Layout}
-use Rattle.layout.specs.declared.open.Opening.{Opening}
+use Rattle.layout.specs.declared.open.Opening.{Opening as OpenOutcome}
 use Rattle.layout.specs.declared.open.Opened.{Opened}
 use Rattle.layout.specs.declared.replies.Outcome.{Outcome}
 use Rattle.layout.specs.declared.replies.Sought.{Sought}
@@ -32,47 +31,30 @@ use Rattle.layout.specs.Restore.{restoreOf}
 use Rattle.layout.proofs.Answered.{TakenOut}
 use Rattle.looks.specs.declared.replies.OffersAnswer.{OffersAnswer}
 use Rattle.looks.specs.Answers.{offeredFor, offersCall}
+use Rattle.frames.specs.declared.Ask.{Ask}
+use Rattle.frames.specs.declared.Ask.the-variants.{Open, Offers, Insert, Remove, Report}
 use Rattle.frames.specs.declared.Request.{Request}
-use Rattle.frames.specs.declared.Request.the-variants.{Open, Offers, Insert, Remove, Keep, Restore, Report, Malformed}
+use Rattle.frames.specs.declared.Request.the-variants.{OfLayout, Keep, Restore, Malformed}
 use Rattle.frames.specs.Answers.{Answer, refused, removed, done, malformed}
 use Rattle.session.specs.declared.Session.{Session}
 use Rattle.session.specs.declared.Stepped.{Stepped}
-use Rattle.session.specs.declared.replies.Scope.{Scope}
-use Rattle.session.specs.declared.replies.Scope.the-variants as scopes
-use Rattle.session.specs.declared.replies.Scope.the-variants.{Alone}
 use Rattle.session.specs.declared.replies.Said.{Said}
 use Rattle.session.specs.declared.replies.Response.{Response}
 use Rattle.session.specs.declared.replies.Keeping.{Keeping}
 use Rattle.session.specs.Session.{withLayout, reply, answerBy, openedBy, afterOpen, offersSaid, afterOffers, marksSaid, afterInsert}
 use Rattle.session.specs.Session.{numbersSaid, afterRemove, keptBy, afterKeep, afterRestore, reportBy, afterReport, Answers, Says, Steps}
-use Rattle.session.specs.Replies.{scopeOf, heardIn, heard, both, stepTo, refusal, Replies, Keeps, Restores}
+use Rattle.session.specs.Replies.{both, stepTo, refusal, Replies, Keeps, Restores}
 use Rattle.session.proofs.Spoken.{take-sets}
 
 -- what is said is what the request gives
 steps : {s u : Session} {q : Request} {a : Answer} {r : Said} → Answers s q u a → Says a r → Steps s q (stepTo u r)
 steps h y = record { answer = _; answers = h; count = y .count; written = y .written; padded = y .padded }
 
--- a request, by its scope
-abbrev askedIn : Scope → Request → Request
-askedIn Alone q = q
-askedIn scopes.Keep q = Keep
-askedIn scopes.Restore q = Restore
-
-asked-in : (q : Request) → q ≡ askedIn (scopeOf q) q
-asked-in (Open number size cut stages) = refl
-asked-in (Offers mark part) = refl
-asked-in (Insert mark part rotation shape) = refl
-asked-in (Remove mark) = refl
-asked-in Keep = refl
-asked-in Restore = refl
-asked-in Report = refl
-asked-in Malformed = refl
-
 -- the same request by another name
 pub asks : {s : Session} {p q : Request} {r : Stepped} → p ≡ q → Steps s q r → Steps s p r
 asks e h = rw e h
 
-pub hears : {l : Layout} {p q : Request} {r : Response} → p ≡ q → Replies l (heard q) r → Replies l (heard p) r
+pub hears : {l : Layout} {p q : Ask} {r : Response} → p ≡ q → Replies l q r → Replies l p r
 hears e h = rw e h
 
 -- an answer by its outcome
@@ -81,15 +63,15 @@ by-outcome s op a h = ap (λ (x : Outcome). reply s (answerBy op a x)) (sym h)
 
 -- ---- one lemma for each op: the call's outcome was v, what v asks for is said, and b says whether that is a refusal
 module _ (l : Layout) {r : Said} where
-  pub open-gives : (number : ℕ) (size : Size) (cut : Orientation) (stages : ℕ) {o : Opened} {v : Opening} {next : Layout} {a : Answer} {b : Bool}
-      → o ≡ openOf number size cut stages → o .outcome ≡ v
-      → ((kept : Layout) → reply (both next kept) a ≡ openedBy (both l kept) (o .layout) v) → b ≡ refusal a → Says a r
-      → Replies l (Open number size cut stages) (record { layout = next; refused = b; said = r })
+  pub open-gives : (o : Opening) {d : Opened} {v : OpenOutcome} {next : Layout} {a : Answer} {b : Bool}
+      → d ≡ openOf (o .number) (o .settings .sheet) (o .cut) (o .settings .stages) → d .outcome ≡ v
+      → ((kept : Layout) → reply (both next kept) a ≡ openedBy (both l kept) (d .layout) v) → b ≡ refusal a → Says a r
+      → Replies l (Open o) (record { layout = next; refused = b; said = r })
   unfolding Answers afterOpen
-  open-gives number size cut stages {o} e h f is y =
+  open-gives o {d} e h f is y =
       record {
         answer = _;
-        answers = λ kept. f kept ∙ ap (openedBy (both l kept) (o .layout)) (sym h) ∙ ap (afterOpen (both l kept)) e;
+        answers = λ kept. f kept ∙ ap (openedBy (both l kept) (d .layout)) (sym h) ∙ ap (afterOpen (both l kept)) e;
         refused = is;
         says = y;
       }
@@ -160,34 +142,21 @@ module _ (l : Layout) {r : Said} where
   report-gives h is y =
       record { answer = _; answers = λ kept. ap (λ (x : Bool). reply (both l kept) (reportBy l x)) (sym h); refused = is; says = y }
 
-  pub malformed-gives : {b : Bool} → b ≡ true → Says malformed r → Replies l Malformed (record { layout = l; refused = b; said = r })
-  unfolding Answers
-  malformed-gives is y = record { answer = malformed; answers = λ kept. refl; refused = is; says = y }
+-- ---- from what is told of the layouts to what the request gives
+pub keep-answers : (s : Session) {r : Keeping} {b : Bool} (k : Keeps (s .layout) r) → r .sound ≡ b
+    → Answers s Keep (both (s .layout) (cond b (s .layout) (s .kept))) (k .answer)
+keep-answers s k is = rw (sym is ∙ k .sound) (k .answers (s .kept))
 
--- ---- one lemma for each scope: from what is told of the layouts to what the request gives
-module _ (s : Session) (q : Request) {v : Scope} (e : v ≡ scopeOf q) where
-  scope-is : {w : Scope} → v ≡ w → q ≡ askedIn w q
-  scope-is h = asked-in q ∙ ap (λ (x : Scope). askedIn x q) (sym e ∙ h)
+module _ {s : Session} where
+  pub replied-steps : {ask : Ask} {r : Response} → Replies (s .layout) ask r → Steps s (OfLayout ask) (stepTo (withLayout s (r .layout)) (r .said))
+  replied-steps t = steps (t .answers (s .kept)) (t .says)
 
-  pub replied-answers : {r : Response} → v ≡ Alone → (t : Replies (s .layout) (heard q) r) → Answers s q (withLayout s (r .layout)) (t .answer)
-  replied-answers h t = let same : heard q ≡ q = ap (λ (x : Scope). heardIn x q) (sym e ∙ h) in rw same at (t .answers (s .kept))
+  pub keep-steps : {r : Keeping} {b : Bool} → Keeps (s .layout) r → r .sound ≡ b
+      → Steps s Keep (stepTo (both (s .layout) (cond b (s .layout) (s .kept))) (r .said))
+  keep-steps k is = steps (keep-answers s k is) (k .says)
 
-  pub replied-steps : {r : Response} → v ≡ Alone → Replies (s .layout) (heard q) r → Steps s q (stepTo (withLayout s (r .layout)) (r .said))
-  replied-steps h t = steps (replied-answers h t) (t .says)
-
-  pub keep-answers : {r : Keeping} {b : Bool} → v ≡ scopes.Keep → (k : Keeps (s .layout) r) → r .sound ≡ b
-      → Answers s q (both (s .layout) (cond b (s .layout) (s .kept))) (k .answer)
-  keep-answers h k is = rw (scope-is h, sym is ∙ k .sound) (k .answers (s .kept))
-
-  pub keep-steps : {r : Keeping} {b : Bool} → v ≡ scopes.Keep → Keeps (s .layout) r → r .sound ≡ b
-      → Steps s q (stepTo (both (s .layout) (cond b (s .layout) (s .kept))) (r .said))
-  keep-steps h k is = steps (keep-answers h k is) (k .says)
-
-  pub restore-answers : {r : Response} → v ≡ scopes.Restore → (t : Restores (s .layout) (s .kept) r) → Answers s q (withLayout s (r .layout)) (t .answer)
-  restore-answers h t = rw (scope-is h) (t .answers)
-
-  pub restore-steps : {r : Response} → v ≡ scopes.Restore → Restores (s .layout) (s .kept) r → Steps s q (stepTo (withLayout s (r .layout)) (r .said))
-  restore-steps h t = steps (restore-answers h t) (t .says)
+  pub restore-steps : {r : Response} → Restores (s .layout) (s .kept) r → Steps s Restore (stepTo (withLayout s (r .layout)) (r .said))
+  restore-steps t = steps (t .answers) (t .says)
 
 pub malformed-steps : {s : Session} {r : Said} → Says malformed r → Steps s Malformed (stepTo s r)
 unfolding Answers

@@ -1,3 +1,3 @@
 pub mod Session
 pub mod Replies
-pub mod Desk
+pub mod Listener

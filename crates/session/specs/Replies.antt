@@ -4,43 +4,23 @@ use mathlib.Core.Path.{_≡_}
 use mathlib.Core.Bool.{Bool, true, false, cond}
 use Rattle.layout.specs.declared.layout.Layout.{Layout}
 use Rattle.layout.specs.Check.{soundB}
+use Rattle.frames.specs.declared.Ask.{Ask}
 use Rattle.frames.specs.declared.Request.{Request}
-use Rattle.frames.specs.declared.Request.the-variants.{Open, Offers, Insert, Remove, Keep, Restore, Report, Malformed}
+use Rattle.frames.specs.declared.Request.the-variants.{OfLayout, Keep, Restore, Malformed}
 use Rattle.frames.specs.Answers.{Answer, refused, opened, offered, inserted, removed, done, reported, malformed}
 use Rattle.session.specs.declared.Session.{Session}
 use Rattle.session.specs.declared.Stepped.{Stepped}
-use Rattle.session.specs.declared.replies.Scope.{Scope}
-use Rattle.session.specs.declared.replies.Scope.the-variants as scopes
-use Rattle.session.specs.declared.replies.Scope.the-variants.{Alone}
 use Rattle.session.specs.declared.replies.Said.{Said}
 use Rattle.session.specs.declared.replies.Response.{Response}
 use Rattle.session.specs.declared.replies.Keeping.{Keeping}
 use Rattle.session.specs.Session.{Answers, Says}
 
-abbrev pub scopeOf : Request → Scope
-scopeOf (Open number size cut stages) = Alone
-scopeOf (Offers mark part) = Alone
-scopeOf (Insert mark part rotation shape) = Alone
-scopeOf (Remove mark) = Alone
-scopeOf Keep = scopes.Keep
-scopeOf Restore = scopes.Restore
-scopeOf Report = Alone
-scopeOf Malformed = Alone
-
--- what the layout alone answers: keep and restore are malformed there
-abbrev pub heardIn : Scope → Request → Request
-heardIn Alone q = q
-heardIn scopes.Keep q = Malformed
-heardIn scopes.Restore q = Malformed
-
-abbrev pub heard : Request → Request
-heard q = heardIn (scopeOf q) q
-
 -- what is kept afterwards: keep alone changes it, where the layout is sound
-abbrev pub keptIn : Session → Scope → Layout
-keptIn s Alone = s .kept
-keptIn s scopes.Keep = cond (soundB (s .layout)) (s .layout) (s .kept)
-keptIn s scopes.Restore = s .kept
+abbrev pub keptIn : Session → Request → Layout
+keptIn s (OfLayout ask) = s .kept
+keptIn s Keep = cond (soundB (s .layout)) (s .layout) (s .kept)
+keptIn s Restore = s .kept
+keptIn s Malformed = s .kept
 
 abbrev pub both : Layout → Layout → Session
 both l kept = record { layout = l; kept = kept }
@@ -60,10 +40,10 @@ refusal (done op) = false
 refusal (reported used nodes bits) = false
 refusal malformed = true
 
--- the request q, at the layout l: whatever is kept, it stays, and the answer is the same
-pub record Replies (l : Layout) (q : Request) (r : Response) : Type 0 where
+-- what is asked of the layout l: whatever is kept, it stays, and the answer is the same
+pub record Replies (l : Layout) (ask : Ask) (r : Response) : Type 0 where
   pub answer : Answer
-  pub answers : (kept : Layout) → Answers (both l kept) q (both (r .layout) kept) answer
+  pub answers : (kept : Layout) → Answers (both l kept) (OfLayout ask) (both (r .layout) kept) answer
   pub refused : r .refused ≡ refusal answer
   pub says : Says answer (r .said)
 

@@ -3,6 +3,7 @@
 use mathlib.Core.Path.{_≡_}
 use mathlib.Core.Bool.{Bool, cond}
 use mathlib.Core.List.{List}
+use mathlib.Core.Option.{Option, none, some}
 use Prim.Native.Nat.{ℕ, _+_, _-_, _*_}
 use lib.Ieee.{binary64, toBits}
 use lib.ListN.{length, take, replicate}
@@ -31,8 +32,9 @@ use Rattle.layout.specs.Remove.{RemoveSays, numbersOut}
 use Rattle.layout.specs.Restore.{restoreOf}
 use Rattle.looks.specs.declared.replies.OffersAnswer.{OffersAnswer}
 use Rattle.looks.specs.Answers.{offersCall}
+use Rattle.frames.specs.declared.Ask.the-variants.{Open, Offers, Insert, Remove, Report}
 use Rattle.frames.specs.declared.Request.{Request}
-use Rattle.frames.specs.declared.Request.the-variants.{Open, Offers, Insert, Remove, Keep, Restore, Report, Malformed}
+use Rattle.frames.specs.declared.Request.the-variants.{OfLayout, Keep, Restore, Malformed}
 use Rattle.frames.specs.Answers.{Answer, refused, opened, offered, inserted, removed, done, reported, malformed, answerLine}
 use Rattle.session.specs.declared.Session.{Session}
 use Rattle.session.specs.declared.Stepped.{Stepped}
@@ -110,15 +112,26 @@ afterReport s = reply s (reportBy (s .layout) (soundB (s .layout)))
 
 -- THE RULE: the request q, in the state s, gives the state t and the answer a
 unfoldable pub Answers : Session → Request → Session → Answer → Type 0
-Answers s (Open number size cut stages) t a = reply t a ≡ afterOpen s (openOf number size cut stages)
-Answers s (Offers mark part) t a = reply t a ≡ afterOffers s (offersCall (s .layout) mark part)
-Answers s (Insert mark part rotation shape) t a =
+Answers s (OfLayout (Open o)) t a = reply t a ≡ afterOpen s (openOf (o .number) (o .settings .sheet) (o .cut) (o .settings .stages))
+Answers s (OfLayout (Offers mark part)) t a = reply t a ≡ afterOffers s (offersCall (s .layout) mark part)
+Answers s (OfLayout (Insert mark part rotation shape)) t a =
     (i : Inserted) × InsertSays (s .layout) mark part rotation shape i × (reply t a ≡ afterInsert s i)
-Answers s (Remove mark) t a = (r : Removed) × RemoveSays (s .layout) mark limit r × (reply t a ≡ afterRemove s mark r)
+Answers s (OfLayout (Remove mark)) t a = (r : Removed) × RemoveSays (s .layout) mark limit r × (reply t a ≡ afterRemove s mark r)
+Answers s (OfLayout Report) t a = reply t a ≡ afterReport s
 Answers s Keep t a = reply t a ≡ afterKeep s
 Answers s Restore t a = reply t a ≡ afterRestore s (restoreOf (s .layout) (s .kept))
-Answers s Report t a = reply t a ≡ afterReport s
 Answers s Malformed t a = reply t a ≡ reply s malformed
+
+-- the op of a request that looks at the layout: all but an opening, and what is malformed ("before all others")
+abbrev pub opOf : Request → Option ℕ
+opOf (OfLayout (Open o)) = none
+opOf (OfLayout (Offers mark part)) = some 2
+opOf (OfLayout (Insert mark part rotation shape)) = some 3
+opOf (OfLayout (Remove mark)) = some 4
+opOf (OfLayout Report) = some 7
+opOf Keep = some 5
+opOf Restore = some 6
+opOf Malformed = none
 
 -- the characters of the longest answer, with its newline: a removal of all nodes but two, which are the top and the structure that goes
 abbrev pub longest : ℕ

@@ -9,16 +9,14 @@ use frames::Request;
 use layout::layout::Layout;
 use replies::Response;
 use replies::Said;
-use replies::Scope;
 use replies::keep;
 use replies::replied;
 use replies::restore;
-use replies::scope_of;
 use table::LIMIT;
 
-pub mod desk; // desk.rt: the lines of a text that arrives in chunks, each answered
+pub mod listener; // listener.rt: the lines of a text that arrives in chunks, each answered
 pub mod replies; // replies.rt: the answers over layouts
-mod say; // say.rt: an answer as a line
+pub mod say; // say.rt: an answer as a line
 
 // The characters of the longest answer, a removal of all nodes but two, with its newline: `longest` of specs/Session.antt.
 pub const LONGEST: usize = 23 + 4 * (LIMIT - 2);
@@ -75,9 +73,9 @@ impl Session {
         ensures { λ r. ⌜ Steps self request r ⌝ }
     {
         let layout = self.layout;
-        match scope_of(request) {
-            Scope::Alone => self.told(replied(layout, request)),
-            Scope::Keep => {
+        match request {
+            Request::OfLayout(ask) => self.told(replied(layout, ask)),
+            Request::Keep => {
                 let answer = keep(layout);
                 let said = answer.said;
                 if answer.sound {
@@ -89,10 +87,11 @@ impl Session {
                     self.says(said)
                 }
             }
-            Scope::Restore => {
+            Request::Restore => {
                 let kept = self.kept;
                 self.told(restore(layout, kept))
             }
+            Request::Malformed => self.malformed(),
         }
     }
 

@@ -1,30 +1,22 @@
 // The counter's answers over layouts: what each op does to the layout, and what it says (document 01, "Counter frames"). Only keep and restore have to
 // do with the kept layout, so that all others leave it out. Rests on `layout` and `looks` for what a request does, and on say.rt for the lines.
 ghost use mathlib.Core.Path.{_≡_};
-ghost use Rattle.frames.specs.declared.Request.the-variants as requests;
-ghost use Rattle.session.specs.Replies.{scopeOf, heard, Replies, Keeps, Restores};
+ghost use Rattle.frames.specs.declared.Ask.the-variants as asks;
+ghost use Rattle.session.specs.Replies.{Replies, Keeps, Restores};
 use crate::LONGEST;
 use crate::say;
 use answers::Mark;
 use answers::Refusal;
-use frames::Request;
+use frames::Ask;
 use layout::layout::Layout;
-use layout::open::Opening;
+use layout::open::Opening as OpenOutcome;
 use layout::replies::Outcome;
 use looks::replies::UsageAnswer;
 use piece::insertion_blueprint::InsertionShape;
-use piece::orientation::Orientation;
 use piece::parttype::PartType;
 use piece::rotation::Rotation;
-use piece::size::Size;
+use piece::settings::Opening;
 use table::LIMIT;
-
-// What of a session a request has to do with: the layout alone, or the kept one too.
-pub enum Scope {
-    Alone,
-    Keep,
-    Restore,
-}
 
 // An answer's line: the first count characters of it, its newline among them; the rest is zero.
 pub struct Said {
@@ -48,13 +40,15 @@ pub struct Keeping {
 // ---- One function for each op.
 
 // A refused opening keeps the layout that stood.
-fn open(layout: Layout, number: u16, size: Size, cut: Orientation, stages: u8) -> Response
-    ensures { λ r. ⌜ Replies layout (requests.Open number size cut stages) r ⌝ }
+fn open(layout: Layout, opening: Opening) -> Response
+    ensures { λ r. ⌜ Replies layout (asks.Open opening) r ⌝ }
 {
-    let opened = Layout::open(number, size, cut, stages);
+    let cut = opening.cut;
+    let settings = opening.settings;
+    let opened = Layout::open(opening.number, settings.sheet, cut, settings.stages);
     let outcome = opened.outcome;
     match outcome {
-        Opening::Free(mark) => {
+        OpenOutcome::Free(mark) => {
             let next = opened.layout;
             let said = say::opened(mark);
             Response {
@@ -63,7 +57,7 @@ fn open(layout: Layout, number: u16, size: Size, cut: Orientation, stages: u8) -
                 said,
             }
         }
-        Opening::Refused(refusal) => {
+        OpenOutcome::Refused(refusal) => {
             let said = say::refused(1, refusal);
             Response {
                 layout,
@@ -75,7 +69,7 @@ fn open(layout: Layout, number: u16, size: Size, cut: Orientation, stages: u8) -
 }
 
 fn offers(layout: Layout, mark: Mark, part: PartType) -> Response
-    ensures { λ r. ⌜ Replies layout (requests.Offers mark part) r ⌝ }
+    ensures { λ r. ⌜ Replies layout (asks.Offers mark part) r ⌝ }
 {
     let answer = looks::room::offers(layout, mark, part);
     let offers = answer.offers;
@@ -107,7 +101,7 @@ fn insert(
     rotation: Rotation,
     shape: InsertionShape,
 ) -> Response
-    ensures { λ r. ⌜ Replies layout (requests.Insert mark part rotation shape) r ⌝ }
+    ensures { λ r. ⌜ Replies layout (asks.Insert mark part rotation shape) r ⌝ }
 {
     let answer = layout.insert(mark, part, rotation, shape);
     let next = answer.layout;
@@ -135,7 +129,7 @@ fn insert(
 
 // The buffer has room for as many part numbers as there are places, so refusal 13 is never given.
 fn remove(layout: Layout, mark: Mark) -> Response
-    ensures { λ r. ⌜ Replies layout (requests.Remove mark) r ⌝ }
+    ensures { λ r. ⌜ Replies layout (asks.Remove mark) r ⌝ }
 {
     let mut numbers = [0u16; LIMIT];
     let answer = layout.remove(mark, &mut numbers);
@@ -203,7 +197,7 @@ pub fn restore(layout: Layout, kept: Layout) -> Response
 
 // A layout that answers is sound, so that its record has the area of its parts and how many nodes it holds.
 fn report(layout: Layout) -> Response
-    ensures { λ r. ⌜ Replies layout requests.Report r ⌝ }
+    ensures { λ r. ⌜ Replies layout asks.Report r ⌝ }
 {
     match looks::figures::sheet_usage(layout) {
         UsageAnswer::Usage(usage) => {
@@ -225,66 +219,21 @@ fn report(layout: Layout) -> Response
     }
 }
 
-fn malformed(layout: Layout) -> Response
-    ensures { λ r. ⌜ Replies layout requests.Malformed r ⌝ }
-{
-    let said = say::malformed();
-    Response {
-        layout,
-        refused: true,
-        said,
-    }
-}
+// ---- The answer to what is asked of the layout.
 
-// ---- The answer to a request.
-
-pub fn scope_of(request: Request) -> Scope
-    ensures { λ r. ⌜ r ≡ scopeOf request ⌝ }
+pub fn replied(layout: Layout, ask: Ask) -> Response
+    ensures { λ r. ⌜ Replies layout ask r ⌝ }
 {
-    match request {
-        Request::Open {
-            layout: _,
-            size: _,
-            cut: _,
-            stages: _,
-        } => Scope::Alone,
-        Request::Offers { mark: _, part: _ } => Scope::Alone,
-        Request::Insert {
-            mark: _,
-            part: _,
-            rotation: _,
-            shape: _,
-        } => Scope::Alone,
-        Request::Remove { mark: _ } => Scope::Alone,
-        Request::Keep => Scope::Keep,
-        Request::Restore => Scope::Restore,
-        Request::Report => Scope::Alone,
-        Request::Malformed => Scope::Alone,
-    }
-}
-
-// What the layout alone answers: keep and restore are malformed here.
-pub fn replied(layout: Layout, request: Request) -> Response
-    ensures { λ r. ⌜ Replies layout (heard request) r ⌝ }
-{
-    match request {
-        Request::Open {
-            layout: number,
-            size,
-            cut,
-            stages,
-        } => open(layout, number, size, cut, stages),
-        Request::Offers { mark, part } => offers(layout, mark, part),
-        Request::Insert {
+    match ask {
+        Ask::Open { opening } => open(layout, opening),
+        Ask::Offers { mark, part } => offers(layout, mark, part),
+        Ask::Insert {
             mark,
             part,
             rotation,
             shape,
         } => insert(layout, mark, part, rotation, shape),
-        Request::Remove { mark } => remove(layout, mark),
-        Request::Keep => malformed(layout),
-        Request::Restore => malformed(layout),
-        Request::Report => report(layout),
-        Request::Malformed => malformed(layout),
+        Ask::Remove { mark } => remove(layout, mark),
+        Ask::Report => report(layout),
     }
 }

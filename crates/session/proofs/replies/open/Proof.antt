@@ -9,16 +9,16 @@ returns : tie.Need-returns
 returns c =
     let k = c .before .before in
     let o = k .before .before .before in
-    let a = o .before .args in
-    open-gives (a .layout) (a .number) (a .size) (a .cut) (a .stages) (o .«open» .ensures) (k .before .outcome .given .1) (λ _. refl) refl
+    let a = o .before .before .args in
+    open-gives (a .layout) (a .opening) (o .«open» .ensures) (k .before .outcome .given .1) (λ _. refl) refl
     (c .opened .ensures)
 
 returns-2 : tie.Need-returns-2
 returns-2 c =
     let k = c .before .before in
     let o = k .before .before in
-    let a = o .before .args in
-    open-gives (a .layout) (a .number) (a .size) (a .cut) (a .stages) (o .«open» .ensures) (k .outcome2 .given .1) (λ _. refl) refl
+    let a = o .before .before .args in
+    open-gives (a .layout) (a .opening) (o .«open» .ensures) (k .outcome2 .given .1) (λ _. refl) refl
     (c .refused .ensures)
 
 pub open-spec : {M : Type 1} → statement M

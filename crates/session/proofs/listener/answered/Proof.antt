@@ -1,8 +1,8 @@
 -- `answered` meets its contract. Assumes nothing.
 use mathlib.Core.Path.{refl}
 use borrow.Author.Needs.{needs}
-use Rattle.session.proofs.desk.answered.Statement.{statement}
-use Rattle.session.proofs.desk.answered.Tie as tie
+use Rattle.session.proofs.listener.answered.Statement.{statement}
+use Rattle.session.proofs.listener.answered.Tie as tie
 
 returns : tie.Need-returns
 returns c = rw (c .none .ensures) refl

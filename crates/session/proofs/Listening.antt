@@ -1,4 +1,4 @@
--- From an answered line, or none, to what a turn of the desk says. Rests on specs/Desk.
+-- From an answered line, or none, to what a turn of the listener says. Rests on specs/Listener.
 use mathlib.Core.Path.{_≡_, refl, sym, ap, _∙_}
 use mathlib.Core.Bool.{Bool, true, false}
 use mathlib.Core.List.{List, [], _∷_, append-nil}
@@ -15,15 +15,15 @@ use Rattle.frames.specs.declared.Request.the-variants.{Malformed}
 use Rattle.frames.specs.Requests.{requestOf}
 use Rattle.frames.specs.Answers.{Answer, each, answerLine}
 use Rattle.session.specs.declared.Stepped.{Stepped}
-use Rattle.session.specs.declared.desk.Desk.{Desk}
+use Rattle.session.specs.declared.listener.Listener.{Listener}
 use Rattle.session.specs.Session.{longest, Steps}
-use Rattle.session.specs.Desk.{askedIn, none, more, textOf, spoken, silent, Turned, oneStep, lastStep, Takes, Ends}
+use Rattle.session.specs.Listener.{askedIn, none, more, textOf, spoken, silent, Turned, oneStep, lastStep, Takes, Ends}
 
 text-one : (a : Answer) → textOf (a ∷ []) ≡ answerLine a
 unfolding each
 text-one a = append-nil (answerLine a)
 
-module _ (d : Desk) {f : Fed} (n : ℕ) where
+module _ (d : Listener) {f : Fed} (n : ℕ) where
   -- one line, and its answer
   one-answer : (line : Line) {q : Stepped} → f ≡ onward line (still empty) → Steps (d .session) (askedIn line) q → Turned d f (spoken q n)
   one-answer line {q} e s =
@@ -43,7 +43,7 @@ module _ (d : Desk) {f : Fed} (n : ℕ) where
   unfolding each
   no-answer p e = rw e (record { answers = []; runs = none; pending = refl; count = refl; written = refl; padded = refl })
 
-module _ (d : Desk) (chunk : List ℕ) (at : ℕ) {t : Taken} (e : t ≡ takeOf (d .pending) chunk at) where
+module _ (d : Listener) (chunk : List ℕ) (at : ℕ) {t : Taken} (e : t ≡ takeOf (d .pending) chunk at) where
   event-is : {v : Event} → t .event ≡ v → oneStep (d .pending) chunk at ≡ given v (t .pending) (still empty)
   event-is h =
       ap (λ (x : Taken). given (x .event) (x .pending) (still empty)) (sym e) ∙ ap (λ (v : Event). given v (t .pending) (still empty)) h
@@ -67,7 +67,7 @@ module _ (d : Desk) (chunk : List ℕ) (at : ℕ) {t : Taken} (e : t ≡ takeOf 
   takes-more h = record { next = ap (λ (x : Taken). x .next) e; turned = no-answer d (t .next) (t .pending) (event-is h) }
 
 -- the two ways out at the end of the input, where b says whether a last line lacks its newline
-module _ (d : Desk) {b : Bool} (e : b ≡ unfinished (d .pending)) where
+module _ (d : Listener) {b : Bool} (e : b ≡ unfinished (d .pending)) where
   pub ends-cut : {q : Stepped} → b ≡ true → Steps (d .session) Malformed q → Ends d (spoken q 0)
   unfolding ended
   ends-cut h s =

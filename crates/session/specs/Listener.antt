@@ -1,4 +1,4 @@
--- Document 01, "Counter frames": the lines of the input, one answer each, and what the desk does with a chunk of it.
+-- Document 01, "Counter frames": the lines of the input, one answer each, and what the listener does with a chunk of it.
 -- "A longer line, an empty one, or a last one lacking its newline is malformed and gets one answer; empty input gets none."
 -- Rests on specs/Session and on the lines of `lines`.
 use mathlib.Core.Path.{_≡_}
@@ -15,8 +15,8 @@ use Rattle.frames.specs.Requests.{requestOf}
 use Rattle.frames.specs.Answers.{Answer, each, answerLine}
 use Rattle.session.specs.declared.Session.{Session}
 use Rattle.session.specs.declared.Stepped.{Stepped}
-use Rattle.session.specs.declared.desk.Desk.{Desk}
-use Rattle.session.specs.declared.desk.Turn.{Turn}
+use Rattle.session.specs.declared.listener.Listener.{Listener}
+use Rattle.session.specs.declared.listener.Turn.{Turn}
 use Rattle.session.specs.Session.{Answers, started, longest}
 
 -- what a line asks
@@ -35,21 +35,21 @@ pub data Runs : Session → List Line → List Answer → Session → Type 0 whe
 abbrev pub textOf : List Answer → List ℕ
 textOf xs = each answerLine xs
 
-abbrev pub opening : Desk
+abbrev pub opening : Listener
 opening = record { session = started; pending = empty }
 
 -- a turn with an answer, after which nothing is pending; and one without
 abbrev pub spoken : Stepped → ℕ → Turn
-spoken r n = record { desk = record { session = r .session; pending = empty }; next = n; line = r .line; count = r .count }
+spoken r n = record { listener = record { session = r .session; pending = empty }; next = n; line = r .line; count = r .count }
 
-abbrev pub silent : Desk → ℕ → Turn
-silent d n = record { desk = d; next = n; line = replicate longest 0; count = 0 }
+abbrev pub silent : Listener → ℕ → Turn
+silent d n = record { listener = d; next = n; line = replicate longest 0; count = 0 }
 
--- the desk has answered these lines, its answers' text stands first in the turn's line, and this is pending
-pub record Turned (d : Desk) (f : Fed) (r : Turn) : Type 0 where
+-- the listener has answered these lines, its answers' text stands first in the turn's line, and this is pending
+pub record Turned (d : Listener) (f : Fed) (r : Turn) : Type 0 where
   pub answers : List Answer
-  pub runs : Runs (d .session) (f .lines) answers (r .desk .session)
-  pub pending : r .desk .pending ≡ f .left
+  pub runs : Runs (d .session) (f .lines) answers (r .listener .session)
+  pub pending : r .listener .pending ≡ f .left
   pub count : r .count ≡ length (textOf answers)
   pub written : take (r .count) (r .line) ≡ textOf answers
   pub padded : r .line ≡ sets (replicate longest 0) 0 (textOf answers)
@@ -63,23 +63,23 @@ abbrev pub lastStep : Pending → Fed
 lastStep p = record { lines = ended p; left = empty }
 
 -- what `turn` says
-pub record Takes (d : Desk) (chunk : List ℕ) (at : ℕ) (r : Turn) : Type 0 where
+pub record Takes (d : Listener) (chunk : List ℕ) (at : ℕ) (r : Turn) : Type 0 where
   pub next : r .next ≡ takeOf (d .pending) chunk at .next
   pub turned : Turned d (oneStep (d .pending) chunk at) r
 
 -- what `end` says
-pub record Ends (d : Desk) (r : Turn) : Type 0 where
+pub record Ends (d : Listener) (r : Turn) : Type 0 where
   pub next : r .next ≡ 0
   pub turned : Turned d (lastStep (d .pending)) r
 
 -- turns over a chunk, from a position to its end, with their answers
-pub data Turns (chunk : List ℕ) : Desk → ℕ → List Answer → Desk → Type 0 where
-  stop : {d : Desk} {at : ℕ} → length chunk ≤ at → Turns chunk d at [] d
-  go : {d e : Desk} {at : ℕ} {r : Turn} {xs : List Answer} → at < length chunk → (t : Takes d chunk at r)
-      → Turns chunk (r .desk) (r .next) xs e → Turns chunk d at (t .turned .answers ++ xs) e
+pub data Turns (chunk : List ℕ) : Listener → ℕ → List Answer → Listener → Type 0 where
+  stop : {d : Listener} {at : ℕ} → length chunk ≤ at → Turns chunk d at [] d
+  go : {d e : Listener} {at : ℕ} {r : Turn} {xs : List Answer} → at < length chunk → (t : Takes d chunk at r)
+      → Turns chunk (r .listener) (r .next) xs e → Turns chunk d at (t .turned .answers ++ xs) e
 
 -- turns over chunk after chunk
-pub data Served : Desk → List (List ℕ) → List Answer → Desk → Type 0 where
-  stop : {d : Desk} → Served d [] [] d
-  go : {d e f : Desk} {chunk : List ℕ} {chunks : List (List ℕ)} {xs ys : List Answer} → Turns chunk d 0 xs e
+pub data Served : Listener → List (List ℕ) → List Answer → Listener → Type 0 where
+  stop : {d : Listener} → Served d [] [] d
+  go : {d e f : Listener} {chunk : List ℕ} {chunks : List (List ℕ)} {xs ys : List Answer} → Turns chunk d 0 xs e
       → Served e chunks ys f → Served d (chunk ∷ chunks) (xs ++ ys) f

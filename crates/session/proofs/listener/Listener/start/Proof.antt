@@ -1,8 +1,8 @@
--- `Desk::start` meets its contract. Assumes nothing.
+-- `Listener::start` meets its contract. Assumes nothing.
 use mathlib.Core.Path.{refl}
 use borrow.Author.Needs.{needs}
-use Rattle.session.proofs.desk.Desk.start.Statement.{statement}
-use Rattle.session.proofs.desk.Desk.start.Tie as tie
+use Rattle.session.proofs.listener.Listener.start.Statement.{statement}
+use Rattle.session.proofs.listener.Listener.start.Tie as tie
 
 returns : tie.Need-returns
 returns c = rw (c .before .start .ensures, c .none .ensures) refl

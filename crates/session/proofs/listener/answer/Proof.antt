@@ -7,8 +7,8 @@ use Rattle.frames.specs.Requests.{requestOf}
 use Rattle.session.proofs.Given.{pending-sized}
 use Rattle.session.proofs.Ways.{asks}
 use borrow.Author.Needs.{needs}
-use Rattle.session.proofs.desk.answer.Statement.{statement}
-use Rattle.session.proofs.desk.answer.Tie as tie
+use Rattle.session.proofs.listener.answer.Statement.{statement}
+use Rattle.session.proofs.listener.answer.Tie as tie
 
 sixty-four : (c : tie.Start) → length (c .args .pending .bytes) ≡ 64
 sixty-four c = pending-sized (c .args .pending) _ (c .good .1 .0)

@@ -1,10 +1,10 @@
-// The counter's desk: the state and the line that has begun, taken through a text that arrives in chunks (document 01, "Counter frames").
+// The counter's listener: the state and the line that has begun, taken through a text that arrives in chunks (document 01, "Counter frames").
 // Each line is answered when its newline arrives. Rests on `lines` for where lines end and on lib.rt for the answers.
 ghost use mathlib.Core.Path.{_≡_};
 ghost use lib.ListN.{take};
 ghost use Rattle.frames.specs.Requests.{requestOf};
 ghost use Rattle.session.specs.Session.{Steps};
-ghost use Rattle.session.specs.Desk.{opening, spoken, silent, Takes, Ends};
+ghost use Rattle.session.specs.Listener.{opening, spoken, silent, Takes, Ends};
 use crate::LONGEST;
 use crate::Session;
 use crate::Stepped;
@@ -13,14 +13,14 @@ use lines::stream::MOST;
 use lines::stream::Pending;
 use lines::stream::none;
 
-pub struct Desk {
+pub struct Listener {
     pub session: Session,
     pub pending: Pending,
 }
 
 // The next state, and where the chunk goes on. With a line, its answer: the first count characters; without one, count is 0.
 pub struct Turn {
-    pub desk: Desk,
+    pub listener: Listener,
     pub next: usize,
     pub line: [u8; LONGEST],
     pub count: usize,
@@ -45,7 +45,7 @@ fn answered(stepped: Stepped, next: usize) -> Turn
     let session = stepped.session;
     let line = stepped.line;
     Turn {
-        desk: Desk {
+        listener: Listener {
             session,
             pending: none(),
         },
@@ -56,22 +56,22 @@ fn answered(stepped: Stepped, next: usize) -> Turn
 }
 
 // No line was answered.
-fn unanswered(desk: Desk, next: usize) -> Turn
-    ensures { λ r. ⌜ r ≡ silent desk next ⌝ }
+fn unanswered(listener: Listener, next: usize) -> Turn
+    ensures { λ r. ⌜ r ≡ silent listener next ⌝ }
 {
     Turn {
-        desk,
+        listener,
         next,
         line: [0u8; LONGEST],
         count: 0,
     }
 }
 
-impl Desk {
-    pub fn start() -> Desk
+impl Listener {
+    pub fn start() -> Listener
         ensures { λ r. ⌜ r ≡ opening ⌝ }
     {
-        Desk {
+        Listener {
             session: Session::start(),
             pending: none(),
         }
@@ -90,7 +90,7 @@ impl Desk {
         match event {
             Event::Whole => answered(answer(session, pending), next),
             Event::Long => answered(session.malformed(), next),
-            Event::More => unanswered(Desk { session, pending }, next),
+            Event::More => unanswered(Listener { session, pending }, next),
         }
     }
 
@@ -104,7 +104,7 @@ impl Desk {
             answered(session.malformed(), 0)
         } else {
             unanswered(
-                Desk {
+                Listener {
                     session,
                     pending: none(),
                 },

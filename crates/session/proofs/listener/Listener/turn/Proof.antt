@@ -1,8 +1,8 @@
 -- `turn` meets its contract: a line, one that is too long, or none yet. Assumes nothing.
-use Rattle.session.proofs.AtDesk.{takes-whole, takes-long, takes-more}
+use Rattle.session.proofs.Listening.{takes-whole, takes-long, takes-more}
 use borrow.Author.Needs.{needs}
-use Rattle.session.proofs.desk.Desk.turn.Statement.{statement}
-use Rattle.session.proofs.desk.Desk.turn.Tie as tie
+use Rattle.session.proofs.listener.Listener.turn.Statement.{statement}
+use Rattle.session.proofs.listener.Listener.turn.Tie as tie
 
 returns : tie.Need-returns
 returns c =

@@ -1,8 +1,8 @@
 -- `end` meets its contract, with a last line and without. Assumes nothing.
-use Rattle.session.proofs.AtDesk.{ends-cut, ends-clean}
+use Rattle.session.proofs.Listening.{ends-cut, ends-clean}
 use borrow.Author.Needs.{needs}
-use Rattle.session.proofs.desk.Desk.end.Statement.{statement}
-use Rattle.session.proofs.desk.Desk.end.Tie as tie
+use Rattle.session.proofs.listener.Listener.end.Statement.{statement}
+use Rattle.session.proofs.listener.Listener.end.Tie as tie
 
 returns : tie.Need-returns
 returns c =
