@@ -16,9 +16,6 @@ Inv-loop from nodes i₀ i = lowestFrom limit nodes i ≡ lowestFrom limit nodes
 abbrev μ-loop : tie.MeasureT-loop
 μ-loop from nodes i₀ i = limit - i
 
-loop-holds : tie.Need-loop-holds Inv-loop μ-loop
-loop-holds c = refl
-
 loop-again : tie.Need-loop-again Inv-loop μ-loop
 loop-again c =
     let l = c .before .before .before .before .loop in
@@ -43,7 +40,7 @@ unheld-spec =
     (tie.spec
     Inv-loop
     μ-loop
-    loop-holds
+    (λ c. refl)  -- loop-holds
     (λ c. search needs)  -- cast-at
     (λ c. search needs)  -- mul-n
     (λ c. search needs)  -- array-copy-out-n
