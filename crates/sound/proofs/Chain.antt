@@ -49,3 +49,9 @@ module _ {x y : ℕ} where
 
   pub when-ne : {b r : Bool} (a : Bool) → (x ≡ y → ⊥) → r ≡ b → r ≡ cond (eqb x y) a b
   when-ne a h f = rw (ne-eqb x y h) f
+
+-- each test in turn, as the places of a proof have it
+pub ruleset tests = (pass-by, stop-by, pass-eq, stop-ne, pass-ne, stop-eq, pass-le, stop-gt, pass-lt, stop-ge, when-eq, when-ne)
+
+-- a test for equality, wherever it stands
+pub ruleset equals = (eq-eqb, ne-eqb)

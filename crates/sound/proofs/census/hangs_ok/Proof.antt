@@ -1,17 +1,12 @@
 -- Each answer is `hangsB`, computed by the tests that led to it.
-use mathlib.Core.Path.{refl}
-use borrow.Author.Tests.{eq-eqb, ne-eqb}
+use Rattle.sound.proofs.Chain.{equals}
 use Rattle.sound.proofs.census.hangs_ok.Statement.{statement}
 use Rattle.sound.proofs.census.hangs_ok.Tie as tie
 
-returns : tie.Need-returns
-returns c = rw (eq-eqb _ _ (c .if1 .taken)) refl
-
-returns-2 : tie.Need-returns-2
-returns-2 c = rw (ne-eqb _ _ (c .before .before .if1 .left), eq-eqb _ _ (c .if2 .taken)) refl
-
-returns-3 : tie.Need-returns-3
-returns-3 c = rw (ne-eqb _ _ (c .before .before .if1 .left), ne-eqb _ _ (c .if2 .left)) refl
-
 pub hangs-ok-spec : {M : Type 1} → statement M
-hangs-ok-spec = tie.close (tie.spec returns returns-2 returns-3)
+hangs-ok-spec =
+    tie.close
+    (tie.spec
+    (λ c. search equals)  -- returns
+    (λ c. search equals)  -- returns-2
+    (λ c. search equals))  -- returns-3

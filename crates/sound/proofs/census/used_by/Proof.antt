@@ -10,9 +10,6 @@ returns c =
     let k = c .before .before in
     rw (eq-eqb _ _ (sym (k .kind-number .ensures) ∙ c .before .if1 .taken)) (c .area .ensures)
 
-returns-2 : tie.Need-returns-2
-returns-2 c = rw (ne-eqb _ _ (λ e. c .if1 .left (c .before .kind-number .ensures ∙ e))) refl
-
 pub used-by-spec : {M : Type 1} → statement M
 used-by-spec =
     tie.close
@@ -20,4 +17,4 @@ used-by-spec =
     (λ c κs. search needs)  -- kind-number-requires
     (λ c κs. search needs)  -- area-requires
     returns
-    returns-2)
+    (λ c. rw (ne-eqb _ _ (λ e. c .if1 .left (c .before .kind-number .ensures ∙ e))) refl))  -- returns-2

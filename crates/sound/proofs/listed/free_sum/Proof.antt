@@ -16,9 +16,6 @@ Inv-loop kind area sum₀ i₀ sum i = (i ≤ limit) × (sum ≡ areaIn 0 kind a
 abbrev μ-loop : tie.MeasureT-loop
 μ-loop kind area sum₀ i₀ sum i = limit - i
 
-loop-holds : tie.Need-loop-holds Inv-loop μ-loop
-loop-holds c = (omega arith, sym (area-none 0 (c .args .kind .now) (c .args .area .now)))
-
 add-sum : tie.Need-add-sum Inv-loop μ-loop
 add-sum c =
     let l = c .before .before .before .before .loop in
@@ -51,7 +48,7 @@ free-sum-spec =
     (tie.spec
     Inv-loop
     μ-loop
-    loop-holds
+    (λ c. (omega arith, sym (area-none 0 (c .args .kind .now) (c .args .area .now))))  -- loop-holds
     (λ c. search needs)  -- element-copy-out-if1
     (λ c. search needs)  -- mul-sum
     (λ c. search needs)  -- element-copy-out-sum

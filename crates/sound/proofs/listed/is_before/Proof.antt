@@ -5,15 +5,6 @@ use borrow.Author.Tests.{eq-eqb, ne-eqb, lt-ltb, le-ltb}
 use Rattle.sound.proofs.listed.is_before.Statement.{statement}
 use Rattle.sound.proofs.listed.is_before.Tie as tie
 
-returns : tie.Need-returns
-returns c = rw (lt-ltb _ _ (c .if1 .taken)) refl
-
-returns-2 : tie.Need-returns-2
-returns-2 c = rw (le-ltb _ _ (c .before .before .before .if1 .left), eq-eqb _ _ (c .before .before .if2 .taken)) refl
-
-returns-3 : tie.Need-returns-3
-returns-3 c = rw (le-ltb _ _ (c .before .if1 .left), ne-eqb _ _ (c .if2 .left)) refl
-
 pub is-before-spec : {M : Type 1} → statement M
 is-before-spec =
     tie.close
@@ -22,10 +13,10 @@ is-before-spec =
     (λ c. search needs)  -- element-copy-out-a
     (λ c. search needs)  -- mul-b
     (λ c. search needs)  -- element-copy-out-b
-    returns
+    (λ c. rw (lt-ltb _ _ (c .if1 .taken)) refl)  -- returns
     (λ c. search needs)  -- mul-result
     (λ c. search needs)  -- element-copy-out-result
     (λ c. search needs)  -- mul-result-2
     (λ c. search needs)  -- element-copy-out-result-2
-    returns-2
-    returns-3)
+    (λ c. rw (le-ltb _ _ (c .before .before .before .if1 .left), eq-eqb _ _ (c .before .before .if2 .taken)) refl)  -- returns-2
+    (λ c. rw (le-ltb _ _ (c .before .if1 .left), ne-eqb _ _ (c .if2 .left)) refl))  -- returns-3

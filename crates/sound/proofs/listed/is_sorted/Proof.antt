@@ -18,9 +18,6 @@ Inv-loop area serial list count k₀ k = (k ≤ count) × (every (orderedAt area
 abbrev μ-loop : tie.MeasureT-loop
 μ-loop area serial list count k₀ k = count - k
 
-loop-holds : tie.Need-loop-holds Inv-loop μ-loop
-loop-holds c = (omega arith, every-none (orderedAt (c .args .area .now) (c .args .serial .now) (c .args .list .now) (c .args .count)))
-
 is-before-requires : tie.Need-is-before-requires Inv-loop μ-loop
 is-before-requires c κs =
     let k = c .before .before .before .loop .k in
@@ -60,7 +57,7 @@ is-sorted-spec =
     (tie.spec
     Inv-loop
     μ-loop
-    loop-holds
+    (λ c. (omega arith, every-none (orderedAt (c .args .area .now) (c .args .serial .now) (c .args .list .now) (c .args .count))))  -- loop-holds
     (λ c. search needs)  -- add-loop
     (λ c. search needs)  -- mul-is-before
     (λ c. search needs)  -- element-copy-out-is-before

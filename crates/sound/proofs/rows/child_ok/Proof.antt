@@ -2,67 +2,16 @@
 use mathlib.Core.Path.{ap, _∙_}
 use borrow.Author.Needs.{needs}
 use Rattle.sound.specs.Rows.{childB, sameCut}
-use Rattle.sound.proofs.Chain.{pass-by, pass-eq, pass-le, pass-ne, stop-by, stop-eq, stop-gt, stop-ne}
+use Rattle.sound.proofs.Chain.{pass-by, pass-eq, pass-le, pass-ne, tests}
 use Rattle.sound.proofs.rows.child_ok.Statement.{statement}
 use Rattle.sound.proofs.rows.child_ok.Tie as tie
-
-returns : tie.Need-returns
-unfolding childB
-returns c = stop-eq _ (c .if1 .taken)
-
-returns-2 : tie.Need-returns-2
-unfolding childB
-returns-2 c = pass-ne (c .before .before .if1 .left) (stop-ne _ (c .if2 .taken))
-
-returns-3 : tie.Need-returns-3
-unfolding childB
-returns-3 c =
-    let c2 = c .before .before in
-    let c1 = c2 .before .before in
-    pass-ne (c1 .if1 .left)
-    (pass-eq (c2 .if2 .left)
-    (stop-ne _ (c .if3 .taken)))
-
-returns-4 : tie.Need-returns-4
-unfolding childB
-returns-4 c =
-    let c3 = c .before .before .before in
-    let c2 = c3 .before .before in
-    let c1 = c2 .before .before in
-    pass-ne (c1 .if1 .left)
-    (pass-eq (c2 .if2 .left)
-    (pass-eq (c3 .if3 .left)
-    (stop-ne _ (c .if4 .taken))))
-
-returns-5 : tie.Need-returns-5
-unfolding childB
-returns-5 c =
-    let c4 = c .before .before .before in
-    let c3 = c4 .before .before .before in
-    let c2 = c3 .before .before in
-    let c1 = c2 .before .before in
-    pass-ne (c1 .if1 .left)
-    (pass-eq (c2 .if2 .left)
-    (pass-eq (c3 .if3 .left)
-    (pass-eq (c4 .if4 .left)
-    (stop-gt _ (c .if5 .taken)))))
 
 returns-6 : tie.Need-returns-6
 unfolding childB
 returns-6 c =
-    let c5 = c .before .before .before in
-    let c4 = c5 .before .before .before in
-    let c3 = c4 .before .before .before in
-    let c2 = c3 .before .before in
-    let c1 = c2 .before .before in
-    let a = c1 .before .before .before .before .args in
+    let a = c .before .before .before .before .before .before .before .before .before .before .before .before .before .before .before .before .before .args in
     let cuts = c .before .same-cut .ensures ∙ ap (sameCut (a .n .datum .cut)) (c .before .before .rotate .ensures) in
-    pass-ne (c1 .if1 .left)
-    (pass-eq (c2 .if2 .left)
-    (pass-eq (c3 .if3 .left)
-    (pass-eq (c4 .if4 .left)
-    (pass-le (c5 .if5 .left)
-    (stop-by _ cuts (c .if6 .left))))))
+    search tests depth 9
 
 returns-7 : tie.Need-returns-7
 unfolding childB
@@ -84,17 +33,18 @@ returns-7 c =
     (cc))))))
 
 pub child-ok-spec : {M : Type 1} → statement M
+unfolding childB
 child-ok-spec =
     tie.close
     (tie.spec
-    returns
-    returns-2
-    returns-3
+    (λ c. search tests depth 9)  -- returns
+    (λ c. search tests depth 9)  -- returns-2
+    (λ c. search tests depth 9)  -- returns-3
     (λ c. search needs)  -- cast-level
     (λ c. search needs)  -- cast-above
     (λ c. search needs)  -- add-if4
-    returns-4
-    returns-5
+    (λ c. search tests depth 9)  -- returns-4
+    (λ c. search tests depth 9)  -- returns-5
     (λ c κs. search needs)  -- rotate-requires
     (λ c κs. search needs)  -- same-cut-requires
     returns-6

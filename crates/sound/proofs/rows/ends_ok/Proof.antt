@@ -1,28 +1,21 @@
 -- `ends_ok` meets its contract: each way out is one outcome of the tests of `endB`.
 use borrow.Author.Needs.{needs}
 use Rattle.sound.specs.Rows.{endB}
-use Rattle.sound.proofs.Chain.{pass-eq, stop-ne}
+use Rattle.sound.proofs.Chain.{pass-eq, tests}
 use Rattle.sound.proofs.rows.ends_ok.Statement.{statement}
 use Rattle.sound.proofs.rows.ends_ok.Tie as tie
-
-returns : tie.Need-returns
-unfolding endB
-returns c = stop-ne _ (c .if1 .taken)
-
-returns-2 : tie.Need-returns-2
-unfolding endB
-returns-2 c = pass-eq (c .before .before .if1 .left) (stop-ne _ (c .if2 .taken))
 
 returns-3 : tie.Need-returns-3
 unfolding endB
 returns-3 c = pass-eq (c .before .before .before .if1 .left) (pass-eq (c .before .if2 .left) (cc))
 
 pub ends-ok-spec : {M : Type 1} → statement M
+unfolding endB
 ends-ok-spec =
     tie.close
     (tie.spec
-    returns
-    returns-2
+    (λ c. search tests)  -- returns
+    (λ c. search tests)  -- returns-2
     (λ c κs. search needs)  -- room-of-requires
     (λ c. search needs)  -- cast-result
     returns-3)
