@@ -2,17 +2,17 @@
 use mathlib.Core.Path.{_≡_, refl, sym}
 use mathlib.Core.Bool.{Bool, true, false, cond}
 use mathlib.Core.Option.{Option, none, some}
-use Prim.Native.Nat.{ℕ, _+_, _-_, _≤_}
+use Prim.Native.Nat.{_+_, _-_, _≤_}
 use native.Mathlib.Omega.{arith}
 use lib.Dec.{leb}
 use borrow.Author.Tests.{leb-true}
-use Rattle.piece.specs.declared.size.Size.{Size}
 use Rattle.piece.specs.declared.rotation.Rotation.{Rotation}
 use Rattle.piece.specs.declared.parttype.PartType.{PartType}
 use Rattle.piece.specs.declared.node.Datum.{Datum}
 use Rattle.piece.specs.declared.node.Kind.{Kind}
 use Rattle.piece.specs.declared.node.Kind.the-variants.{Free, Part, Structure}
 use Rattle.piece.specs.declared.insertion_blueprint.InsertionShape.{InsertionShape}
+use Rattle.piece.specs.declared.settings.Settings.{Settings}
 use Rattle.piece.specs.Insertion.{newNodes}
 use Rattle.piece.specs.Row.{nil, grow}
 use Rattle.tree.specs.Tree.{Tree, count, isFree}
@@ -64,14 +64,14 @@ is-free Part h = absurd (clash h)
 is-free Structure h = absurd (clash h)
 
 -- there is a top
-some-piece : (stages : ℕ) (sheet : Size) (w : Tree) → Topped stages sheet w → 1 ≤ count w
-some-piece stages sheet nil h = absurd h
-some-piece stages sheet (grow p d k r) h = omega arith
+some-piece : (settings : Settings) (w : Tree) → Topped settings w → 1 ≤ count w
+some-piece settings nil h = absurd h
+some-piece settings (grow p d k r) h = omega arith
 
 -- what the tests of refusals 8 and 9 add to cannot overflow
 pub sound-counts : (l : Layout) → SoundLayout l → (1 ≤ l .held) × (l .held ≤ limit) × (l .serial ≤ maxSerial)
 sound-counts l s =
-    let least = some-piece (l .stages) (l .sheet) (tree l) (s .sound .topped) in
+    let least = some-piece (l .settings) (tree l) (s .sound .topped) in
     (omega (arith, s .held), omega (arith, s .held, s .sound .room), s .serials .spent)
 
 module _ (l : Layout) (m : Mark) (p : PartType) (r : Rotation) (s : InsertionShape) where
@@ -90,14 +90,14 @@ module _ (l : Layout) (m : Mark) (p : PartType) (r : Rotation) (s : InsertionSha
 
   -- what bookNo tests of a piece
   record Passes (d : Datum) : Type 0 where
-    offered : offeredB d p (l .stages) r s ≡ true
+    offered : offeredB d p (l .settings) r s ≡ true
     room : l .held - 1 + newNodes s ≤ limit
     spent : l .serial + newNodes s ≤ maxSerial
 
   book-passes : (d : Datum) → bookNo l d p r s ≡ none → Passes d
   unfolding bookNo
   book-passes d h =
-      let o = passed (offeredB d p (l .stages) r s) _ NotOffered h in
+      let o = passed (offeredB d p (l .settings) r s) _ NotOffered h in
       let n = passed (leb (l .held - 1 + newNodes s) limit) _ TooManyNodes (o .1) in
       let k = passed (leb (l .serial + newNodes s) maxSerial) none SerialsSpent (n .1) in
       record {

@@ -8,7 +8,7 @@ use Rattle.layout.specs.declared.layout.Layout.{Layout}
 use Rattle.layout.specs.Check.{tree}
 use Rattle.layout.specs.SoundLayout.{SoundLayout}
 
-pub used-small : (l : Layout) → SoundLayout l → (l .used < 2 ^ 52) × (area (l .sheet) < 2 ^ 52)
+pub used-small : (l : Layout) → SoundLayout l → (l .used < 2 ^ 52) × (area (l .settings .sheet) < 2 ^ 52)
 used-small l s =
     let sheet = sheet-small (s .sound .domain) in
     (omega (arith, s .used, area-conserved (tree l) (s .sound)), sheet)

@@ -92,25 +92,25 @@ module _ (l : Layout) (x : ℕ) (p : PartType) (r : Rotation) (s : InsertionShap
   pub some-held : 1 ≤ l .held
   some-held = sound-counts l (can .sound) .0
 
-  offers : Offers d p (l .stages) r s
-  offers = offered-says d p (l .stages) r s (can .offered)
+  offers : Offers d p (l .settings) r s
+  offers = offered-says d p (l .settings) r s (can .offered)
 
   -- the shape stays within the levels that the code can write
   shallow : d .level + deepest s ≤ 255
   shallow =
-      let low = level-low (l .stages) (l .sheet) w (can .sound .sound .topped) x d (can .there) in
-      let deep = offered-deep _ _ (d .level) (l .stages) s low (offers .shaped) in
+      let low = level-low (l .settings) w (can .sound .sound .topped) x d (can .there) in
+      let deep = offered-deep _ _ (d .level) (l .settings .stages) s low (offers .shaped) in
       omega (arith, deepest-deep s, can .sound .sound .domain .most)
 
   room : count w + newNodes s ≤ limit + 1
   room = omega (arith, can .sound .held, can .room, some-held)
 
-  stands : Stands (l .stages) (l .sheet) (l .serial) w (nodesOf l)
+  stands : Stands (l .settings) (l .serial) w (nodesOf l)
   stands = layout-stands l (can .sized) (can .sound)
 
   -- the number is in the domain, as the type says
   module _ (numbered : p .number ≤ maxNumber) where
-    fitting : Fitting (l .stages) d b
+    fitting : Fitting (l .settings) d b
     fitting =
         record { inside = offers .inside; offered = offers .shaped; sided = part-sided p r (can .part); numbered = numbered }
 
@@ -119,12 +119,12 @@ module _ (l : Layout) (x : ℕ) (p : PartType) (r : Rotation) (s : InsertionShap
 
     may-be-booked : Bookable (nodesOf l) x s size (p .number) (l .serial)
     may-be-booked =
-        book-bookable (l .stages) (l .sheet) (l .serial) w (nodesOf l) stands x d (can .there) (can .free) s size (p .number) fitting shallow
+        book-bookable (l .settings) (l .serial) w (nodesOf l) stands x d (can .there) (can .free) s size (p .number) fitting shallow
         room (can .spent)
 
-    stand-again : Stands (l .stages) (l .sheet) (l .serial + newNodes s) (book x b w) (after .nodes)
+    stand-again : Stands (l .settings) (l .serial + newNodes s) (book x b w) (after .nodes)
     stand-again =
-        book-stands (l .stages) (l .sheet) (l .serial) w (nodesOf l) stands x d (can .there) (can .free) s size (p .number) fitting shallow
+        book-stands (l .settings) (l .serial) w (nodesOf l) stands x d (can .there) (can .free) s size (p .number) fitting shallow
         room (can .spent)
 
     lists-fit : (after .nodes .free .count ≤ limit) × (after .nodes .removable .count ≤ limit)
@@ -136,13 +136,13 @@ module _ (l : Layout) (x : ℕ) (p : PartType) (r : Rotation) (s : InsertionShap
           arith,
           can .sound .held,
           some-held,
-          book-count limit (l .stages) (l .sheet) w (can .sound .sound) x d (can .there) (can .free) b,
+          book-count limit (l .settings) w (can .sound .sound) x d (can .there) (can .free) b,
         )
 
     used-is : l .used + area size ≡ partArea (book x b w)
     used-is =
         ap (λ (n : ℕ). n + area size) (can .sound .used)
-        ∙ sym (book-part-area limit (l .stages) (l .sheet) w (can .sound .sound) x d (can .there) (can .free) b fitting)
+        ∙ sym (book-part-area limit (l .settings) w (can .sound .sound) x d (can .there) (can .free) b fitting)
 
     -- "areas stay below 2^52"
     used-fits : l .used + area size < 2 ^ 52
@@ -157,7 +157,7 @@ module _ (l : Layout) (x : ℕ) (p : PartType) (r : Rotation) (s : InsertionShap
 
     new-is : after .new ≡ heldNew new
     new-is =
-        book-new (l .stages) (l .sheet) (l .serial) w (nodesOf l) stands x d (can .there) (can .free) s size (p .number) fitting shallow room
+        book-new (l .settings) (l .serial) w (nodesOf l) stands x d (can .there) (can .free) s size (p .number) fitting shallow room
         (can .spent)
 
     those-are : those (after .new) ≡ new
@@ -176,7 +176,7 @@ module _ (l : Layout) (x : ℕ) (p : PartType) (r : Rotation) (s : InsertionShap
     next-is : Next l (book x b w) (bookedList limit x d b w (removables l)) (l .serial + newNodes s) next
     next-is =
         rw
-        (book-list (l .stages) (l .sheet) (l .serial) w (nodesOf l) stands x d (can .there) (can .free) s size (p .number) fitting shallow room
+        (book-list (l .settings) (l .serial) w (nodesOf l) stands x d (can .there) (can .free) s size (p .number) fitting shallow room
         (can .spent)) at
         (stands-next l (l .serial + newNodes s) (book x b w) (after .nodes) stand-again (l .held - 1 + newNodes s) (l .used + area size)
         held-is used-is)

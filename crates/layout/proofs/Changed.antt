@@ -42,7 +42,7 @@ counted-list l k =
 
 -- ---- the layout
 
-pub layout-stands : (l : Layout) → Sized l → SoundLayout l → Stands (l .stages) (l .sheet) (l .serial) (tree l) (nodesOf l)
+pub layout-stands : (l : Layout) → Sized l → SoundLayout l → Stands (l .settings) (l .serial) (tree l) (nodesOf l)
 layout-stands l s h =
     record {
       sound = h .sound;
@@ -54,13 +54,13 @@ layout-stands l s h =
       serials = h .serials;
     }
 
-module _ (l : Layout) (last : ℕ) (w : Tree) (n : LayoutNodes) (stands : Stands (l .stages) (l .sheet) last w n) (held used : ℕ)
+module _ (l : Layout) (last : ℕ) (w : Tree) (n : LayoutNodes) (stands : Stands (l .settings) last w n) (held used : ℕ)
     (counts : held ≡ count w) (covers : used ≡ partArea w) where
   abbrev next : Layout
   next = withNodes l n held used last
 
   same-tree : tree next ≡ w
-  same-tree = sound-tree limit (l .stages) (l .sheet) (n .nodes) w (stands .sound) (stands .holds)
+  same-tree = sound-tree limit (l .settings) (n .nodes) w (stands .sound) (stands .holds)
 
   sound : SoundLayout next
   sound =
@@ -90,12 +90,11 @@ module _ (l : Layout) (last : ℕ) (w : Tree) (n : LayoutNodes) (stands : Stands
         removable = refl;
         serial = refl;
         number = refl;
-        stages = refl;
-        sheet = refl;
+        settings = refl;
       }
 
 -- there is only one
 pub next-is-one : (l : Layout) (w : Tree) (list : List ℕ) (last : ℕ) (m n : Layout) → Next l w list last m → Next l w list last n → m ≡ n
 next-is-one l w list last m n a b =
     determined-layout m n (a .sized) (b .sized) (a .sound) (b .sound) (a .tree ∙ sym (b .tree)) (a .removable ∙ sym (b .removable))
-    (a .number ∙ sym (b .number)) (a .stages ∙ sym (b .stages)) (a .sheet ∙ sym (b .sheet)) (a .serial ∙ sym (b .serial))
+    (a .number ∙ sym (b .number)) (a .settings ∙ sym (b .settings)) (a .serial ∙ sym (b .serial))

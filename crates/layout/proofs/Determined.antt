@@ -5,8 +5,7 @@ use mathlib.Core.Bool.{Bool}
 use mathlib.Core.List.{List}
 use mathlib.Core.Option.{Option, none, some}
 use Prim.Native.Nat.{ℕ}
-use Rattle.piece.specs.declared.size.Size.{Size}
-use Rattle.piece.specs.declared.orientation.Orientation.{Orientation}
+use Rattle.piece.specs.declared.settings.Opening.{Opening}
 use Rattle.piece.specs.declared.rotation.Rotation.{Rotation}
 use Rattle.piece.specs.declared.parttype.PartType.{PartType}
 use Rattle.piece.specs.declared.insertion_blueprint.InsertionShape.{InsertionShape}
@@ -39,9 +38,9 @@ module _ (l : Layout) where
   pub free-piece-is-one : (m : Mark) (p : PartType) (r s : Sought) → r ≡ freePieceOf l m p → s ≡ freePieceOf l m p → r ≡ s
   free-piece-is-one m p = only
 
-pub open-is-one : (number : ℕ) (size : Size) (cut : Orientation) (stages : ℕ) (r s : Opened)
-    → r ≡ openOf number size cut stages → s ≡ openOf number size cut stages → r ≡ s
-open-is-one number size cut stages = only
+pub open-is-one : (o : Opening) (r s : Opened)
+    → r ≡ openOf o → s ≡ openOf o → r ≡ s
+open-is-one o = only
 
 pub restore-is-one : (l m : Layout) (r s : Restored) → r ≡ restoreOf l m → s ≡ restoreOf l m → r ≡ s
 restore-is-one l m = only

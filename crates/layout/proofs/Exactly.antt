@@ -32,12 +32,12 @@ regroup-says false b c s = s
 -- the table holds a sound tree, and no serial is 0
 pub record Stands (l : Layout) : Type 0 where
   pub holds : Holds limit (l .nodes) (tree l)
-  pub sound : Sound limit (l .stages) (l .sheet) (tree l)
+  pub sound : Sound limit (l .settings) (tree l)
   pub marked : Marked (tree l)
 
 module _ (l : Layout) (sized : Sized l) where
   -- the tests of the table and of what hangs in it
-  pub stands-says : Domain (l .stages) (l .sheet)
+  pub stands-says : Domain (l .settings)
       → Says (tableB l && hungB limit (serialsOf (l .nodes)) (firstsOf (l .nodes)) (nextsOf (l .nodes))) (Stands l)
   unfolding tableB
   stands-says dom =
@@ -47,18 +47,18 @@ module _ (l : Layout) (sized : Sized l) where
       (λ g. stands (record { places = g .0 .0; top = g .0 .1 .0; rows = g .0 .1 .1; hung = g .1 }))
       (λ s. let p = passes s in ((p .places, (p .top, p .rows)), p .hung))
     where
-      stands : Passes limit (l .stages) (l .sheet) (l .nodes) → Stands l
+      stands : Passes limit (l .settings) (l .nodes) → Stands l
       stands p =
           let some : 0 < limit = omega arith in
-          let less : l .stages < limit = omega arith in
+          let less : l .settings .stages < limit = omega arith in
           record {
-            holds = passes-holds limit (l .stages) (l .sheet) (l .nodes) (sized .nodes) some less p;
-            sound = passes-sound limit (l .stages) (l .sheet) (l .nodes) (sized .nodes) some less p dom;
-            marked = passes-serials limit (l .stages) (l .sheet) (l .nodes) (sized .nodes) some less p;
+            holds = passes-holds limit (l .settings) (l .nodes) (sized .nodes) some less p;
+            sound = passes-sound limit (l .settings) (l .nodes) (sized .nodes) some less p dom;
+            marked = passes-serials limit (l .settings) (l .nodes) (sized .nodes) some less p;
           }
 
-      passes : Stands l → Passes limit (l .stages) (l .sheet) (l .nodes)
-      passes s = sound-passes limit (l .stages) (l .sheet) (l .nodes) (tree l) (s .holds) (s .sound .topped) (s .marked)
+      passes : Stands l → Passes limit (l .settings) (l .nodes)
+      passes s = sound-passes limit (l .settings) (l .nodes) (tree l) (s .holds) (s .sound .topped) (s .marked)
 
   -- "the free list holds every free piece once, greatest area first, equal areas by rising serial"; "list tails .. are zero"
   pub free-test-says : Stands l
@@ -107,10 +107,10 @@ module _ (l : Layout) (sized : Sized l) where
       })
       (λ r. ((r .held, r .used), (r .serials, ((r .free, r .freeTail), (r .removable, r .removableTail)))))
 
-  tests-say : Says (soundB l) (Domain (l .stages) (l .sheet) × (Stands l × SoundLayout l))
+  tests-say : Says (soundB l) (Domain (l .settings) × (Stands l × SoundLayout l))
   unfolding soundB columnsB
   tests-say =
-      then-says (domain-says (l .stages) (l .sheet))
+      then-says (domain-says (l .settings))
       (λ dom. regroup-says (tableB l) (hungB limit (serialsOf (l .nodes)) (firstsOf (l .nodes)) (nextsOf (l .nodes))) _
       (then-says (stands-says dom) rest-says))
 

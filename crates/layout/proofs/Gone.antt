@@ -121,7 +121,7 @@ module _ (l : Layout) (m : Mark) (room : ℕ) (a : Removed) (says : RemoveSays l
       solid-stays i e y solid other outside =
           let t = removal-takeable in
           rw (removed-done .next .tree)
-          (solid-untouched-by-removal limit (l .stages) (l .sheet) (tree l) (m .place) (placeFor l (m .place)) (l .serial + 1) i e
+          (solid-untouched-by-removal limit (l .settings) (tree l) (m .place) (placeFor l (m .place)) (l .serial + 1) i e
           (t .sound .sound) (t .removable) y solid other outside)
 
       -- two nodes at least give no part number

@@ -76,5 +76,5 @@ module _ (l : Layout) (m : Mark) (p : PartType) (r : Rotation) (s : InsertionSha
       let g = insert-accepted h in
       let can = insertable l m p r s sized (g .0) in
       rw (g .1 .next .tree)
-      (untouched-by-booking limit (l .stages) (l .sheet) (tree l) (m .place) (pieceAt l (m .place)) (bookingFor l (m .place) p r s) i e
+      (untouched-by-booking limit (l .settings) (tree l) (m .place) (pieceAt l (m .place)) (bookingFor l (m .place) p r s) i e
       (can .sound .sound) (can .there) (can .free) there other)

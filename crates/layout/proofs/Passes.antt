@@ -111,12 +111,12 @@ restB l serial area =
 pub sound-is : (l : Layout) {named kept : Flags} {hung serial area : List ℕ} {linked counted framed : Bool}
     → named ≡ flagged (l .free) (l .frees)
     → kept ≡ flagged (l .removable) (l .removables)
-    → linked ≡ rowsB limit (l .stages) (l .nodes)
+    → linked ≡ rowsB limit (l .settings) (l .nodes)
     → (linked ≡ true → hung ≡ hangRows limit (l .nodes) limit (zeros limit))
     → counted ≡ censusB limit (l .nodes) (l .serial) (l .used) (l .held) (named .flag) (kept .flag) hung
     → serial ≡ serialsOf (l .nodes)
     → area ≡ areasOf (l .nodes)
-    → framed ≡ (domainB (l .stages) (l .sheet) && (topB limit (l .sheet) (at (l .nodes) 0) && leb (l .serial) maxSerial))
+    → framed ≡ (domainB (l .settings) && (topB limit (l .settings) (at (l .nodes) 0) && leb (l .serial) maxSerial))
     → soundB l ≡ (((((named .ok && kept .ok) && linked) && counted) && framed) && restB l serial area)
 unfolding soundB tableB coveredB serialsB sumsB freeB removableB columnsB censusB
 sound-is l {hung = hung} named kept rows hanging places serials areas frame =
@@ -126,12 +126,12 @@ sound-is l {hung = hung} named kept rows hanging places serials areas frame =
     let f = flagged (l .free) (l .frees) in
     let g = flagged (l .removable) (l .removables) in
     rw (frame, places, rows, named, kept, areas, serials)
-    (regroup (domainB (l .stages) (l .sheet)) (placesB limit t) (topB limit (l .sheet) (at t 0)) _
+    (regroup (domainB (l .settings)) (placesB limit t) (topB limit (l .settings) (at t 0)) _
     (hungB limit s (firstsOf t) (nextsOf t)) (eqb (heldIn s limit) (l .held)) (eqb (areaIn 1 k (areasOf t) limit) (l .used))
     (leb (l .serial) maxSerial) (noneAboveB limit s (l .serial)) (differ limit s) (f .ok) (coversB limit true s k (f .flag))
     (zeroTail limit (l .free) (l .frees)) (sortedB (areasOf t) s (l .free) (l .frees)) (g .ok) (coversB limit false s k (g .flag))
     (zeroTail limit (l .removable) (l .removables)) (markedB limit s hung)
-    (λ x y z. ap (markedB limit s) (hanging (rows ∙ z)) ∙ hung-by-rows limit (l .sheet) t x y))
+    (λ x y z. ap (markedB limit s) (hanging (rows ∙ z)) ∙ hung-by-rows limit (l .settings) t x y))
 
 -- the passes' answers that the tests behind them rest on: the first, and the last two
 pub some-of : (a b c d e : Bool) → ((((a && b) && c) && d) && e) ≡ true → (a ≡ true) × (d ≡ true) × (e ≡ true)
@@ -143,7 +143,7 @@ some-of a b c d e x =
 pub serials-low : (l : Layout) (free removable hung : List ℕ) {serial : List ℕ} {counted framed : Bool}
     → counted ≡ censusB limit (l .nodes) (l .serial) (l .used) (l .held) free removable hung
     → serial ≡ serialsOf (l .nodes)
-    → framed ≡ (domainB (l .stages) (l .sheet) && (topB limit (l .sheet) (at (l .nodes) 0) && leb (l .serial) maxSerial))
+    → framed ≡ (domainB (l .settings) && (topB limit (l .settings) (at (l .nodes) 0) && leb (l .serial) maxSerial))
     → counted ≡ true
     → framed ≡ true
     → Low serial
@@ -153,8 +153,8 @@ serials-low l free removable hung counted serials framed c f i h =
     let s = serialsOf t in
     let k = kindsOf t in
     let most = leb-true (l .serial) maxSerial
-    (and-right (topB limit (l .sheet) (at t 0)) (leb (l .serial) maxSerial)
-    (and-right (domainB (l .stages) (l .sheet)) (topB limit (l .sheet) (at t 0) && leb (l .serial) maxSerial) (sym framed ∙ f))) in
+    (and-right (topB limit (l .settings) (at t 0)) (leb (l .serial) maxSerial)
+    (and-right (domainB (l .settings)) (topB limit (l .settings) (at t 0) && leb (l .serial) maxSerial) (sym framed ∙ f))) in
     let flags = markedB limit s hung && (coversB limit true s k free && coversB limit false s k removable) in
     let sums = eqb (heldIn s limit) (l .held) && eqb (areaIn 1 k (areasOf t) limit) (l .used) in
     let above =

@@ -6,7 +6,7 @@ use mathlib.Core.Logic.{⊎-elim}
 use Prim.Native.Nat.{ℕ, _≤_}
 use native.Mathlib.Omega.{arith}
 use lib.ListN.{getD}
-use Rattle.piece.specs.declared.size.Size.{Size}
+use Rattle.piece.specs.declared.settings.Settings.{Settings}
 use Rattle.piece.specs.declared.node.Datum.{Datum}
 use Rattle.tree.specs.Tree.{Tree, At, count}
 use Rattle.tree.specs.Sound.{maxSide, maxStages, Domain}
@@ -31,10 +31,11 @@ side-says : (s : ℕ) → Says (sideB s) ((1 ≤ s) × (s ≤ maxSide))
 side-says s = and-says (le-says 1 s) (le-says s maxSide)
 
 -- "sheet sides, stages and numbers are in the domain"
-pub domain-says : (stages : ℕ) (sheet : Size) → Says (domainB stages sheet) (Domain stages sheet)
-domain-says stages sheet =
+pub domain-says : (settings : Settings) → Says (domainB settings) (Domain settings)
+domain-says settings =
     worded
-    (and-says (side-says (sheet .width)) (and-says (side-says (sheet .height)) (and-says (le-says 1 stages) (le-says stages maxStages))))
+    (and-says (side-says (settings .sheet .width)) (and-says (side-says (settings .sheet .height))
+    (and-says (le-says 1 (settings .stages)) (le-says (settings .stages) maxStages))))
     (λ g.
     record {
       wide = g .0 .0;

@@ -60,7 +60,7 @@ held-some i nil h = absurd h
 held-some i (grow p d k r) h = omega arith
 
 module _ (l : Layout) (x : ℕ) (t : Takeable l x) where
-  standing : Stands (l .stages) (l .sheet) (l .serial) (tree l) (nodesOf l)
+  standing : Stands (l .settings) (l .serial) (tree l) (nodesOf l)
   standing = layout-stands l (t .sized) (t .sound)
 
   held-there : In x (tree l)
@@ -75,9 +75,9 @@ module _ (l : Layout) (x : ℕ) (t : Takeable l x) where
       × (length (goingOf (l .nodes) x (l .held)) ≤ limit)
   goable = (
     t .sound .sound .placed x held-there,
-    parent-low limit (l .stages) (l .sheet) (l .nodes) (tree l) (t .sound .sound) (t .sound .holds) x (t .removable),
-    last-low limit (l .stages) (l .sheet) (l .nodes) (tree l) (t .sound .sound) (t .sound .holds) x (t .removable),
-    rw goes-is (going-most limit (l .stages) (l .sheet) (l .nodes) (tree l) (t .sound .sound) (t .sound .holds) x (t .removable)),
+    parent-low limit (l .settings) (l .nodes) (tree l) (t .sound .sound) (t .sound .holds) x (t .removable),
+    last-low limit (l .settings) (l .nodes) (tree l) (t .sound .sound) (t .sound .holds) x (t .removable),
+    rw goes-is (going-most limit (l .settings) (l .nodes) (tree l) (t .sound .sound) (t .sound .holds) x (t .removable)),
   )
 
   -- along what goes stand the numbers that come out
@@ -85,11 +85,11 @@ module _ (l : Layout) (x : ℕ) (t : Takeable l x) where
   unfolding numbersOut
   numbers-going e =
       ap (numbersAlong (l .nodes)) (e ∙ goes-is)
-      ∙ removed-numbers limit (l .stages) (l .sheet) (l .nodes) (tree l) (t .sound .sound) (t .sound .holds) x (t .removable)
+      ∙ removed-numbers limit (l .settings) (l .nodes) (tree l) (t .sound .sound) (t .sound .holds) x (t .removable)
 
   pub numbers-few : length (numbersOut l x) ≤ limit
   unfolding numbersOut
-  numbers-few = removed-few limit (l .stages) (l .sheet) (l .nodes) (tree l) (t .sound .sound) (t .sound .holds) x (t .removable)
+  numbers-few = removed-few limit (l .settings) (l .nodes) (tree l) (t .sound .sound) (t .sound .holds) x (t .removable)
 
   -- the top does not go, and a structure has no number: all nodes but two are the most that come out
   pub numbers-fewer : length (numbersOut l x) + 2 ≤ limit
@@ -98,17 +98,17 @@ module _ (l : Layout) (x : ℕ) (t : Takeable l x) where
       let s = t .sound in
       let z = t .removable in
       let w = tree l in
-      let o = row-of limit (l .stages) (l .sheet) (l .nodes) w (s .sound) (s .holds) x z in
+      let o = row-of limit (l .settings) (l .nodes) w (s .sound) (s .holds) x z in
       let own = grow x (z .piece) (o .below) nil in
       let is = subtree-is (o .parent) x (o .before) (z .piece) (o .below) (o .behind) w (s .sound .distinct) (o .kids) in
-      let ends : PartsEnd own = rw is at (each-subtree _ x w (sound-ends limit (l .stages) (l .sheet) w (s .sound))) in
-      let left = held-some _ (cleared x w) (parent-cleared limit (l .stages) (l .sheet) w (s .sound) x held-there (z .below)) in
+      let ends : PartsEnd own = rw is at (each-subtree _ x w (sound-ends limit (l .settings) w (s .sound))) in
+      let left = held-some _ (cleared x w) (parent-cleared limit (l .settings) w (s .sound) x held-there (z .below)) in
       let most : count (o .below) ≤ limit - 2 =
       omega (
         arith,
         s .sound .room,
         left,
-        left-count limit (l .stages) (l .sheet) (l .nodes) w (s .sound) (s .holds) x z,
+        left-count limit (l .settings) (l .nodes) w (s .sound) (s .holds) x z,
         length-append (leaving (subtree x w)) (freeLastPlace (l .nodes) (at (l .nodes) x .parent)),
         ap length (leaving-is (subtree x w)),
         length-order (subtree x w),
@@ -128,7 +128,7 @@ module _ (l : Layout) (x : ℕ) (t : Takeable l x) where
     pub clearable : Clearable (nodesOf l) (places g) x (l .serial)
     clearable =
         rw places-are
-        (remove-clearable (l .stages) (l .sheet) (l .serial) (tree l) (nodesOf l) standing x (t .removable) (t .spent))
+        (remove-clearable (l .settings) (l .serial) (tree l) (nodesOf l) standing x (t .removable) (t .spent))
 
     -- no more goes than there is
     pub count-most : g .count ≤ l .held
@@ -137,7 +137,7 @@ module _ (l : Layout) (x : ℕ) (t : Takeable l x) where
           arith,
           count-is,
           t .sound .held,
-          left-count limit (l .stages) (l .sheet) (l .nodes) (tree l) (t .sound .sound) (t .sound .holds) x (t .removable),
+          left-count limit (l .settings) (l .nodes) (tree l) (t .sound .sound) (t .sound .holds) x (t .removable),
         )
 
     pub area-most : areaAlong (l .nodes) (places g) ≤ l .used
@@ -146,7 +146,7 @@ module _ (l : Layout) (x : ℕ) (t : Takeable l x) where
         (omega (
           arith,
           t .sound .used,
-          removed-area limit (l .stages) (l .sheet) (l .nodes) (tree l) (t .sound .sound) (t .sound .holds) x (t .removable) 0 0,
+          removed-area limit (l .settings) (l .nodes) (tree l) (t .sound .sound) (t .sound .holds) x (t .removable) 0 0,
         ))
 
     -- what `area_along` asks: the sum fits
@@ -158,9 +158,9 @@ module _ (l : Layout) (x : ℕ) (t : Takeable l x) where
       gives : c ≡ removed (nodesOf l) (going (l .nodes) x (tree l)) x (l .serial)
       gives = cleared-so ∙ ap (λ (ps : List ℕ). removed (nodesOf l) ps x (l .serial)) places-are
 
-      stands-again : Stands (l .stages) (l .sheet) (l .serial + 1) (remove x (placeFor l x) (l .serial + 1) (tree l)) (c .nodes)
+      stands-again : Stands (l .settings) (l .serial + 1) (remove x (placeFor l x) (l .serial + 1) (tree l)) (c .nodes)
       stands-again =
-          rw gives (remove-stands (l .stages) (l .sheet) (l .serial) (tree l) (nodesOf l) standing x (t .removable) (t .spent))
+          rw gives (remove-stands (l .settings) (l .serial) (tree l) (nodesOf l) standing x (t .removable) (t .spent))
 
       pub lists-room : (c .nodes .free .count ≤ limit) × (c .nodes .removable .count ≤ limit)
       lists-room = (stands-again .freeKept .room, stands-again .removableKept .room)
@@ -168,12 +168,12 @@ module _ (l : Layout) (x : ℕ) (t : Takeable l x) where
       pub place-is : c .place ≡ placeFor l x
       place-is =
           ap (λ (d : Cleared). d .place) gives
-          ∙ remove-place (l .stages) (l .sheet) (l .serial) (tree l) (nodesOf l) standing x (t .removable) (t .spent)
+          ∙ remove-place (l .settings) (l .serial) (tree l) (nodesOf l) standing x (t .removable) (t .spent)
 
       list-is : entriesOf (c .nodes .removable) ≡ removedList limit x (tree l) (removables l)
       list-is =
           ap (λ (d : Cleared). entriesOf (d .nodes .removable)) gives
-          ∙ remove-list (l .stages) (l .sheet) (l .serial) (tree l) (nodesOf l) standing x (t .removable) (t .spent)
+          ∙ remove-list (l .settings) (l .serial) (tree l) (nodesOf l) standing x (t .removable) (t .spent)
 
       -- the next layout: one piece has come for those that go, and their parts' areas are no longer used
       pub next-out : {held used : ℕ} → held ≡ (l .held + 1) - g .count → used ≡ l .used - areaAlong (l .nodes) (places g)
@@ -183,8 +183,8 @@ module _ (l : Layout) (x : ℕ) (t : Takeable l x) where
           let s = t .sound in
           let z = t .removable in
           let p = placeFor l x in
-          let n = removed-count limit (l .stages) (l .sheet) (l .nodes) (tree l) (s .sound) (s .holds) x z p (l .serial + 1) in
-          let a = removed-area limit (l .stages) (l .sheet) (l .nodes) (tree l) (s .sound) (s .holds) x z p (l .serial + 1) in
+          let n = removed-count limit (l .settings) (l .nodes) (tree l) (s .sound) (s .holds) x z p (l .serial + 1) in
+          let a = removed-area limit (l .settings) (l .nodes) (tree l) (s .sound) (s .holds) x z p (l .serial + 1) in
           rw (← list-is)
           (stands-next l (l .serial + 1) (remove x p (l .serial + 1) (tree l)) (c .nodes) stands-again _ _
           (omega (arith, h, n, count-is, s .held)) (omega (arith, u, a, ap (areaAlong (l .nodes)) places-are, s .used)))

@@ -1,4 +1,4 @@
--- A sound layout is determined by its tree, its removable list, its number, its stages, its sheet and its last serial.
+-- A sound layout is determined by its tree, its removable list, its number, its settings and its last serial.
 use mathlib.Core.Path.{_≡_, refl, sym, ap, _∙_}
 use mathlib.Core.List.{List, [], _∷_, _++_}
 use mathlib.Core.Logic.{_⊎_, inl, inr, ⊎-elim}
@@ -125,8 +125,8 @@ same-list a b n m la lb ca cb e = (count-same, sym (take-append-drop n a) ∙ (p
 
 pub unique-layout : (l m : Layout) → Sized l → Sized m → SoundLayout l → SoundLayout m → tree l ≡ tree m
     → take (l .frees) (l .free) ≡ take (m .frees) (m .free) → take (l .removables) (l .removable) ≡ take (m .removables) (m .removable)
-    → l .number ≡ m .number → l .stages ≡ m .stages → l .sheet ≡ m .sheet → l .serial ≡ m .serial → l ≡ m
-unique-layout l m sl sm a b same free removable number stages sheet serial =
+    → l .number ≡ m .number → l .settings ≡ m .settings → l .serial ≡ m .serial → l ≡ m
+unique-layout l m sl sm a b same free removable number settings serial =
     λ i.
     record {
       nodes = nodes i;
@@ -138,8 +138,7 @@ unique-layout l m sl sm a b same free removable number stages sheet serial =
       used = used i;
       serial = serial i;
       number = number i;
-      stages = stages i;
-      sheet = sheet i;
+      settings = settings i;
     }
   where
     nodes : l .nodes ≡ m .nodes
@@ -162,7 +161,7 @@ unique-layout l m sl sm a b same free removable number stages sheet serial =
 -- the free list need not be given
 pub determined-layout : (l m : Layout) → Sized l → Sized m → SoundLayout l → SoundLayout m → tree l ≡ tree m
     → take (l .removables) (l .removable) ≡ take (m .removables) (m .removable)
-    → l .number ≡ m .number → l .stages ≡ m .stages → l .sheet ≡ m .sheet → l .serial ≡ m .serial → l ≡ m
+    → l .number ≡ m .number → l .settings ≡ m .settings → l .serial ≡ m .serial → l ≡ m
 determined-layout l m sl sm a b same =
     unique-layout l m sl sm a b same
     (free-list-unique (tree m) (take (l .frees) (l .free)) (take (m .frees) (m .free)) (rw same at (a .free)) (b .free))

@@ -3,7 +3,7 @@ use mathlib.Core.List.{List}
 use mathlib.Core.Bool.{Bool, true, false, _&&_}
 use Prim.Native.Nat.{ℕ}
 use lib.Dec.{eqb, leb}
-use Rattle.piece.specs.declared.size.Size.{Size}
+use Rattle.piece.specs.declared.settings.Settings.{Settings}
 use Rattle.tree.specs.Tree.{Tree}
 use Rattle.tree.specs.Sound.{maxSide, maxStages}
 pub use Rattle.tree.specs.Pieces.{maxSerial}
@@ -28,11 +28,13 @@ tree l = treeOf limit (l .nodes)
 abbrev pub sideB : ℕ → Bool
 sideB s = leb 1 s && leb s maxSide
 
-abbrev pub domainB : ℕ → Size → Bool
-domainB stages sheet = sideB (sheet .width) && (sideB (sheet .height) && (leb 1 stages && leb stages maxStages))
+abbrev pub domainB : Settings → Bool
+domainB settings =
+    sideB (settings .sheet .width) && (sideB (settings .sheet .height)
+    && (leb 1 (settings .stages) && leb (settings .stages) maxStages))
 
 unfoldable pub tableB : Layout → Bool
-tableB l = placesB limit (l .nodes) && (topB limit (l .sheet) (at (l .nodes) 0) && rowsB limit (l .stages) (l .nodes))
+tableB l = placesB limit (l .nodes) && (topB limit (l .settings) (at (l .nodes) 0) && rowsB limit (l .settings) (l .nodes))
 
 unfoldable pub coveredB : Bool → List ℕ → ℕ → List ℕ → List ℕ → Bool
 coveredB free list n serial kind =
@@ -58,4 +60,4 @@ columnsB l c =
     && (sumsB l c && (serialsB (c .serial) (l .serial) && (freeB l c && removableB l c)))
 
 unfoldable pub soundB : Layout → Bool
-soundB l = domainB (l .stages) (l .sheet) && (tableB l && columnsB l (columnsOf (l .nodes)))
+soundB l = domainB (l .settings) && (tableB l && columnsB l (columnsOf (l .nodes)))

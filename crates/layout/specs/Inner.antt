@@ -27,7 +27,7 @@ pub record Insertable (l : Layout) (x : ℕ) (p : PartType) (r : Rotation) (s : 
   pub there : At x (pieceAt l x) (tree l)
   pub free : pieceAt l x .kind ≡ Free
   pub part : partB p ≡ true
-  pub offered : offeredB (pieceAt l x) p (l .stages) r s ≡ true
+  pub offered : offeredB (pieceAt l x) p (l .settings) r s ≡ true
   pub room : l .held - 1 + newNodes s ≤ limit
   pub spent : l .serial + newNodes s ≤ maxSerial
 

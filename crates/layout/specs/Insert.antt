@@ -34,7 +34,7 @@ use Rattle.layout.specs.Next.{Next, removables}
 -- refusals 7, 8 and 9, of the free piece d that the mark names
 unfoldable pub bookNo : Layout → Datum → PartType → Rotation → InsertionShape → Option Refusal
 bookNo l d p r s =
-    cond (offeredB d p (l .stages) r s)
+    cond (offeredB d p (l .settings) r s)
     -- "nodes held, less one, plus new ones, exceed 255"
     (cond (leb (l .held - 1 + newNodes s) limit)
     -- "last serial plus new nodes exceeds 1,000,000"

@@ -1,5 +1,5 @@
--- The layout after a call that changes it, in document 01's terms: it is sound, and its tree, its removable list and its last serial are these; number,
--- stages and sheet are as they were. (Its free list is the one that "Sound layout" gives the tree.) proofs/Changed.antt says that there is only one.
+-- The layout after a call that changes it, in document 01's terms: it is sound, and its tree, its removable list and its last serial are these; number
+-- and settings are as they were. (Its free list is the one that "Sound layout" gives the tree.) proofs/Changed.antt says that there is only one.
 use mathlib.Core.Path.{_≡_}
 use mathlib.Core.List.{List}
 use Prim.Native.Nat.{ℕ}
@@ -20,5 +20,4 @@ pub record Next (l : Layout) (w : Tree) (list : List ℕ) (last : ℕ) (n : Layo
   pub removable : removables n ≡ list
   pub serial : n .serial ≡ last
   pub number : n .number ≡ l .number
-  pub stages : n .stages ≡ l .stages
-  pub sheet : n .sheet ≡ l .sheet
+  pub settings : n .settings ≡ l .settings

@@ -23,6 +23,5 @@ withNodes l n held used last =
       used = used;
       serial = last;
       number = l .number;
-      stages = l .stages;
-      sheet = l .sheet;
+      settings = l .settings;
     }

@@ -28,8 +28,7 @@ withSerial l s =
       used = l .used;
       serial = s;
       number = l .number;
-      stages = l .stages;
-      sheet = l .sheet;
+      settings = l .settings;
     }
 
 abbrev pub refusedRestore : Layout → Refusal → Restored

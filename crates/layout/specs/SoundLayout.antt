@@ -18,7 +18,7 @@ pub record Counted (l : List ℕ) (n : ℕ) : Type 0 where
 
 pub record SoundLayout (l : Layout) : Type 0 where
   -- "2..255 nodes"; "sheet sides, stages and numbers are in the domain"; the top; levels, cuts, sides and sums; kinds
-  pub sound : Sound limit (l .stages) (l .sheet) (tree l)
+  pub sound : Sound limit (l .settings) (tree l)
   -- "all nodes hang under it, links agreeing"; "Unheld places .. are zero"
   pub holds : Holds limit (l .nodes) (tree l)
   pub held : l .held ≡ count (tree l)

@@ -15,7 +15,7 @@ use crate::layout::Layout;
 use lists::flags::flags_of;
 use lists::search::zero_tail;
 use lists::serials::all_differ;
-use piece::size::Size;
+use piece::settings::Settings;
 use sound::census::census_ok;
 use sound::listed::is_sorted;
 use sound::places::top_ok;
@@ -36,30 +36,30 @@ pub fn side_ok(side: u32) -> bool
 }
 
 // Sheet sides and stages are in the domain.
-pub fn domain_ok(stages: u8, sheet: Size) -> bool
-    ensures { λ r. ⌜ r ≡ domainB stages sheet ⌝ }
+pub fn domain_ok(settings: Settings) -> bool
+    ensures { λ r. ⌜ r ≡ domainB settings ⌝ }
 {
-    if side_ok(sheet.width) {} else {
+    if side_ok(settings.sheet.width) {} else {
         return false;
     }
-    if side_ok(sheet.height) {} else {
+    if side_ok(settings.sheet.height) {} else {
         return false;
     }
-    if 1 <= stages {
-        stages <= MAX_STAGES
+    if 1 <= settings.stages {
+        settings.stages <= MAX_STAGES
     } else {
         false
     }
 }
 
-// What stands beside the lists: sheet and stages, the top, and the last serial issued.
-fn frame_ok(stages: u8, sheet: Size, top: Node, last: u32) -> bool
-    ensures { λ r. ⌜ r ≡ (domainB stages sheet && (topB limit sheet top && leb last maxSerial)) ⌝ }
+// What stands beside the lists: the settings, the top, and the last serial issued.
+fn frame_ok(settings: Settings, top: Node, last: u32) -> bool
+    ensures { λ r. ⌜ r ≡ (domainB settings && (topB limit settings top && leb last maxSerial)) ⌝ }
 {
-    if domain_ok(stages, sheet) {} else {
+    if domain_ok(settings) {} else {
         return false;
     }
-    if top_ok(top, sheet) {
+    if top_ok(top, settings) {
         last <= MAX_SERIAL
     } else {
         false
@@ -100,7 +100,7 @@ impl Layout {
         let nodes = self.nodes;
         let free = self.free;
         let removable = self.removable;
-        let sheet = self.sheet;
+        let settings = self.settings;
         let top = nodes[0];
         let held = self.held as usize;
         let frees = self.frees as usize;
@@ -110,7 +110,7 @@ impl Layout {
         let in_free = named.flag;
         let in_removable = kept.flag;
         let mut hung = [0u8; LIMIT];
-        let linked = rows_ok(nodes, self.stages, &mut hung);
+        let linked = rows_ok(nodes, settings, &mut hung);
         let mut serial = [0u32; LIMIT];
         let mut area = [0u64; LIMIT];
         let counted = census_ok(
@@ -124,7 +124,7 @@ impl Layout {
             &mut serial,
             &mut area,
         );
-        let framed = frame_ok(self.stages, sheet, top, self.serial);
+        let framed = frame_ok(settings, top, self.serial);
         if named.ok & kept.ok & linked & counted & framed {
             rest_ok(&area, &serial, &free, frees, &removable, removables)
         } else {

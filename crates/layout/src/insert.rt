@@ -53,7 +53,7 @@ impl Layout {
         requires { ⌜ (1 ≤ self .held) × (self .held ≤ limit) × (self .serial ≤ maxSerial) ⌝ }
         ensures { λ r. ⌜ r ≡ outcomeOf (bookNo self piece part rotation shape) ⌝ }
     {
-        if is_offered(piece, part, self.stages, rotation, shape) {} else {
+        if is_offered(piece, part, self.settings, rotation, shape) {} else {
             return Outcome::Refused(Refusal::NotOffered);
         }
         let new = new_count(shape);

@@ -1,5 +1,5 @@
 // The record. Rust: Layout and LayoutNodes of core/entities/layout.rs.
-use piece::size::Size;
+use piece::settings::Settings;
 use table::LIMIT;
 use table::Node;
 
@@ -16,8 +16,7 @@ pub struct Layout {
     // The area of the parts, and the last serial issued.
     pub used: u64,
     pub serial: u32,
-    // The layout's number, its stages and its sheet.
+    // The layout's number, and what it was set to at its opening: its stages and its sheet.
     pub number: u16,
-    pub stages: u8,
-    pub sheet: Size,
+    pub settings: Settings,
 }

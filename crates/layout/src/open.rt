@@ -10,20 +10,22 @@ use answers::Refusal;
 use piece::node::Datum;
 use piece::node::Kind;
 use piece::orientation::Orientation;
+use piece::settings::Opening;
+use piece::settings::Settings;
 use piece::size::Size;
 use table::LIMIT;
 use table::NONE;
 use table::Node;
 
 // The mark of the free piece, or why there is none.
-pub enum Opening {
+pub enum OpenOutcome {
     Free(Mark),
     Refused(Refusal),
 }
 
 // With the layout of zeros where it is refused.
 pub struct Opened {
-    pub outcome: Opening,
+    pub outcome: OpenOutcome,
     pub layout: Layout,
 }
 
@@ -52,9 +54,11 @@ fn zero_node() -> Node
 }
 
 // The table with the top at place 0 and its only child, the free piece, at place 1.
-fn fresh_nodes(size: Size, cut: Orientation) -> [Node; LIMIT]
-    ensures { λ r. ⌜ r ≡ freshNodes size cut ⌝ }
+fn fresh_nodes(opening: Opening) -> [Node; LIMIT]
+    ensures { λ r. ⌜ r ≡ freshNodes opening ⌝ }
 {
+    let size = opening.settings.sheet;
+    let cut = opening.cut;
     let zero = zero_node();
     let other = cut.rotate();
     let mut nodes = [zero; LIMIT];
@@ -107,19 +111,22 @@ impl Layout {
             used: 0,
             serial: 0,
             number: 0,
-            stages: 0,
-            sheet: Size {
-                width: 0,
-                height: 0,
+            settings: Settings {
+                stages: 0,
+                sheet: Size {
+                    width: 0,
+                    height: 0,
+                },
             },
         }
     }
 
     // The layout as it opens. The free list holds place 1, and the removable list the top, which is at place 0.
-    fn fresh(number: u16, size: Size, cut: Orientation, stages: u8) -> Layout
-        ensures { λ r. ⌜ r ≡ freshLayout number size cut stages ⌝ }
+    fn fresh(opening: Opening) -> Layout
+        ensures { λ r. ⌜ r ≡ freshLayout opening ⌝ }
     {
-        let nodes = fresh_nodes(size, cut);
+        let settings = opening.settings;
+        let nodes = fresh_nodes(opening);
         let mut free = [0u16; LIMIT];
         free[0] = 1;
         Layout {
@@ -131,27 +138,26 @@ impl Layout {
             removables: 1,
             used: 0,
             serial: 2,
-            number,
-            stages,
-            sheet: size,
+            number: opening.number,
+            settings,
         }
     }
 
     // A layout with one free piece of the sheet's size, or refusal 2.
-    pub fn open(number: u16, size: Size, cut: Orientation, stages: u8) -> Opened
-        ensures { λ r. ⌜ r ≡ openOf number size cut stages ⌝ }
+    pub fn open(opening: Opening) -> Opened
+        ensures { λ r. ⌜ r ≡ openOf opening ⌝ }
     {
-        if domain_ok(stages, size) {} else {
+        if domain_ok(opening.settings) {} else {
             let layout = Layout::zero();
             return Opened {
-                outcome: Opening::Refused(Refusal::OpeningOutside),
+                outcome: OpenOutcome::Refused(Refusal::OpeningOutside),
                 layout,
             };
         }
-        let layout = Layout::fresh(number, size, cut, stages);
+        let layout = Layout::fresh(opening);
         Opened {
-            outcome: Opening::Free(Mark {
-                layout: number,
+            outcome: OpenOutcome::Free(Mark {
+                layout: opening.number,
                 place: 1,
                 serial: 2,
             }),

@@ -38,7 +38,7 @@ impl Layout {
         let free = frees.list;
         let removables = n.removable;
         let removable = removables.list;
-        let sheet = self.sheet;
+        let settings = self.settings;
         Layout {
             nodes,
             free,
@@ -49,8 +49,7 @@ impl Layout {
             used,
             serial: last,
             number: self.number,
-            stages: self.stages,
-            sheet,
+            settings,
         }
     }
 }

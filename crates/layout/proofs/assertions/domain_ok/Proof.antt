@@ -16,15 +16,16 @@ returns-2 c =
 
 returns-3 : tie.Need-returns-3
 returns-3 c =
-    let c2 = c .before in
+    let c3 = c .before in
+    let c2 = c3 .before .before in
     let c1 = c2 .before .before in
     pass-by (c1 .before .side-ok .ensures) (c1 .if1 .taken)
     (pass-by (c2 .before .side-ok2 .ensures) (c2 .if2 .taken)
-    (pass-le (c .if3 .taken) refl))
+    (pass-le (c3 .if3 .taken) refl))
 
 returns-4 : tie.Need-returns-4
 returns-4 c =
-    let c2 = c .before in
+    let c2 = c .before .before in
     let c1 = c2 .before .before in
     pass-by (c1 .before .side-ok .ensures) (c1 .if1 .taken)
     (pass-by (c2 .before .side-ok2 .ensures) (c2 .if2 .taken)

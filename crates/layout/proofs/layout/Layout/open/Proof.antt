@@ -11,14 +11,14 @@ returns : tie.Need-returns
 unfolding openOf
 returns c =
     let a = c .before .before .before .args in
-    let d : domainB (a .stages) (a .size) ≡ false = sym (c .before .before .domain-ok .ensures) ∙ c .before .if1 .left in
+    let d : domainB (a .opening .settings) ≡ false = sym (c .before .before .domain-ok .ensures) ∙ c .before .if1 .left in
     rw (d, c .zero .ensures) refl
 
 returns-2 : tie.Need-returns-2
 unfolding openOf
 returns-2 c =
     let a = c .before .before .before .args in
-    let d : domainB (a .stages) (a .size) ≡ true = sym (c .before .before .domain-ok .ensures) ∙ c .before .if1 .taken in
+    let d : domainB (a .opening .settings) ≡ true = sym (c .before .before .domain-ok .ensures) ∙ c .before .if1 .taken in
     rw (d, c .fresh .ensures) refl
 
 pub open-spec : {M : Type 1} → statement M
