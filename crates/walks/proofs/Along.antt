@@ -14,7 +14,8 @@ use Rattle.piece.specs.declared.node.Kind.{Kind}
 use Rattle.piece.specs.declared.node.Kind.the-variants.{Free, Part, Structure}
 use Rattle.piece.specs.declared.settings.Settings.{Settings}
 use Rattle.piece.specs.Row.{nil, grow}
-use Rattle.tree.specs.Tree.{Tree, In, isPart, count, after}
+use Rattle.piece.specs.Kinds.{isPart}
+use Rattle.tree.specs.Tree.{Tree, In, count, after}
 use Rattle.tree.specs.Sound.{Kinded, Children, Sound}
 use Rattle.tree.specs.Removal.{numbers, subtree, removed}
 use Rattle.tree.specs.Snapshot.{snapshot}

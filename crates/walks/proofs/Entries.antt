@@ -10,8 +10,9 @@ use native.Mathlib.Decide.{ℕ-discrete}
 use lib.ListN.{length, getD, take, drop, length-append, List·getD-append}
 use lib.Seq.{sets, length-sets, sets-eq, take-suc, take-all, take-append-seam, getD-at}
 use Rattle.walks.specs.Walk.{gathered}
-use Rattle.walks.specs.Along.{entries, below}
+use Rattle.walks.specs.Along.{below}
 use Rattle.walks.specs.Inner.{Placed}
+use Rattle.lists.specs.Lists.{entries}
 use Rattle.walks.proofs.Written.{sets-append}
 
 -- ---- entries

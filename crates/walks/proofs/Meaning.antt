@@ -15,22 +15,23 @@ use Rattle.piece.specs.declared.node.Kind.{Kind}
 use Rattle.piece.specs.declared.node.Kind.the-variants.{Free, Part, Structure}
 use Rattle.piece.specs.Sides.{area}
 use Rattle.piece.specs.Row.{Row, nil, grow}
+use Rattle.piece.specs.Numbers.{kindNo}
 use Rattle.tree.specs.Tree.{Tree, In, Distinct, count}
 use Rattle.tree.specs.Removal.{subtree}
-use Rattle.tree.specs.Snapshot.{kindNo, nodeBytes, snapshot}
+use Rattle.tree.specs.Snapshot.{nodeBytes, snapshot}
 use Rattle.tree.specs.Figures.{nought, whole, added, treeUsage}
 use Rattle.tree.specs.Figures as figures
 use Rattle.tree.proofs.Rows.{same?, after-nil}
 use Rattle.tree.proofs.Goes.{subtree-absent}
 use Rattle.table.specs.declared.Node.{Node}
 use Rattle.table.specs.Table.{zeroNode, at, head, Rep, Holds}
-use Rattle.table.specs.Columns.{kindOf}
+use Rattle.table.specs.Columns.{kindNoOf}
 use Rattle.walks.specs.Chain.{siblings}
 use Rattle.walks.specs.Walk.{gathered, nothing, walkOf}
 use Rattle.walks.specs.Order.{itself, childrenFirst}
 use Rattle.walks.specs.Usage.{weight, summed, usageOf}
 use Rattle.walks.specs.Inner.{Small}
-use Rattle.walks.specs.Columns.{firstsOf, nextsOf, kindsOf, areasOf, levelOf, cutOf, numberOf, widthOf, heightOf, columnsOf}
+use Rattle.walks.specs.Columns.{firstsOf, nextsOf, kindsOf, areasOf, levelOf, numberOf, widthOf, heightOf, columnsOf, cutNoOf}
 use Rattle.walks.specs.Columns.{bytesIn, orderIn, snapshotIn, usageIn}
 use Rattle.walks.proofs.Chain.{siblings-over, siblings-more}
 use Rattle.walks.proofs.WalkSteps.{walk-more}
@@ -73,8 +74,8 @@ unfolding nodeBytes
 bytes-column t p n e =
     rw (
       column levelOf t p n e,
-      column kindOf t p n e,
-      column cutOf t p n e,
+      column kindNoOf t p n e,
+      column cutNoOf t p n e,
       column numberOf t p n e,
       column widthOf t p n e,
       column heightOf t p n e,

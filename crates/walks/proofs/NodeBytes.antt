@@ -8,7 +8,7 @@ use native.Mathlib.Omega.{arith}
 use lib.ListN.{length, set}
 use lib.Seq.{sets}
 use Rattle.piece.specs.declared.node.Datum.{Datum}
-use Rattle.tree.specs.Tree.{isPart}
+use Rattle.piece.specs.Kinds.{isPart}
 use Rattle.tree.specs.Snapshot.{two, four, nodeBytes}
 use Rattle.walks.specs.Snapshot.{bytesOf}
 use Rattle.walks.specs.Along.{partNumber}

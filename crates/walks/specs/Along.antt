@@ -1,7 +1,6 @@
 -- What is written of the nodes along an order of places: the numbers of parts. Document 01, "Removal": "Part numbers of the subtree come out in
 -- tree order"; "What the counter gets": "part numbers held".
--- An order is lent as an array, of which the first entries count. A check does not know how long the list of a lent array is, so `entries`
--- says something of lists of every length; on a list that is long enough it is `take` (proofs/Entries.antt).
+-- An order is lent as an array, of which the first entries count (`entries` of lists/specs/Lists).
 use mathlib.Core.Path.{_≡_}
 use mathlib.Core.List.{List, [], _∷_, _++_}
 use mathlib.Core.Bool.{cond}
@@ -11,15 +10,11 @@ use lib.ListN.{getD}
 use Rattle.piece.specs.declared.node.Datum.{Datum}
 use Rattle.piece.specs.declared.node.Kind.the-variants.{Part}
 use Rattle.piece.specs.Row.{nil, grow}
-use Rattle.tree.specs.Tree.{Tree, isPart}
+use Rattle.piece.specs.Kinds.{isPart}
+use Rattle.tree.specs.Tree.{Tree}
 use Rattle.table.specs.declared.Node.{Node}
 use Rattle.table.specs.Table.{at}
 use Rattle.walks.specs.Walk.{gathered}
-
--- the first n entries of a list, where 0 stands for what is not there
-unfoldable pub entries : ℕ → List ℕ → List ℕ
-entries zero l = []
-entries (suc n) l = entries n l ++ (getD l n 0 ∷ [])
 
 -- the numbers below n in order: of a table with n places, every place
 unfoldable pub below : ℕ → List ℕ

@@ -2,7 +2,7 @@
 use mathlib.Core.List.{List, map}
 use Prim.Native.Nat.{ℕ}
 use lib.Ieee.{Float}
-use Rattle.tree.specs.Snapshot.{cutNo}
+use Rattle.piece.specs.Numbers.{cutNo}
 use Rattle.table.specs.declared.Node.{Node}
 pub use Rattle.table.specs.Columns.{firstsOf, nextsOf, kindsOf, areasOf}
 use Rattle.walks.specs.Order.{orderOf}
@@ -14,8 +14,8 @@ use Rattle.walks.specs.declared.columns.Columns.{Columns}
 abbrev pub levelOf : Node → ℕ
 levelOf n = n .datum .level
 
-abbrev pub cutOf : Node → ℕ
-cutOf n = cutNo (n .datum .cut)
+abbrev pub cutNoOf : Node → ℕ
+cutNoOf n = cutNo (n .datum .cut)
 
 abbrev pub numberOf : Node → ℕ
 numberOf n = n .datum .number
@@ -40,10 +40,11 @@ columnsOf t =
       next = nextsOf t;
       level = map levelOf t;
       kind = kindsOf t;
-      cut = map cutOf t;
+      cut = map cutNoOf t;
       number = map numberOf t;
       width = widthsOf t;
       height = heightsOf t;
+      area = areasOf t;
     }
 
 -- the bytes of the node at a place, and of the subtree of x, down to so many nodes

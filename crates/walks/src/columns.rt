@@ -1,9 +1,7 @@
-// The columns of a table that a walk down the tree is lent: the two links that it follows, and what a snapshot says of a node. They are taken out of the
-// nodes once.
+// The columns of a table that a walk down the tree is lent: the two links that it follows, what a snapshot says of a node, and its area. They are taken
+// out of the nodes once.
 ghost use mathlib.Core.Path.{_≡_};
 ghost use Rattle.walks.specs.Columns.{columnsOf};
-use crate::snapshot::cut_no;
-use crate::snapshot::kind_no;
 use table::LIMIT;
 use table::Node;
 
@@ -16,6 +14,7 @@ pub struct Columns {
     pub number: [u16; LIMIT],
     pub width: [u32; LIMIT],
     pub height: [u32; LIMIT],
+    pub area: [u64; LIMIT],
 }
 
 pub fn columns_of(nodes: [Node; LIMIT]) -> Columns
@@ -29,6 +28,7 @@ pub fn columns_of(nodes: [Node; LIMIT]) -> Columns
     let mut number = [0u16; LIMIT];
     let mut width = [0u32; LIMIT];
     let mut height = [0u32; LIMIT];
+    let mut area = [0u64; LIMIT];
     let mut i: usize = 0;
     while i < LIMIT {
         let n = nodes[i];
@@ -39,11 +39,12 @@ pub fn columns_of(nodes: [Node; LIMIT]) -> Columns
         first[i] = n.first;
         next[i] = n.next;
         level[i] = d.level;
-        kind[i] = kind_no(own_kind);
-        cut[i] = cut_no(own_cut);
+        kind[i] = own_kind.number();
+        cut[i] = own_cut.number();
         number[i] = d.number;
         width[i] = size.width;
         height[i] = size.height;
+        area[i] = size.area();
         i += 1;
     }
     Columns {
@@ -55,5 +56,6 @@ pub fn columns_of(nodes: [Node; LIMIT]) -> Columns
         number,
         width,
         height,
+        area,
     }
 }

@@ -1,34 +1,22 @@
 // The numbers of the parts among the nodes along an order of places. Rust: `included_part_ids` of core/entities/layout.rs, and the numbers
 // that `remove_subtree` there hands out. With the order of a removal these are the numbers that come out; with every place, those held.
 use piece::node::Datum;
-use piece::node::Kind;
 use table::LIMIT;
 use table::Node;
 ghost use mathlib.Core.Path.{_≡_};
 ghost use Prim.Native.Nat.{_+_, _≤_};
 ghost use lib.ListN.{length};
 ghost use lib.Seq.{sets};
-ghost use Rattle.tree.specs.Tree.{isPart};
-ghost use Rattle.lists.specs.Lists.{limit};
-ghost use Rattle.walks.specs.Along.{entries, below, partNumber, numbersAlong};
+ghost use Rattle.lists.specs.Lists.{entries, limit};
+ghost use Rattle.walks.specs.Along.{below, partNumber, numbersAlong};
 ghost use Rattle.walks.specs.Inner.{Placed};
-
-fn is_part(kind: Kind) -> bool
-    ensures { λ r. ⌜ r ≡ isPart kind ⌝ }
-{
-    match kind {
-        Kind::Free => false,
-        Kind::Part => true,
-        Kind::Structure => false,
-    }
-}
 
 // How many numbers a piece has: a part has one, another piece none.
 fn count_number(d: Datum) -> usize
     ensures { λ r. ⌜ r ≡ length (partNumber d) ⌝ }
 {
     let kind = d.kind;
-    if is_part(kind) { 1 } else { 0 }
+    if kind.is_part() { 1 } else { 0 }
 }
 
 // Writes the number of a part at n, and nothing for another piece; gives the next index.
@@ -38,7 +26,7 @@ fn put_number(d: Datum, out: &mut [u16], n: usize) -> usize
     ensures counted { λ r. ⌜ r ≡ n + length (partNumber d) ⌝ }
 {
     let kind = d.kind;
-    if is_part(kind) {
+    if kind.is_part() {
         out[n] = d.number;
         n + 1
     } else {

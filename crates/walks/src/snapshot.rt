@@ -1,7 +1,5 @@
 // The bytes of the tree snapshot, down the tree child by child. Rust: `NodeBlueprint` of core/insertion/node_blueprint.rs, which holds a node's
 // values with those of its children, and its `from_node`; document 01, "Tree snapshot", says the bytes.
-use piece::node::Kind;
-use piece::orientation::Orientation;
 use table::LIMIT;
 use table::NONE;
 ghost use mathlib.Core.Path.{_≡_};
@@ -9,30 +7,9 @@ ghost use mathlib.Core.List.{[]};
 ghost use Prim.Native.Nat.{_+_, _≤_, _<_};
 ghost use lib.ListN.{length};
 ghost use lib.Seq.{sets};
-ghost use Rattle.tree.specs.Snapshot.{kindNo, cutNo, two, four};
+ghost use Rattle.tree.specs.Snapshot.{two, four};
 ghost use Rattle.lists.specs.Lists.{limit};
 ghost use Rattle.walks.specs.Snapshot.{bytesOf, bytesAt, snapshotOf};
-
-// "kind (0 free, 1 part, 2 structure)"
-pub fn kind_no(kind: Kind) -> u8
-    ensures { λ r. ⌜ r ≡ kindNo kind ⌝ }
-{
-    match kind {
-        Kind::Free => 0,
-        Kind::Part => 1,
-        Kind::Structure => 2,
-    }
-}
-
-// "cut (0 Horizontal, 1 Vertical)"
-pub fn cut_no(cut: Orientation) -> u8
-    ensures { λ r. ⌜ r ≡ cutNo cut ⌝ }
-{
-    match cut {
-        Orientation::Horizontal => 0,
-        Orientation::Vertical => 1,
-    }
-}
 
 // The two bytes of a number, the highest first.
 pub fn put_two(v: u16, out: &mut [u8], at: usize)

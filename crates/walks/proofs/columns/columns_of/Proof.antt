@@ -8,33 +8,34 @@ use borrow.Author.Needs.{needs}
 use Rattle.lists.specs.Lists.{limit, zeros}
 use Rattle.lists.proofs.Fill.{filled, fill-more, fill-column}
 use Rattle.table.specs.Table.{zeroNode}
-use Rattle.table.specs.Columns.{firstOf, nextOf, kindOf}
-use Rattle.walks.specs.Columns.{levelOf, cutOf, numberOf, widthOf, heightOf}
+use Rattle.table.specs.Columns.{areaOf, firstOf, nextOf, kindNoOf}
+use Rattle.walks.specs.Columns.{levelOf, cutNoOf, numberOf, widthOf, heightOf}
 use Rattle.walks.proofs.columns.columns_of.Statement.{statement}
 use Rattle.walks.proofs.columns.columns_of.Tie as tie
 
 abbrev Inv-loop : tie.InvT-loop
-Inv-loop nodes first₀ next₀ level₀ kind₀ cut₀ number₀ width₀ height₀ i₀ first next level kind cut number width height i =
+Inv-loop nodes first₀ next₀ level₀ kind₀ cut₀ number₀ width₀ height₀ area₀ i₀ first next level kind cut number width height area i =
     (i ≤ limit)
     × (first ≡ filled (zeros limit) (map firstOf nodes) i)
     × (next ≡ filled (zeros limit) (map nextOf nodes) i)
     × (level ≡ filled (zeros limit) (map levelOf nodes) i)
-    × (kind ≡ filled (zeros limit) (map kindOf nodes) i)
-    × (cut ≡ filled (zeros limit) (map cutOf nodes) i)
+    × (kind ≡ filled (zeros limit) (map kindNoOf nodes) i)
+    × (cut ≡ filled (zeros limit) (map cutNoOf nodes) i)
     × (number ≡ filled (zeros limit) (map numberOf nodes) i)
     × (width ≡ filled (zeros limit) (map widthOf nodes) i)
     × (height ≡ filled (zeros limit) (map heightOf nodes) i)
+    × (area ≡ filled (zeros limit) (map areaOf nodes) i)
 
 abbrev μ-loop : tie.MeasureT-loop
-μ-loop nodes first₀ next₀ level₀ kind₀ cut₀ number₀ width₀ height₀ i₀ first next level kind cut number width height i = limit - i
+μ-loop nodes first₀ next₀ level₀ kind₀ cut₀ number₀ width₀ height₀ area₀ i₀ first next level kind cut number width height area i = limit - i
 
 loop-holds : tie.Need-loop-holds Inv-loop μ-loop
-loop-holds c = (omega arith, refl, refl, refl, refl, refl, refl, refl, refl)
+loop-holds c = (omega arith, refl, refl, refl, refl, refl, refl, refl, refl, refl)
 
 loop-again : tie.Need-loop-again Inv-loop μ-loop
 loop-again c =
-    let l = c .before .before .before .before .before .before .loop in
-    let s = c .before .before .before .before .before .before .before in
+    let l = c .before .before .before .before .before .before .before .loop in
+    let s = c .before .before .before .before .before .before .before .before in
     let t = s .args .t1 in
     let len : length t ≡ limit = s .good .0 .1 .0 .1 in
     let h : l .i < limit = omega arith in (
@@ -42,11 +43,12 @@ loop-again c =
       fill-more firstOf t len zeroNode (zeros limit) (l .first) (l .i) _ (l .inv .1) h refl,
       fill-more nextOf t len zeroNode (zeros limit) (l .next) (l .i) _ (l .inv .2) h refl,
       fill-more levelOf t len zeroNode (zeros limit) (l .level) (l .i) _ (l .inv .3) h refl,
-      fill-more kindOf t len zeroNode (zeros limit) (l .kind) (l .i) _ (l .inv .4) h (c .before .kind-no .ensures),
-      fill-more cutOf t len zeroNode (zeros limit) (l .cut) (l .i) _ (l .inv .5) h (c .cut-no .ensures),
+      fill-more kindNoOf t len zeroNode (zeros limit) (l .kind) (l .i) _ (l .inv .4) h (c .before .before .number .ensures),
+      fill-more cutNoOf t len zeroNode (zeros limit) (l .cut) (l .i) _ (l .inv .5) h (c .before .number2 .ensures),
       fill-more numberOf t len zeroNode (zeros limit) (l .number) (l .i) _ (l .inv .6) h refl,
       fill-more widthOf t len zeroNode (zeros limit) (l .width) (l .i) _ (l .inv .7) h refl,
       fill-more heightOf t len zeroNode (zeros limit) (l .height) (l .i) _ (l .inv .8) h refl,
+      fill-more areaOf t len zeroNode (zeros limit) (l .area) (l .i) _ (l .inv .9) h (c .area .ensures),
     )
 
 returns : tie.Need-returns Inv-loop μ-loop
@@ -59,11 +61,12 @@ returns c =
       fill-column firstOf t len (zeros limit) refl (l .first) (l .i) (l .inv .1) h,
       fill-column nextOf t len (zeros limit) refl (l .next) (l .i) (l .inv .2) h,
       fill-column levelOf t len (zeros limit) refl (l .level) (l .i) (l .inv .3) h,
-      fill-column kindOf t len (zeros limit) refl (l .kind) (l .i) (l .inv .4) h,
-      fill-column cutOf t len (zeros limit) refl (l .cut) (l .i) (l .inv .5) h,
+      fill-column kindNoOf t len (zeros limit) refl (l .kind) (l .i) (l .inv .4) h,
+      fill-column cutNoOf t len (zeros limit) refl (l .cut) (l .i) (l .inv .5) h,
       fill-column numberOf t len (zeros limit) refl (l .number) (l .i) (l .inv .6) h,
       fill-column widthOf t len (zeros limit) refl (l .width) (l .i) (l .inv .7) h,
       fill-column heightOf t len (zeros limit) refl (l .height) (l .i) (l .inv .8) h,
+      fill-column areaOf t len (zeros limit) refl (l .area) (l .i) (l .inv .9) h,
     ) refl
 
 pub columns-of-spec : {M : Type 1} → statement M
@@ -80,9 +83,9 @@ columns-of-spec =
     (λ c. search needs)  -- mul-next
     (λ c. search needs)  -- array-write-next
     (λ c. search needs)  -- array-write-level
-    (λ c κs. search needs)  -- kind-no-requires
+    (λ c κs. search needs)  -- number-requires
     (λ c. search needs)  -- array-write-kind
-    (λ c κs. search needs)  -- cut-no-requires
+    (λ c κs. search needs)  -- number-requires-2
     (λ c. search needs)  -- array-write-cut
     (λ c. search needs)  -- mul-number
     (λ c. search needs)  -- array-write-number
@@ -90,6 +93,9 @@ columns-of-spec =
     (λ c. search needs)  -- array-write-width
     (λ c. search needs)  -- mul-height
     (λ c. search needs)  -- array-write-height
+    (λ c κs. search needs)  -- area-requires
+    (λ c. search needs)  -- mul-area
+    (λ c. search needs)  -- array-write-area
     (λ c. search needs)  -- add-i
     (λ c. search needs)  -- loop-less
     loop-again

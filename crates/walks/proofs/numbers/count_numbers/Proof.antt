@@ -6,7 +6,8 @@ use native.Mathlib.Omega.{arith}
 use borrow.Author.Needs.{needs}
 use lib.ListN.{length, getD}
 use Rattle.table.specs.Table.{at}
-use Rattle.walks.specs.Along.{entries, numberAt, numbersAlong}
+use Rattle.lists.specs.Lists.{entries}
+use Rattle.walks.specs.Along.{numberAt, numbersAlong}
 use Rattle.walks.proofs.Entries.{length-more}
 use Rattle.walks.proofs.NodeBytes.{number-most}
 use Rattle.walks.proofs.numbers.count_numbers.Statement.{statement}
