@@ -1,6 +1,5 @@
 pub mod Chain
 pub mod Walk
-pub mod Filled
 pub mod Says
 pub mod PlacesSay
 pub mod RowsSay

@@ -11,12 +11,13 @@ use Rattle.piece.specs.declared.node.Datum.{Datum}
 use Rattle.piece.specs.declared.node.Kind.{Kind}
 use Rattle.piece.specs.declared.node.Kind.the-variants.{Free, Part, Structure}
 use Rattle.piece.specs.declared.settings.Settings.{Settings}
-use Rattle.tree.specs.Tree.{isFree, isStructure}
+use Rattle.piece.specs.Kinds.{isFree, isStructure}
+use Rattle.piece.specs.Sides.{isHorizontal}
 use Rattle.tree.specs.Sound.{maxNumber, Sided}
 use Rattle.tree.proofs.Pieces.{sided}
 use Rattle.table.specs.declared.Node.{Node}
 use Rattle.table.specs.Table.{at, mk, zeroDatum, zeroNode}
-use Rattle.sound.specs.Places.{isHorizontal, zeroDatumB, zeroLinksB, zeroB, sidedB, leafB, kindB, placeB, placesB, topB}
+use Rattle.sound.specs.Places.{zeroDatumB, zeroLinksB, zeroB, sidedB, leafB, kindB, placeB, placesB, topB}
 use Rattle.sound.proofs.Says.{Says, clash, worded, eq-says, lt-says, le-says, some-says, true-says, false-says, and-says, if-says, every-says}
 
 free-says : (κ : Kind) → Says (isFree κ) (κ ≡ Free)

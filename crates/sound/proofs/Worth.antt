@@ -14,9 +14,10 @@ use Rattle.piece.specs.declared.node.Kind.{Kind}
 use Rattle.piece.specs.declared.node.Kind.the-variants.{Free, Part, Structure}
 use Rattle.piece.specs.Sides.{area}
 use Rattle.piece.specs.Row.{nil, grow}
-use Rattle.tree.specs.Tree.{Tree, At, count, isFree, isPart}
+use Rattle.piece.specs.Kinds.{isFree, isPart}
+use Rattle.piece.specs.Numbers.{kindNo}
+use Rattle.tree.specs.Tree.{Tree, At, count}
 use Rattle.tree.specs.Figures.{areaOf, partArea, freeArea}
-use Rattle.tree.specs.Snapshot.{kindNo}
 use Rattle.table.specs.declared.Node.{Node}
 use Rattle.table.specs.Table.{zeroNode, at, Holds}
 use Rattle.table.specs.Columns as columns
@@ -36,7 +37,7 @@ module _ (t : List Node) where
   serial-at i = List·getD-map columns.serialOf t i zeroNode
 
   pub kind-at : (i : ℕ) → getD (kindsOf t) i 0 ≡ kindNo (at t i .datum .kind)
-  kind-at i = List·getD-map columns.kindOf t i zeroNode
+  kind-at i = List·getD-map columns.kindNoOf t i zeroNode
 
   pub area-at : (i : ℕ) → getD (areasOf t) i 0 ≡ area (at t i .datum .size)
   area-at i = List·getD-map columns.areaOf t i zeroNode

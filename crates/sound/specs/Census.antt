@@ -5,7 +5,7 @@ use mathlib.Core.Bool.{Bool, true, false, cond, _&&_, _||_, not}
 use Prim.Native.Nat.{ℕ}
 use lib.Dec.{eqb, leb}
 use Rattle.piece.specs.Sides.{area}
-use Rattle.tree.specs.Snapshot.{kindNo}
+use Rattle.piece.specs.Numbers.{kindNo}
 use Rattle.table.specs.declared.Node.{Node}
 use Rattle.sound.specs.Columns.{areasOf, serialsOf, kindsOf}
 use Rattle.sound.specs.Places.{placeB, placesB}

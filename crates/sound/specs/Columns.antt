@@ -1,8 +1,15 @@
--- The table's columns, together.
+-- The columns of a table that the check speaks of, together.
 use mathlib.Core.List.{List}
+use Prim.Native.Nat.{ℕ}
 use Rattle.table.specs.declared.Node.{Node}
 pub use Rattle.table.specs.Columns.{areasOf, serialsOf, firstsOf, nextsOf, kindsOf}
-use Rattle.sound.specs.declared.columns.Columns.{Columns}
+
+pub record Columns : Type 0 where
+  pub area : List ℕ
+  pub serial : List ℕ
+  pub first : List ℕ
+  pub next : List ℕ
+  pub kind : List ℕ
 
 abbrev pub columnsOf : List Node → Columns
 columnsOf t =

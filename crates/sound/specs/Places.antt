@@ -3,22 +3,17 @@ use mathlib.Core.List.{List}
 use mathlib.Core.Bool.{Bool, true, false, cond, not, _&&_}
 use Prim.Native.Nat.{ℕ, zero, suc}
 use lib.Dec.{eqb, ltb, leb}
-use Rattle.piece.specs.declared.orientation.Orientation.{Orientation}
-use Rattle.piece.specs.declared.orientation.Orientation.the-variants.{Horizontal, Vertical}
 use Rattle.piece.specs.declared.size.Size.{Size}
 use Rattle.piece.specs.declared.node.Datum.{Datum}
 use Rattle.piece.specs.declared.node.Kind.{Kind}
 use Rattle.piece.specs.declared.node.Kind.the-variants.{Free, Part, Structure}
 use Rattle.piece.specs.declared.settings.Settings.{Settings}
+use Rattle.piece.specs.Sides.{isHorizontal}
+use Rattle.piece.specs.Kinds.{isFree, isStructure}
 use Rattle.lists.specs.Search.{every}
-use Rattle.tree.specs.Tree.{isFree, isStructure}
 use Rattle.tree.specs.Sound.{maxNumber}
 use Rattle.table.specs.declared.Node.{Node}
 use Rattle.table.specs.Table.{at}
-
-abbrev pub isHorizontal : Orientation → Bool
-isHorizontal Horizontal = true
-isHorizontal Vertical = false
 
 -- "Unheld places .. are zero."
 unfoldable pub zeroDatumB : Datum → Bool

@@ -9,7 +9,7 @@ use Rattle.piece.specs.declared.node.Kind.{Kind}
 use Rattle.piece.specs.declared.node.Kind.the-variants.{Free, Part, Structure}
 use Rattle.piece.specs.declared.settings.Settings.{Settings}
 use Rattle.piece.specs.Sides.{other, laid}
-use Rattle.tree.specs.Tree.{isStructure}
+use Rattle.piece.specs.Kinds.{isStructure}
 use Rattle.table.specs.declared.Node.{Node}
 use Rattle.table.specs.Table.{at}
 use Rattle.lists.specs.Search.{every}

@@ -5,7 +5,6 @@ ghost use lib.Seq.{sets};
 ghost use Rattle.lists.specs.Lists.{limit};
 ghost use Rattle.sound.specs.Columns.{areasOf, serialsOf};
 ghost use Rattle.sound.specs.Census.{censusB, flagsB, hangsB, heldOne, nodeB, usedBy};
-use crate::columns::kind_number;
 use crate::places::place_ok;
 use table::LIMIT;
 use table::Node;
@@ -32,7 +31,7 @@ fn flags_ok(n: Node, free: u8, removable: u8) -> bool
     let kind = d.kind;
     if d.serial == 0 {
         if free == 1 { false } else { removable != 1 }
-    } else if kind_number(kind) == 0 {
+    } else if kind.number() == 0 {
         if free == 1 { removable != 1 } else { false }
     } else {
         if free == 1 { false } else { removable == 1 }
@@ -70,11 +69,7 @@ fn used_by(n: Node) -> u64
     let d = n.datum;
     let kind = d.kind;
     let size = d.size;
-    if kind_number(kind) == 1 {
-        size.area()
-    } else {
-        0
-    }
+    if kind.number() == 1 { size.area() } else { 0 }
 }
 
 // The parts' areas are taken away from `used`, so that nothing overflows on any record.

@@ -1,44 +1,13 @@
 // The clauses that speak of one place at a time.
 ghost use mathlib.Core.Path.{_≡_};
-ghost use Rattle.tree.specs.Tree.{isFree, isStructure};
 ghost use Rattle.lists.specs.Lists.{limit};
-ghost use Rattle.sound.specs.Places.{isHorizontal, kindB, leafB, placeB, sidedB, topB, zeroB, zeroDatumB, zeroLinksB};
+ghost use Rattle.sound.specs.Places.{kindB, leafB, placeB, sidedB, topB, zeroB, zeroDatumB, zeroLinksB};
 use piece::node::Datum;
 use piece::node::Kind;
-use piece::orientation::Orientation;
 use piece::settings::Settings;
 use piece::size::Size;
 use table::NONE;
 use table::Node;
-
-pub fn is_free(kind: Kind) -> bool
-    ensures { λ r. ⌜ r ≡ isFree kind ⌝ }
-{
-    match kind {
-        Kind::Free => true,
-        Kind::Part => false,
-        Kind::Structure => false,
-    }
-}
-
-pub fn is_structure(kind: Kind) -> bool
-    ensures { λ r. ⌜ r ≡ isStructure kind ⌝ }
-{
-    match kind {
-        Kind::Free => false,
-        Kind::Part => false,
-        Kind::Structure => true,
-    }
-}
-
-fn is_horizontal(cut: Orientation) -> bool
-    ensures { λ r. ⌜ r ≡ isHorizontal cut ⌝ }
-{
-    match cut {
-        Orientation::Horizontal => true,
-        Orientation::Vertical => false,
-    }
-}
 
 // Whether both sides are at least 1.
 fn is_sided(size: Size) -> bool
@@ -100,8 +69,8 @@ fn zero_datum(d: Datum) -> bool
     }
     let kind = d.kind;
     let cut = d.cut;
-    if is_free(kind) {
-        is_horizontal(cut)
+    if kind.is_free() {
+        cut.is_horizontal()
     } else {
         false
     }
@@ -173,7 +142,7 @@ pub fn top_ok(n: Node, settings: Settings) -> bool
         return false;
     }
     let kind = d.kind;
-    if is_structure(kind) {} else {
+    if kind.is_structure() {} else {
         return false;
     }
     if d.size.width != settings.sheet.width {

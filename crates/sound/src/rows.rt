@@ -4,7 +4,6 @@ ghost use mathlib.Core.Bool.{true};
 ghost use Rattle.lists.specs.Lists.{limit};
 ghost use Rattle.sound.specs.Hung.{hangRows};
 ghost use Rattle.sound.specs.Rows.{childB, endB, parentB, room, rowsB, sameCut, step};
-use crate::places::is_structure;
 use piece::orientation::Orientation;
 use piece::settings::Settings;
 use table::LIMIT;
@@ -88,7 +87,7 @@ fn is_parent(n: Node) -> bool
     if d.serial == 0 {
         false
     } else {
-        is_structure(kind)
+        kind.is_structure()
     }
 }
 

@@ -8,10 +8,12 @@ use borrow.Author.Needs.{needs}
 use lib.ListN.{length}
 use Rattle.lists.specs.Lists.{limit}
 use Rattle.lists.specs.Search.{every}
+use Rattle.lists.proofs.Fill.{filled, fill-more, fill-all}
+use Rattle.table.specs.Table.{zeroNode}
+use Rattle.table.specs.Columns.{areaOf, serialOf}
 use Rattle.sound.specs.Columns.{areasOf, serialsOf, kindsOf}
 use Rattle.sound.specs.Listed.{areaIn}
 use Rattle.sound.proofs.Sums.{held-most}
-use Rattle.sound.proofs.Filled.{areaOf, serialOf, filled, fill-more, fill-all}
 use Rattle.sound.proofs.Counted.{passAt, every-next, held-next, area-next}
 use Rattle.sound.proofs.Counted.{Going, test-passed, test-failed, part-taken, part-over}
 use Rattle.sound.proofs.Counted.{Counting, counting-none, census-passed, census-failed, census-miscounted}
@@ -68,8 +70,8 @@ loop-again c =
     (λ w. rw (w .1, w .2) (part-taken g (w .0 .left)))
     (taken .if2 .came) in (
       omega arith,
-      fill-more serialOf t len (a .serial .now) (l .serial) (l .i) _ (l .inv .1) h refl,
-      fill-more areaOf t len (a .area .now) (l .area) (l .i) _ (l .inv .2) h (worth .area .ensures),
+      fill-more serialOf t len zeroNode (a .serial .now) (l .serial) (l .i) _ (l .inv .1) h refl,
+      fill-more areaOf t len zeroNode (a .area .now) (l .area) (l .i) _ (l .inv .2) h (worth .area .ensures),
       record {
         counted = omega (arith, held-next t (l .i), c .held-one .ensures, l .inv .3 .counted);
         going = rw (every-next f (l .i), area-next t (l .i), ← part .used-by .ensures) k;

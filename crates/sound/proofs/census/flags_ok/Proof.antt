@@ -8,10 +8,10 @@ pub flags-ok-spec : {M : Type 1} → statement M
 flags-ok-spec =
     tie.close
     (tie.spec
-    (λ c κs. search needs)  -- kind-number-requires
+    (λ c κs. search needs)  -- number-requires
     (λ c. search equals)  -- returns
     (λ c. search equals)  -- returns-2
-    (λ c. let free = rw (c .before .before .kind-number .ensures) at (c .before .if3 .taken) in search equals)  -- returns-3
-    (λ c. let free = rw (c .before .before .kind-number .ensures) at (c .before .if3 .taken) in search equals)  -- returns-4
-    (λ c. let other = rw (c .before .before .kind-number .ensures) at (c .before .if3 .left) in search equals)  -- returns-5
-    (λ c. let other = rw (c .before .before .kind-number .ensures) at (c .before .if3 .left) in search equals))  -- returns-6
+    (λ c. let free = rw (c .before .before .number .ensures) at (c .before .if3 .taken) in search equals)  -- returns-3
+    (λ c. let free = rw (c .before .before .number .ensures) at (c .before .if3 .taken) in search equals)  -- returns-4
+    (λ c. let other = rw (c .before .before .number .ensures) at (c .before .if3 .left) in search equals)  -- returns-5
+    (λ c. let other = rw (c .before .before .number .ensures) at (c .before .if3 .left) in search equals))  -- returns-6
