@@ -5,7 +5,8 @@ use mathlib.Core.List.{List, [], _∷_, _++_}
 use Prim.Native.Nat.{ℕ}
 use Rattle.piece.specs.declared.node.Kind.{Kind}
 use Rattle.piece.specs.Row.{nil, grow}
-use Rattle.tree.specs.Tree.{Tree, isFree, isPart}
+use Rattle.piece.specs.Kinds.{isFree, isPart}
+use Rattle.tree.specs.Tree.{Tree}
 use Rattle.answers.specs.declared.Mark.{Mark}
 use Rattle.booking.specs.declared.new_nodes.NewNode.{NewNode}
 use Rattle.booking.specs.NewNodes.{leaves}

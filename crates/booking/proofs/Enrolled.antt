@@ -15,7 +15,8 @@ use Rattle.piece.specs.declared.insertion_blueprint.InsertionShape.{InsertionSh
 use Rattle.piece.specs.declared.insertion_blueprint.InsertionShape.the-variants.{AlongCurrentCut, AcrossCurrentCut, AlongThenAcross, AcrossThenAlong}
 use Rattle.piece.specs.Row.{nil, grow}
 use Rattle.piece.specs.Insertion.{blockOf, table, newNodes}
-use Rattle.tree.specs.Tree.{Tree, In, At, Distinct, count, isFree, isPart}
+use Rattle.piece.specs.Kinds.{isFree, isPart}
+use Rattle.tree.specs.Tree.{Tree, In, At, Distinct, count}
 use Rattle.tree.specs.Booking.{Booking, planted, block}
 use Rattle.tree.specs.ListSteps.{Names}
 use Rattle.tree.specs.Enrolment.{when, enrolled}

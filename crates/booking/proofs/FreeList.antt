@@ -15,7 +15,8 @@ use Rattle.piece.specs.declared.settings.Settings.{Settings}
 use Rattle.piece.specs.Sides.{other, area}
 use Rattle.piece.specs.Row.{Row, nil, grow}
 use Rattle.piece.specs.Insertion.{Made, blockOf}
-use Rattle.tree.specs.Tree.{Tree, At, count, isFree}
+use Rattle.piece.specs.Kinds.{isFree}
+use Rattle.tree.specs.Tree.{Tree, At, count}
 use Rattle.tree.specs.Sound.{Sound}
 use Rattle.tree.specs.Booking.{Booking, planted, block, book}
 use Rattle.tree.specs.Accepted.{Fresh}

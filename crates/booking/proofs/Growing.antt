@@ -5,8 +5,8 @@ use mathlib.Core.List.{List, [], _∷_, _++_, append-nil, append-assoc}
 use Prim.Native.Nat.{ℕ, zero, suc, _+_, _≤_, _<_}
 use native.Mathlib.Omega.{arith}
 use lib.ListN.{length, take}
+use Rattle.piece.specs.Kinds.{isFree}
 use Rattle.lists.specs.Lists.{limit}
-use Rattle.tree.specs.Tree.{isFree}
 use Rattle.tree.specs.ListSteps.{push, put, putAll}
 use Rattle.tree.specs.Enrolment.{when}
 use Rattle.register.specs.declared.listing.Listing.{Listing}

@@ -13,6 +13,5 @@ pub mod Enrolled
 pub mod RemovableList
 pub mod FreeList
 pub mod Rooms
-pub mod Offering
 pub mod Stands
 pub mod BlockMarks

@@ -8,7 +8,7 @@ use native.Mathlib.Numerals.{add-one}
 use native.Mathlib.Omega.{arith}
 use lib.ListN.{length, set, take, replicate}
 use lib.Seq.{sets}
-use Rattle.tree.specs.Tree.{isFree, isPart}
+use Rattle.piece.specs.Kinds.{isFree, isPart}
 use Rattle.tree.specs.Enrolment.{when}
 use Rattle.answers.specs.declared.Mark.{Mark}
 use Rattle.booking.specs.declared.new_nodes.NewNode.{NewNode}

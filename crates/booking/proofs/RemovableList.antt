@@ -8,7 +8,8 @@ use Prim.Native.Nat.{ℕ}
 use Rattle.piece.specs.declared.node.Datum.{Datum}
 use Rattle.piece.specs.declared.node.Kind.the-variants.{Free, Structure}
 use Rattle.piece.specs.declared.settings.Settings.{Settings}
-use Rattle.tree.specs.Tree.{Tree, In, At, isFree}
+use Rattle.tree.specs.Tree.{Tree, In, At}
+use Rattle.piece.specs.Kinds.{isFree}
 use Rattle.tree.specs.Sound.{Sound}
 use Rattle.tree.specs.Booking.{Booking, block, book}
 use Rattle.tree.specs.Accepted.{Fresh}

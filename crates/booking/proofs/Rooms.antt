@@ -10,6 +10,7 @@ use Rattle.piece.specs.declared.node.Kind.the-variants.{Free}
 use Rattle.piece.specs.declared.settings.Settings.{Settings}
 use Rattle.piece.specs.Insertion.{newNodes}
 use Rattle.tree.specs.Tree.{Tree, At, count}
+use Rattle.piece.specs.Kinds.{isFree}
 use Rattle.tree.specs.Sound.{Sound}
 use Rattle.tree.specs.Booking.{Booking, book}
 use Rattle.tree.specs.Steps.{less}

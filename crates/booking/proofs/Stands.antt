@@ -16,9 +16,10 @@ use Rattle.piece.specs.declared.settings.Settings.{Settings}
 use Rattle.piece.specs.Insertion.{blockOf, newNodes, table}
 use Rattle.piece.specs.Sides.{area}
 use Rattle.piece.specs.Row.{nil, grow}
+use Rattle.piece.specs.Kinds.{isPart}
 use Rattle.piece.proofs.Padded.{padded-at}
 use Rattle.piece.proofs.Blocks.{new-nodes-few}
-use Rattle.tree.specs.Tree.{Tree, In, At, count, isPart}
+use Rattle.tree.specs.Tree.{Tree, In, At, count}
 use Rattle.tree.specs.Booking.{Booking, block, book}
 use Rattle.tree.specs.Accepted.{Fitting, Fresh}
 use Rattle.tree.specs.Steps.{less, Marked}

@@ -20,8 +20,9 @@ use Rattle.piece.specs.Row.{nil, grow}
 use Rattle.piece.specs.Insertion.{blockOf, table, newNodes}
 use Rattle.piece.specs.declared.settings.Settings.{Settings}
 use Rattle.piece.specs.Offers.{along, across, only, shapes}
+use Rattle.piece.specs.Kinds.{isFree, isPart}
 use Rattle.piece.proofs.Sizes.{laid-twice}
-use Rattle.tree.specs.Tree.{Tree, In, At, Distinct, count, isPart}
+use Rattle.tree.specs.Tree.{Tree, In, At, Distinct, count}
 use Rattle.tree.specs.Sound.{Sound}
 use Rattle.tree.specs.Booking.{Booking, planted, block, book}
 use Rattle.tree.specs.Accepted.{Fitting}

@@ -13,7 +13,7 @@ use Rattle.tree.specs.ListSteps.{cut, putAll}
 use Rattle.table.specs.declared.Node.{Node}
 use Rattle.table.specs.Table.{append, at, unlink}
 use Rattle.table.proofs.Touch.{append-length, unlink-length}
-use Rattle.walks.specs.Columns.{areasOf}
+use Rattle.table.specs.Columns.{areasOf}
 use Rattle.register.specs.declared.listing.Listing.{Listing}
 use Rattle.register.specs.declared.LayoutNodes.{LayoutNodes}
 use Rattle.register.specs.Listings.{Kept, areaAt, areaIn, entriesOf, listing}

@@ -1,5 +1,4 @@
 pub mod NewNodes
 pub mod Book
 pub mod Marks
-pub mod Offered
 pub mod Inner

@@ -11,7 +11,8 @@ use Rattle.piece.specs.declared.insertion_blueprint.InsertionShape.{InsertionSh
 use Rattle.piece.specs.declared.insertion_blueprint.InsertionShape.the-variants.{AlongCurrentCut, AcrossCurrentCut, AlongThenAcross, AcrossThenAlong}
 use Rattle.piece.specs.declared.insertion_blueprint.InsertionNode.{InsertionNode}
 use Rattle.piece.specs.Row.{nil, grow}
-use Rattle.tree.specs.Tree.{Tree, isFree, isPart}
+use Rattle.piece.specs.Kinds.{isFree, isPart}
+use Rattle.tree.specs.Tree.{Tree}
 use Rattle.tree.specs.Booking.{Booking, plantedDatum}
 use Rattle.tree.specs.Enrolment.{when}
 use Rattle.table.specs.declared.Node.{Node}

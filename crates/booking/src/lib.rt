@@ -4,4 +4,3 @@
 pub mod book;
 pub mod marks;
 pub mod new_nodes;
-pub mod offered;

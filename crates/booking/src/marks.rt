@@ -2,7 +2,7 @@
 ghost use mathlib.Core.Path.{_≡_};
 ghost use Prim.Native.Nat.{_≤_};
 ghost use lib.ListN.{length};
-ghost use Rattle.tree.specs.Tree.{isPart};
+ghost use Rattle.piece.specs.Kinds.{isPart};
 ghost use Rattle.booking.specs.NewNodes.{freesOf, those};
 ghost use Rattle.booking.specs.Marks.{firstMark, headMark, marksOf, newMark, newMarks, zeroMark, zeroMarks};
 use crate::new_nodes::NewNode;

@@ -4,8 +4,8 @@ ghost use mathlib.Core.Bool.{cond};
 ghost use mathlib.Core.List.{_++_};
 ghost use Prim.Native.Nat.{_+_, _<_, _≤_};
 ghost use lib.ListN.{length, replicate, take};
+ghost use Rattle.piece.specs.Kinds.{isFree, isPart};
 ghost use Rattle.lists.specs.Lists.{limit};
-ghost use Rattle.tree.specs.Tree.{isFree, isPart};
 ghost use Rattle.tree.specs.ListSteps.{putAll};
 ghost use Rattle.register.specs.Listings.{Kept, areaAt, entriesOf, listing};
 ghost use Rattle.booking.specs.Book.{newPlaces};
@@ -15,11 +15,10 @@ use piece::insertion_blueprint::InsertionBlueprint;
 use piece::insertion_blueprint::InsertionNode;
 use piece::node::Datum;
 use piece::node::Kind;
-use piece::orientation::Orientation;
-use piece::size::Size;
 use register::listing::Listing;
 use table::LIMIT;
 use table::Node;
+use table::nodes::no_datum;
 use table::places::unheld;
 
 // A node to be made: the place of its parent, whether it is the first child of that one, its own place, and what it is.
@@ -53,11 +52,7 @@ impl NewNode {
     {
         let d = self.datum;
         let kind = d.kind;
-        match kind {
-            Kind::Free => true,
-            Kind::Part => false,
-            Kind::Structure => false,
-        }
+        kind.is_free()
     }
 
     pub fn is_part(self) -> bool
@@ -65,33 +60,18 @@ impl NewNode {
     {
         let d = self.datum;
         let kind = d.kind;
-        match kind {
-            Kind::Free => false,
-            Kind::Part => true,
-            Kind::Structure => false,
-        }
+        kind.is_part()
     }
 }
 
 fn no_new() -> NewNode
     ensures { λ r. ⌜ r ≡ noNew ⌝ }
 {
-    let datum = Datum {
-        serial: 0,
-        size: Size {
-            width: 0,
-            height: 0,
-        },
-        number: 0,
-        level: 0,
-        kind: Kind::Free,
-        cut: Orientation::Horizontal,
-    };
     NewNode {
         under: 0,
         place: 0,
         eldest: false,
-        datum,
+        datum: no_datum(),
     }
 }
 

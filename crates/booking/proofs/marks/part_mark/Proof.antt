@@ -4,7 +4,7 @@ use mathlib.Core.Path.{_≡_, sym, _∙_}
 use Prim.Native.Nat.{_≤_, _-_}
 use lib.ListN.{length, drop, take}
 use borrow.Author.Needs.{needs}
-use Rattle.tree.specs.Tree.{isPart}
+use Rattle.piece.specs.Kinds.{isPart}
 use Rattle.booking.specs.NewNodes.{noNew}
 use Rattle.booking.specs.Marks.{headMark, marksOf}
 use Rattle.booking.proofs.Runs.{next-entry, none-left}

@@ -6,7 +6,7 @@ use mathlib.Core.Logic.{⊎-elim}
 use Prim.Native.Nat.{ℕ, _+_, _-_, _≤_}
 use lib.ListN.{length, drop, take, getD}
 use borrow.Author.Needs.{needs}
-use Rattle.tree.specs.Tree.{isPart}
+use Rattle.piece.specs.Kinds.{isPart}
 use Rattle.tree.specs.Enrolment.{when}
 use Rattle.register.specs.declared.listing.Listing.{Listing}
 use Rattle.register.specs.Listings.{entriesOf}

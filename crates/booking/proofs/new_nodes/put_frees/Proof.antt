@@ -7,7 +7,7 @@ use Prim.Native.Nat.{ℕ, _+_, _-_, _≤_}
 use native.Mathlib.Omega.{arith}
 use lib.ListN.{length, drop, take, getD}
 use borrow.Author.Needs.{needs}
-use Rattle.tree.specs.Tree.{isFree}
+use Rattle.piece.specs.Kinds.{isFree}
 use Rattle.tree.specs.ListSteps.{putAll}
 use Rattle.tree.specs.Enrolment.{when}
 use Rattle.register.specs.declared.listing.Listing.{Listing}
