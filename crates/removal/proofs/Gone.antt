@@ -12,17 +12,15 @@ use lib.Seq.{sets, length-sets}
 use Rattle.table.specs.declared.Node.{Node}
 use Rattle.table.specs.Table.{at}
 use Rattle.table.specs.Steps.{freeLast, freeLastPlace}
-use Rattle.lists.specs.Lists.{limit, zeros}
+use Rattle.lists.specs.Lists.{limit, zeros, entries}
 use Rattle.lists.proofs.Fill.{sets-append}
-use Rattle.walks.specs.Along.{entries}
 use Rattle.walks.specs.Inner.{Placed}
 use Rattle.walks.specs.Chain.{siblings}
-use Rattle.walks.specs.Columns.{orderIn}
+use Rattle.walks.specs.declared.columns.Columns.{Columns}
+use Rattle.walks.specs.Columns.{columnsOf, orderIn}
 use Rattle.walks.specs.Walk.{gathered, walkOf}
 use Rattle.walks.specs.Order.{itself, orderOf}
 use Rattle.walks.proofs.Entries.{written-entries, written-placed}
-use Rattle.sound.specs.declared.columns.Columns.{Columns}
-use Rattle.sound.specs.Columns.{columnsOf}
 use Rattle.removal.specs.Going.{goingOf}
 
 -- ---- all are places

@@ -9,7 +9,8 @@ use native.Mathlib.Omega.{arith}
 use Rattle.piece.specs.declared.node.Datum.{Datum}
 use Rattle.piece.specs.declared.settings.Settings.{Settings}
 use Rattle.piece.specs.Row.{nil, grow}
-use Rattle.tree.specs.Tree.{Tree, In, At, Distinct, isFree, isNil, after}
+use Rattle.piece.specs.Kinds.{isFree}
+use Rattle.tree.specs.Tree.{Tree, In, At, Distinct, isNil, after}
 use Rattle.tree.specs.Sound.{Sound}
 use Rattle.tree.specs.Removal.{freed, board, lastFree, withoutLast, settled, remove, cleared}
 use Rattle.tree.specs.Apart.{Removable}

@@ -9,8 +9,9 @@ use Prim.Native.Nat.{ℕ, _+_}
 use lib.Dec.{leb}
 use Rattle.piece.specs.declared.node.Datum.{Datum}
 use Rattle.piece.specs.declared.settings.Settings.{Settings}
+use Rattle.piece.specs.Kinds.{isFree}
 use Rattle.lists.specs.Lists.{limit}
-use Rattle.tree.specs.Tree.{Tree, In, At, isFree}
+use Rattle.tree.specs.Tree.{Tree, In, At}
 use Rattle.tree.specs.Sound.{Sound}
 use Rattle.tree.specs.Removal.{remove, cleared, subtree}
 use Rattle.tree.specs.Apart.{Removable}

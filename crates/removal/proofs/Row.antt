@@ -7,8 +7,9 @@ use Prim.Native.Nat.{ℕ, _+_}
 use Rattle.piece.specs.declared.node.Datum.{Datum}
 use Rattle.piece.specs.declared.settings.Settings.{Settings}
 use Rattle.piece.specs.Row.{nil, grow}
+use Rattle.piece.specs.Kinds.{isFree}
 use Rattle.lists.proofs.Scan.{and-left, and-right}
-use Rattle.tree.specs.Tree.{Tree, isFree, isNil, after}
+use Rattle.tree.specs.Tree.{Tree, isNil, after}
 use Rattle.tree.specs.Sound.{Sound}
 use Rattle.tree.specs.Removal.{freed, board, lastFree, withoutLast, settled, remove, cleared}
 use Rattle.tree.specs.Apart.{Removable}

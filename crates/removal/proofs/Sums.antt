@@ -12,7 +12,8 @@ use Rattle.piece.specs.declared.node.Kind.{Kind}
 use Rattle.piece.specs.declared.node.Kind.the-variants.{Free, Part, Structure}
 use Rattle.piece.specs.declared.settings.Settings.{Settings}
 use Rattle.piece.specs.Row.{nil, grow}
-use Rattle.tree.specs.Tree.{Tree, Distinct, count, isFree, isPart, isNil, after}
+use Rattle.piece.specs.Kinds.{isFree, isPart}
+use Rattle.tree.specs.Tree.{Tree, Distinct, count, isNil, after}
 use Rattle.tree.specs.Sound.{Sound}
 use Rattle.tree.specs.Figures as figures
 use Rattle.tree.specs.Removal.{freed, board, lastFree, withoutLast, settled, remove, cleared, removed, subtree}

@@ -10,9 +10,9 @@ use lib.ListN.{getD}
 use Rattle.table.specs.declared.Node.{Node}
 use Rattle.table.specs.Table.{at, unlink}
 use Rattle.table.specs.Steps.{unlinkAll}
-use Rattle.walks.specs.Along.{entries}
 use Rattle.removal.specs.Going.{areaAlong, partArea}
 use Rattle.removal.specs.Inner.{Goes}
+use Rattle.lists.specs.Lists.{entries}
 
 -- ---- unlinking
 

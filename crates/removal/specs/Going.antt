@@ -3,13 +3,12 @@ use mathlib.Core.List.{List, [], _∷_, _++_}
 use Prim.Native.Nat.{ℕ, _+_}
 use Rattle.piece.specs.Sides.{area}
 use Rattle.piece.specs.declared.node.Datum.{Datum}
+use Rattle.piece.specs.Kinds.{isPart}
 use mathlib.Core.Bool.{cond}
-use Rattle.tree.specs.Tree.{isPart}
 use Rattle.table.specs.declared.Node.{Node}
 use Rattle.table.specs.Table.{at}
 use Rattle.table.specs.Steps.{freeLastPlace}
-use Rattle.lists.specs.Lists.{limit}
-use Rattle.walks.specs.Along.{entries}
+use Rattle.lists.specs.Lists.{limit, entries}
 use Rattle.walks.specs.Columns.{orderIn}
 use Rattle.removal.specs.declared.going.Going.{Going}
 

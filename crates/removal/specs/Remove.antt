@@ -6,8 +6,8 @@ use mathlib.Core.Option.{Option, none, some}
 use Prim.Native.Nat.{ℕ, _+_}
 use lib.Dec.{leb}
 use Rattle.piece.specs.declared.node.Datum.{Datum}
+use Rattle.piece.specs.Kinds.{isFree}
 use Rattle.tree.specs.Removal.{freed, board}
-use Rattle.tree.specs.Tree.{isFree}
 use Rattle.tree.specs.ListSteps.{cutAll, push, put, strike, strikeAll}
 use Rattle.table.specs.declared.Node.{Node}
 use Rattle.table.specs.Table.{at, append}

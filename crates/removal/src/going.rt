@@ -8,10 +8,9 @@ ghost use Rattle.table.specs.Steps.{freeLastPlace};
 ghost use Rattle.table.specs.Table.{at};
 ghost use Rattle.walks.specs.Inner.{Placed};
 ghost use Rattle.removal.specs.Going.{goingOf, places};
-use sound::columns::columns_of;
-use sound::places::is_free;
 use table::LIMIT;
 use table::Node;
+use walks::columns::columns_of;
 use walks::order::order_out;
 
 // The places that go; the entries past the count are zero.
@@ -33,7 +32,7 @@ fn put_free_last(nodes: [Node; LIMIT], q: u16, order: &mut [u16], n: usize) -> u
     let end = nodes[li];
     let d = end.datum;
     let kind = d.kind;
-    if is_free(kind) {
+    if kind.is_free() {
         order[n] = l;
         n + 1
     } else {

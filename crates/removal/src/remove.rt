@@ -19,7 +19,6 @@ use piece::size::Size;
 use register::LayoutNodes;
 use register::listing::Listing;
 use register::listing::areas_of;
-use sound::places::is_free;
 use table::LIMIT;
 use table::NONE;
 use table::Node;
@@ -136,7 +135,7 @@ fn board_with(d: Datum, end: Datum) -> Size
     ensures { λ r. ⌜ r ≡ board d (ifFree end) ⌝ }
 {
     let kind = end.kind;
-    if is_free(kind) {
+    if kind.is_free() {
         return join(d, end);
     }
     d.size

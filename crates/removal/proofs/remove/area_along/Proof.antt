@@ -4,7 +4,7 @@ use mathlib.Core.Path.{_≡_, refl, ap, _∙_}
 use Prim.Native.Nat.{ℕ, _-_, _≤_}
 use native.Mathlib.Omega.{arith}
 use borrow.Author.Needs.{needs}
-use Rattle.walks.specs.Along.{entries}
+use Rattle.lists.specs.Lists.{entries}
 use Rattle.removal.specs.Going.{areaAlong}
 use Rattle.removal.proofs.Turns.{area-more, area-most}
 use Rattle.removal.proofs.remove.area_along.Statement.{statement}

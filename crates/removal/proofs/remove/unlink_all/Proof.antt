@@ -6,10 +6,9 @@ use Prim.Native.Nat.{ℕ, _-_, _≤_, _<_}
 use native.Mathlib.Omega.{arith}
 use borrow.Author.Needs.{needs}
 use lib.ListN.{getD}
-use Rattle.lists.specs.Lists.{limit}
+use Rattle.lists.specs.Lists.{limit, entries}
 use Rattle.table.specs.Steps.{unlinkAll}
 use Rattle.table.specs.Table.{at}
-use Rattle.walks.specs.Along.{entries}
 use Rattle.table.proofs.Unlinked.{first-joined, next-joined, last-joined, prev-joined, unlinked}
 use Rattle.removal.proofs.Turns.{goes-at, unlink-more}
 use Rattle.removal.proofs.remove.unlink_all.Statement.{statement}
