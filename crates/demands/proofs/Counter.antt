@@ -27,9 +27,9 @@ use Rattle.looks.specs.Answers.{offersCall}
 use Rattle.frames.specs.declared.Request.{Request}
 use Rattle.frames.specs.Answers.{Answer, refused}
 use Rattle.session.specs.declared.Session.{Session}
-use Rattle.session.specs.declared.desk.Desk.{Desk}
+use Rattle.session.specs.declared.listener.Listener.{Listener}
 use Rattle.session.specs.Session.{started, Reply, Answers, afterOffers, afterInsert, afterRemove}
-use Rattle.session.specs.Desk.{askedIn, Runs, none, more, Served, opening}
+use Rattle.session.specs.Listener.{askedIn, Runs, none, more, Served, opening}
 use Rattle.session.proofs.Decided.{answers-once}
 use Rattle.session.proofs.Laws.{served-run}
 use Rattle.demands.specs.Life.{Names}
@@ -274,10 +274,10 @@ through (x ∷ xs) a ys (more {line = line} step run) =
       rest = z .rest;
     }
 
--- The desk, however its input was cut: the marks of each of its answers last.
-pub marks-last-at-the-desk : {d : Desk} {cs : List (List ℕ)} (xs : List Answer) (a : Answer) (ys : List Answer) → Served opening cs (xs ++ (a ∷ ys)) d
+-- The listener, however its input was cut: the marks of each of its answers last.
+pub marks-last-in-chunks : {d : Listener} {cs : List (List ℕ)} (xs : List Answer) (a : Answer) (ys : List Answer) → Served opening cs (xs ++ (a ∷ ys)) d
     → (z : Through started (feeds empty cs .lines) xs a ys (d .session))
     × ((k : Mark) → List·Memᴰ k (marksWritten a) → OpenedOnce (k .layout) (openings (xs ++ (a ∷ ys))) → Lasts (z .to) ys (d .session) k)
-marks-last-at-the-desk xs a ys served =
+marks-last-in-chunks xs a ys served =
     let z = through xs a ys (served-run served .runs) in
     (z, marks-last-at-the-counter (z .first) (askedIn (z .line)) a (z .answer) (z .rest))

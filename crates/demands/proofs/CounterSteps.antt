@@ -5,6 +5,7 @@ use mathlib.Core.Path.{_≡_, refl, sym, ap, _∙_}
 use mathlib.Core.Bool.{true}
 use mathlib.Core.List.{List, [], _∷_, List·Memᴰ, List·Memᴰ·head, List·Memᴰ·not-nil, List·Memᴰ·cases-cons, List·Memᴰ·eq-of-singleton}
 use mathlib.Core.Logic.{_⊎_, inl, inr, ⊎-elim}
+use mathlib.Core.Option.{some}
 use Prim.Native.Nat.{ℕ}
 use Rattle.piece.specs.declared.rotation.Rotation.{Rotation}
 use Rattle.piece.specs.declared.parttype.PartType.{PartType}
@@ -19,7 +20,6 @@ use Rattle.layout.specs.declared.replies.Outcome.{Outcome}
 use Rattle.layout.specs.declared.replies.Outcome.the-variants as outcomes
 use Rattle.layout.specs.declared.insert.Inserted.{Inserted}
 use Rattle.layout.specs.Check.{limit, soundB}
-use Rattle.layout.specs.Asked.{freePieceOf}
 use Rattle.layout.specs.SoundLayout.{Sized}
 use Rattle.layout.specs.Zero.{zeroLayout}
 use Rattle.layout.specs.Open.{openOf}
@@ -30,13 +30,13 @@ use Rattle.layout.proofs.Exactly.{sound-shown, zero-refused}
 use Rattle.layout.proofs.Admitted.{insertable, passed}
 use Rattle.layout.proofs.Inserted.{insert-accepted}
 use Rattle.layout.proofs.Gone.{remove-accepted}
+use Rattle.frames.specs.declared.Ask.the-variants.{Open, Offers, Insert, Remove, Report}
 use Rattle.frames.specs.declared.Request.{Request}
-use Rattle.frames.specs.declared.Request.the-variants.{Open, Offers, Insert, Remove, Keep, Restore, Report, Malformed}
+use Rattle.frames.specs.declared.Request.the-variants.{OfLayout, Keep, Restore, Malformed}
 use Rattle.frames.specs.Answers.{Answer, opened}
 use Rattle.session.specs.declared.Session.{Session}
-use Rattle.looks.specs.Answers.{offersCall}
-use Rattle.session.specs.Session.{started, withLayout, Reply, reply, answerBy, openedBy, afterOpen, afterOffers, marksSaid, afterInsert}
-use Rattle.session.specs.Session.{numbersSaid, afterRemove, afterKeep, afterRestore, afterReport, Answers}
+use Rattle.session.specs.Session.{started, withLayout, reply, answerBy, openedBy, afterOpen, marksSaid, numbersSaid, Answers, opOf}
+use Rattle.session.proofs.Refused.{unsound-refused}
 use Rattle.demands.specs.Life.{Life, Given, byOpen, byInsertFirst, byInsertPart, byInsertFree, byRemove}
 use Rattle.demands.specs.Life as life
 use Rattle.demands.specs.Counter.{marksWritten, opens, Declines, GoesOn, Stale, Lives}
@@ -58,20 +58,24 @@ started-stays {s} {t} e h i =
     kept (inl y) = y ∙ ap (λ (x : Session). x .kept) e
     kept (inr y) = y ∙ ap (λ (x : Session). x .layout) e
 
--- each request is refused
+-- each request is refused, since the layout isn't sound
+declined : (q : Request) (op : ℕ) → opOf q ≡ some op → (t : Session) (a : Answer) → Answers started q t a → Declines a
+declined q op looks t a h = rw (says (unsound-refused started q op looks zero-refused t a h)) tt
+
 pub started-declines : (q : Request) (t : Session) (a : Answer) → Answers started q t a → opens a ≡ [] → Declines a
-unfolding Answers afterOpen afterOffers afterInsert afterRemove afterKeep afterRestore afterReport offersCall InsertSays insertNo freePieceOf RemoveSays removeNo restoreOf
-started-declines (Open number size cut stages) t a h e = go (openOf number size cut stages .outcome) h
+unfolding Answers afterOpen
+started-declines (OfLayout (Open o)) t a h e =
+    let d = openOf (o .number) (o .settings .sheet) (o .cut) (o .settings .stages) in go (d .layout) (d .outcome) h
   where
-    go : (o : Opening) → reply t a ≡ openedBy started (openOf number size cut stages .layout) o → Declines a
-    go (opening.Free m) h = let z : _≡_ {A = List ℕ} (m .layout ∷ []) [] = ap opens (sym (says h)) ∙ e in absurd (clash (cc))
-    go (opening.Refused r) h = rw (says h) tt
-started-declines (Offers m p) t a h e = rw (rw zero-refused at (says h)) tt
-started-declines (Insert m p r f) t a h e = let z = rw zero-refused at (h .1) in rw (says (h .2), z) tt
-started-declines (Remove m) t a h e = let z = rw zero-refused at (h .1) in rw (says (h .2), z) tt
-started-declines Keep t a h e = rw (ap (λ (r : Reply). r .answer) (rw zero-refused at h)) tt
-started-declines Restore t a h e = rw (rw zero-refused at (says h)) tt
-started-declines Report t a h e = rw (rw zero-refused at (says h)) tt
+    go : (l : Layout) (v : Opening) → reply t a ≡ openedBy started l v → Declines a
+    go l (opening.Free m) h = let z : _≡_ {A = List ℕ} (m .layout ∷ []) [] = ap opens (sym (says h)) ∙ e in absurd (clash (cc))
+    go l (opening.Refused r) h = rw (says h) tt
+started-declines (OfLayout (Offers m p)) t a h e = declined (OfLayout (Offers m p)) 2 refl t a h
+started-declines (OfLayout (Insert m p r f)) t a h e = declined (OfLayout (Insert m p r f)) 3 refl t a h
+started-declines (OfLayout (Remove m)) t a h e = declined (OfLayout (Remove m)) 4 refl t a h
+started-declines (OfLayout Report) t a h e = declined (OfLayout Report) 7 refl t a h
+started-declines Keep t a h e = declined Keep 5 refl t a h
+started-declines Restore t a h e = declined Restore 6 refl t a h
 started-declines Malformed t a h e = rw (says h) tt
 
 -- ---- a number that has not been opened: neither the layout nor what is kept could be put back on one of that number

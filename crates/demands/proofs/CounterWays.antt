@@ -35,8 +35,9 @@ use Rattle.layout.specs.Restore.{greater, withSerial, restoreOf}
 use Rattle.layout.proofs.Exactly.{sound-says, sound-shown, zero-sized}
 use Rattle.layout.proofs.Opened.{fresh-sized, fresh-sound}
 use Rattle.layout.proofs.Restored.{restored-sound}
+use Rattle.frames.specs.declared.Ask.the-variants.{Open, Offers, Insert, Remove, Report}
 use Rattle.frames.specs.declared.Request.{Request}
-use Rattle.frames.specs.declared.Request.the-variants.{Open, Offers, Insert, Remove, Keep, Restore, Report, Malformed}
+use Rattle.frames.specs.declared.Request.the-variants.{OfLayout, Keep, Restore, Malformed}
 use Rattle.frames.specs.Answers.{Answer, refused, opened, done}
 use Rattle.session.specs.declared.Session.{Session}
 use Rattle.looks.specs.Answers.{offersCall}
@@ -92,18 +93,28 @@ outcome-quiet op b q (outcomes.Refused e) = refused-quiet op e
 
 pub way : (s : Session) (q : Request) (t : Session) (a : Answer) → Answers s q t a → Way s t a
 unfolding Answers afterOpen afterOffers afterInsert afterRemove afterKeep afterRestore afterReport
-way s (Open number size cut stages) t a h = go (openOf number size cut stages .outcome) refl h
+way s (OfLayout (Open o)) t a h = go (openOf (o .number) (o .settings .sheet) (o .cut) (o .settings .stages) .outcome) refl h
   where
-    go : (o : Opening) → openOf number size cut stages .outcome ≡ o → reply t a ≡ openedBy s (openOf number size cut stages .layout) o → Way s t a
+    go : (v : Opening) → openOf (o .number) (o .settings .sheet) (o .cut) (o .settings .stages) .outcome ≡ v
+        → reply t a ≡ openedBy s (openOf (o .number) (o .settings .sheet) (o .cut) (o .settings .stages) .layout) v → Way s t a
     go (opening.Free m) e h =
         byOpening
-        (record { number = number; size = size; cut = cut; stages = stages; mark = m; accepted = e; state = to h; answer = says h })
+        (record {
+          number = o .number;
+          size = o .settings .sheet;
+          cut = o .cut;
+          stages = o .settings .stages;
+          mark = m;
+          accepted = e;
+          state = to h;
+          answer = says h;
+        })
     go (opening.Refused r) e h = byNone (to h) (quiet h (refused-quiet 1 r))
-way s (Offers m p) t a h =
+way s (OfLayout (Offers m p)) t a h =
     byNone (to h)
     (quiet h (outcome-quiet 2 (offersSaid (offersCall (s .layout) m p .offers)) (record { marks = refl; number = refl }) (offersCall (s .layout) m p .outcome)))
-way s (Insert m p r f) t a h = byInsert m p r f (h .0) (h .1) (to (h .2)) (says (h .2))
-way s (Remove m) t a h = byRemoval m (h .0) (h .1) (to (h .2)) (says (h .2))
+way s (OfLayout (Insert m p r f)) t a h = byInsert m p r f (h .0) (h .1) (to (h .2)) (says (h .2))
+way s (OfLayout (Remove m)) t a h = byRemoval m (h .0) (h .1) (to (h .2)) (says (h .2))
 way s Keep t a h = go (soundB (s .layout)) h
   where
     go : (b : Bool) → reply t a ≡ keptBy s b → Way s t a
@@ -111,7 +122,7 @@ way s Keep t a h = go (soundB (s .layout)) h
     go false h = byNone (to h) (quiet h (refused-quiet 5 NotSound))
 way s Restore t a h =
     byRestore (to h) (quiet h (outcome-quiet 6 (done 6) (record { marks = refl; number = refl }) (restoreOf (s .layout) (s .kept) .outcome)))
-way s Report t a h = byNone (to h) (quiet h (go (soundB (s .layout))))
+way s (OfLayout Report) t a h = byNone (to h) (quiet h (go (soundB (s .layout))))
   where
     go : (b : Bool) → Quiet (reportBy (s .layout) b)
     go true = record { marks = refl; number = refl }

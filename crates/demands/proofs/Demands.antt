@@ -2,7 +2,7 @@
 -- specs/Life.antt (the life of a layout, what a mark names), specs/Calls.antt (an accepted call, the same tree), specs/Examined.antt (what each call
 -- answers to a layout that isn't sound) and specs/Counter.antt (the counter's answers). A call is given by its contract alone, so what is said holds of every program that meets it;
 -- each contract has one answer (UniqueAnswers, SomeAnswer). `Sized` is what the type of a layout says: its arrays have as many entries as there are places. Nothing is assumed.
-use mathlib.Core.Path.{_≡_}
+use mathlib.Core.Path.{_≡_, refl}
 use mathlib.Core.List.{List, [], _∷_, _++_, List·Memᴰ}
 use mathlib.Core.Logic.{_⊎_}
 use mathlib.Core.Option.{some}
@@ -35,27 +35,27 @@ use Rattle.layout.specs.Asked.{partB, soughtOf}
 use Rattle.layout.specs.Insert.{InsertSays, insertNo, pieceAt}
 use Rattle.layout.specs.Remove.{RemoveSays, numbersLeft, removeNo}
 use Rattle.layout.specs.Restore.{restoreOf}
+use Rattle.layout.proofs.Refusals as refusals
 use Rattle.looks.specs.declared.replies.CountAnswer.the-variants as counts
 use Rattle.looks.specs.Answers.{offersCall}
 use Rattle.looks.specs.Written.{answerTo, leftIn}
+use Rattle.looks.proofs.Refusals as looking
 use Rattle.reasons.specs.Answers.{whyCall}
 use Rattle.lines.specs.Text.{Line}
 use Rattle.frames.specs.declared.Request.{Request}
-use Rattle.frames.specs.declared.Request.the-variants.{Open}
 use Rattle.frames.specs.Answers.{Answer, opened}
 use Rattle.session.specs.declared.Session.{Session}
 use Rattle.session.specs.Session.{Answers, started}
-use Rattle.session.specs.Desk.{Runs}
+use Rattle.session.specs.Listener.{Runs}
 use Rattle.demands.specs.Life.{Given, Later, Life, Names, OneOf, SamePiece, openedOn, stock}
 use Rattle.demands.specs.Calls.{AreasCover, InsertAccepted, RemoveAccepted, SameTree}
 use Rattle.demands.specs.Examined.{Examined}
-use Rattle.demands.specs.Counter.{Lasts, Lives, OpenedOnce, marksWritten, openings}
+use Rattle.demands.specs.Counter.{Lasts, Lives, OpenedOnce, marksWritten, openings, toOpen}
 use Rattle.demands.proofs.Lives as lives
 use Rattle.demands.proofs.Marks as marks
 use Rattle.demands.proofs.MarksGiven as given
 use Rattle.demands.proofs.Counter as counter
 use Rattle.demands.proofs.Reopened as reopened
-use Rattle.demands.proofs.Refusals as refusals
 use Rattle.demands.proofs.BookedThenRemoved as booked
 use Rattle.demands.proofs.BookingsCommute as bookings
 use Rattle.demands.proofs.RemovalsCommute as removals
@@ -92,7 +92,7 @@ pub a-life-is-sound : {ls : List Layout} → Life ls → (l : Layout) → OneOf 
 a-life-is-sound = lives.states-sound
 
 -- ---- Demand 1, at the counter: people send lines and have only what the answers say. The words are in specs/Counter.antt. (The same of an input in chunks:
--- `marks-last-at-the-desk`, proofs/Counter.antt; what a second opening does: proofs/Reopened.antt.)
+-- `marks-last-in-chunks`, proofs/Counter.antt; what a second opening does: proofs/Reopened.antt.)
 
 -- from its start a run of the counter, over any lines, is a life of the layout that stands, if that number was opened once; or nothing was opened
 pub a-run-is-a-life : {t : Session} {lines : List Line} {xs : List Answer} → Runs started lines xs t
@@ -107,8 +107,8 @@ a-mark-at-the-counter = counter.marks-last-at-the-counter
 
 -- a second opening of the number answers the same mark, and it names a piece of the new sheet: so the law is of a number that was opened once
 pub a-second-opening : (s t u v : Session) (number : ℕ) (size : Size) (cut : Orientation) (stages : ℕ) (m : Mark)
-    → Answers s (Open number size cut stages) t (opened m) → (size′ : Size) (cut′ : Orientation) (stages′ : ℕ) (m′ : Mark)
-    → Answers u (Open number size′ cut′ stages′) v (opened m′)
+    → Answers s (toOpen number size cut stages) t (opened m) → (size′ : Size) (cut′ : Orientation) (stages′ : ℕ) (m′ : Mark)
+    → Answers u (toOpen number size′ cut′ stages′) v (opened m′)
     → (m′ ≡ m) × Names (v .layout) m × (SamePiece (t .layout) (v .layout) m → size′ ≡ size)
 a-second-opening = reopened.the-same-number
 
@@ -117,25 +117,25 @@ a-second-opening = reopened.the-same-number
 
 pub a-refused-insert : (l : Layout) (m : Mark) (p : PartType) (r : Rotation) (s : InsertionShape) (a : Inserted) (e : Refusal)
     → insertNo l m p r s ≡ some e → InsertSays l m p r s a → (a .layout ≡ l) × (a .outcome ≡ Refused e) × (a .marks ≡ zeroMarks)
-a-refused-insert = refusals.insert-refused
+a-refused-insert l m p r s a e h says = rw (refusals.refused-insert l m p r s a e h says) (refl, refl, refl)
 
 pub a-refused-remove : (l : Layout) (m : Mark) (room : ℕ) (a : Removed) (e : Refusal) → removeNo l m room ≡ some e → RemoveSays l m room a
     → (a .layout ≡ l) × (a .outcome ≡ Refused e) × (a .free ≡ zeroMark) × (a .count ≡ 0)
-a-refused-remove = refusals.remove-refused
+a-refused-remove l m room a e h says = rw (refusals.refused-remove l m room a e h says) (refl, refl, refl, refl)
 
 pub its-buffer : (l : Layout) (m : Mark) (out : List ℕ) (e : Refusal) → removeNo l m (length out) ≡ some e → numbersLeft l m out ≡ out
-its-buffer = refusals.remove-untouched
+its-buffer = refusals.refused-numbers
 
 pub a-refused-restore : (l s : Layout) (e : Refusal) → restoreOf l s .outcome ≡ Refused e → restoreOf l s .layout ≡ l
-a-refused-restore = refusals.restore-refused
+a-refused-restore = refusals.refused-restore
 
 pub a-refused-opening : (number : ℕ) (size : Size) (cut : Orientation) (stages : ℕ) (e : Refusal)
     → openOf number size cut stages .outcome ≡ opening.Refused e → openOf number size cut stages .layout ≡ zeroLayout
-a-refused-opening = refusals.open-refused
+a-refused-opening = refusals.refused-open
 
 -- the calls that write into a lent buffer and hand no layout back, by what each writes: `snapshotBytes l`, `heldNumbers l` and `sawBytes l`
 pub a-refused-writing : (l : Layout) (what out : List ℕ) (e : Refusal) → answerTo l what (length out) ≡ counts.Refused e → leftIn l what out ≡ out
-a-refused-writing = refusals.writing-refused
+a-refused-writing = looking.refused-writing
 
 -- "examines the layout it is handed first": specs/Examined.antt lists what every public call answers to a layout that isn't sound, refusal 1
 pub examined-first : (l : Layout) → soundB l ≡ false → Examined l

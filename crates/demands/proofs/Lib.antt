@@ -3,7 +3,6 @@ pub mod Outcomes
 pub mod Lives
 pub mod Marks
 pub mod MarksNamed
-pub mod Refusals
 pub mod Examined
 pub mod Accepted
 pub mod Allowed

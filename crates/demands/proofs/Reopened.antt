@@ -24,20 +24,20 @@ use Rattle.layout.specs.Restore.{greater, withSerial, restoreOf}
 use Rattle.layout.proofs.Exactly.{sound-shown}
 use Rattle.layout.proofs.Listed.{piece-is}
 use Rattle.layout.proofs.Opened.{fresh-tree, fresh-sized, fresh-sound}
-use Rattle.frames.specs.declared.Request.the-variants.{Open, Restore}
+use Rattle.frames.specs.declared.Request.the-variants.{Restore}
 use Rattle.frames.specs.Answers.{opened, done}
 use Rattle.session.specs.declared.Session.{Session}
 use Rattle.session.specs.Session.{Reply, withLayout, reply, openedBy, afterOpen, afterRestore, Answers}
 use Rattle.session.proofs.Kept.{kept-after}
 use Rattle.demands.specs.Life.{Names, SamePiece}
-use Rattle.demands.specs.Counter.{Refuses}
+use Rattle.demands.specs.Counter.{Refuses, toOpen}
 use Rattle.demands.proofs.Outcomes.{opened-so}
 use Rattle.demands.proofs.MarksNamed.{open-mark-names}
 use Rattle.demands.proofs.Counter.{other-refused}
 
 module _ (number : ℕ) (size : Size) (cut : Orientation) (stages : ℕ) where
   -- the opening was accepted, and the layout is its
-  accepted : (s t : Session) (m : Mark) → Answers s (Open number size cut stages) t (opened m)
+  accepted : (s t : Session) (m : Mark) → Answers s (toOpen number size cut stages) t (opened m)
       → (openOf number size cut stages .outcome ≡ opening.Free m) × (t .layout ≡ openOf number size cut stages .layout)
   unfolding Answers afterOpen
   accepted s t m h = go (openOf number size cut stages .outcome) h
@@ -69,7 +69,7 @@ module _ (number : ℕ) (size : Size) (cut : Orientation) (stages : ℕ) where
 
 -- OF ANOTHER NUMBER: each mark that does not have it is refused with 4
 pub another-number : (s t : Session) (number : ℕ) (size : Size) (cut : Orientation) (stages : ℕ) (m : Mark)
-    → Answers s (Open number size cut stages) t (opened m) → (k : Mark) → (k .layout ≡ number → ⊥) → Refuses OtherLayout t k
+    → Answers s (toOpen number size cut stages) t (opened m) → (k : Mark) → (k .layout ≡ number → ⊥) → Refuses OtherLayout t k
 another-number s t number size cut stages m h k other =
     let z = accepted number size cut stages s t m h in
     let number = ap (λ (l : Layout). l .number) (z .1) ∙ its-number number size cut stages m (z .0) in
@@ -77,8 +77,8 @@ another-number s t number size cut stages m h k other =
 
 -- OF THE SAME NUMBER: it answers the same mark, which names a piece of the new layout; and that is the first one's only if the sheet has its size
 pub the-same-number : (s t u v : Session) (number : ℕ) (size : Size) (cut : Orientation) (stages : ℕ) (m : Mark)
-    → Answers s (Open number size cut stages) t (opened m) → (size′ : Size) (cut′ : Orientation) (stages′ : ℕ) (m′ : Mark)
-    → Answers u (Open number size′ cut′ stages′) v (opened m′)
+    → Answers s (toOpen number size cut stages) t (opened m) → (size′ : Size) (cut′ : Orientation) (stages′ : ℕ) (m′ : Mark)
+    → Answers u (toOpen number size′ cut′ stages′) v (opened m′)
     → (m′ ≡ m) × Names (v .layout) m × (SamePiece (t .layout) (v .layout) m → size′ ≡ size)
 the-same-number s t u v number size cut stages m h size′ cut′ stages′ m′ h′ =
     let z = accepted number size cut stages s t m h in
@@ -95,12 +95,12 @@ the-same-number s t u v number size cut stages m h size′ cut′ stages′ m′
 
 -- and what is kept of the first can be put back on it: the marks of the first opening name its pieces again
 pub the-first-put-back : (u v : Session) (number : ℕ) (size : Size) (cut : Orientation) (stages : ℕ) (m : Mark)
-    → Answers u (Open number size cut stages) v (opened m) → soundB (u .kept) ≡ true → u .kept .number ≡ number
+    → Answers u (toOpen number size cut stages) v (opened m) → soundB (u .kept) ≡ true → u .kept .number ≡ number
     → (w : Session) × Answers v Restore w (done 6) × (w .layout .nodes ≡ u .kept .nodes)
 unfolding Answers afterRestore restoreOf
 the-first-put-back u v number size cut stages m h sound same =
     let z = accepted number size cut stages u v m h in
-    let kept : v .kept ≡ u .kept = kept-after u (Open number size cut stages) v (opened m) h in
+    let kept : v .kept ≡ u .kept = kept-after u (toOpen number size cut stages) v (opened m) h in
     let whole : soundB (v .layout) ≡ true = rw (z .1) (checked number size cut stages m (z .0)) in
     let its = ap (λ (l : Layout). l .number) (z .1) ∙ its-number number size cut stages m (z .0) in
     let agree = eq-eqb (v .layout .number) (v .kept .number) (its ∙ sym same ∙ ap (λ (l : Layout). l .number) (sym kept)) in

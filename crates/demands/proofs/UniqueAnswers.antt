@@ -17,9 +17,8 @@ pub use Rattle.looks.proofs.Determined.{free-mark-is-one, removable-mark-is-one
 pub use Rattle.looks.proofs.Determined.{snapshot-is-one, snapshot-leaves-one, part-numbers-is-one, part-numbers-leaves-one}
 pub use Rattle.saw.proofs.Unique.{cuts-is-one, cuts-leaves-one}
 pub use Rattle.reasons.proofs.Determined.{number-is-one, reason-in-is-one, why-not-is-one}
-pub use Rattle.session.proofs.Unique.{session-start-is-one, asked-is-one, step-is-one, malformed-is-one, desk-start-is-one, turn-is-one, end-is-one}
-pub use Rattle.session.proofs.Unique.{scope-of-is-one}
-pub use Rattle.session.proofs.Decided.{replies-once, keeps-once, restores-once}
+pub use Rattle.session.proofs.Unique.{session-start-is-one, asked-is-one, step-is-one, malformed-is-one, listener-start-is-one, turn-is-one, end-is-one}
+pub use Rattle.session.proofs.Decided.{replies-once, keeps-once, restores-once, same-said}
 
 pub side-ok-is-one : (side : ℕ) (a b : Bool) → a ≡ sideB side → b ≡ sideB side → a ≡ b
 side-ok-is-one side = only

@@ -10,7 +10,9 @@ use mathlib.Core.Bool.{true, false}
 use mathlib.Core.List.{List, [], _∷_, _++_, List·Memᴰ}
 use mathlib.Core.Logic.{_⊎_}
 use Prim.Native.Nat.{ℕ}
+use Rattle.piece.specs.declared.orientation.Orientation.{Orientation}
 use Rattle.piece.specs.declared.rotation.Rotation.{Rotation}
+use Rattle.piece.specs.declared.size.Size.{Size}
 use Rattle.piece.specs.declared.parttype.PartType.{PartType}
 use Rattle.piece.specs.declared.insertion_blueprint.InsertionShape.{InsertionShape}
 use Rattle.answers.specs.declared.Mark.{Mark}
@@ -19,8 +21,9 @@ use Rattle.answers.specs.declared.Refusal.the-variants.{OtherLayout, Gone}
 use Rattle.layout.specs.declared.layout.Layout.{Layout}
 use Rattle.layout.specs.Check.{soundB}
 use Rattle.layout.specs.Asked.{partB}
+use Rattle.frames.specs.declared.Ask.the-variants.{Open, Offers, Insert, Remove}
 use Rattle.frames.specs.declared.Request.{Request}
-use Rattle.frames.specs.declared.Request.the-variants.{Offers, Insert, Remove}
+use Rattle.frames.specs.declared.Request.the-variants.{OfLayout}
 use Rattle.frames.specs.Answers.{Answer, refused, opened, offered, inserted, removed, done, reported, malformed}
 use Rattle.session.specs.declared.Session.{Session}
 use Rattle.session.specs.Session.{Answers}
@@ -93,13 +96,17 @@ pub record GoesOn (s : Session) (earlier : List Layout) (t : Session) : Type 0 w
   pub lives : Lives t then
   pub holds : (l : Layout) → OneOf l (s .layout ∷ earlier) → OneOf l (t .layout ∷ then)
 
+-- ---- an opening, as it is asked for
+abbrev pub toOpen : ℕ → Size → Orientation → ℕ → Request
+toOpen number size cut stages = OfLayout (Open (record { number = number; settings = record { stages = stages; sheet = size }; cut = cut }))
+
 -- ---- a mark that was written
 
 -- the requests that carry the mark, by their op; a part has sides in the domain, since refusal 3 comes first
 pub data Carries (k : Mark) : ℕ → Request → Type 0 where
-  offersOn : (p : PartType) → partB p ≡ true → Carries k 2 (Offers k p)
-  insertIn : (p : PartType) (r : Rotation) (s : InsertionShape) → partB p ≡ true → Carries k 3 (Insert k p r s)
-  removeOf : Carries k 4 (Remove k)
+  offersOn : (p : PartType) → partB p ≡ true → Carries k 2 (OfLayout (Offers k p))
+  insertIn : (p : PartType) (r : Rotation) (s : InsertionShape) → partB p ≡ true → Carries k 3 (OfLayout (Insert k p r s))
+  removeOf : Carries k 4 (OfLayout (Remove k))
 
 -- each of them is refused with e, and changes nothing
 pub record Refuses (e : Refusal) (s : Session) (k : Mark) : Type 0 where

@@ -3,7 +3,7 @@
 -- (`Layout::sound` is the check itself.)
 use mathlib.Core.Path.{_≡_}
 use mathlib.Core.List.{List}
-use mathlib.Core.Option.{Option, none, some}
+use mathlib.Core.Option.{some}
 use Prim.Native.Nat.{ℕ}
 use Rattle.piece.specs.declared.rotation.Rotation.{Rotation}
 use Rattle.piece.specs.declared.parttype.PartType.{PartType}
@@ -29,27 +29,16 @@ use Rattle.looks.specs.Written.{answerTo, heldNumbers, leftIn, snapshotBytes}
 use Rattle.saw.specs.Written.{sawBytes}
 use Rattle.reasons.specs.Answers.{refusedWhy, whyCall}
 use Rattle.frames.specs.declared.Request.{Request}
-use Rattle.frames.specs.declared.Request.the-variants.{Open, Offers, Insert, Remove, Keep, Restore, Report, Malformed}
+use Rattle.frames.specs.declared.Request.the-variants.{Restore}
 use Rattle.frames.specs.Answers.{Answer, refused}
 use Rattle.session.specs.declared.Session.{Session}
-use Rattle.session.specs.Session.{Answers, reply}
+use Rattle.session.specs.Session.{Answers, opOf, reply}
 use Rattle.session.specs.Replies.{both}
 
 -- of a call that would write this into a lent buffer
 pub record NothingWritten (l : Layout) (what : List ℕ) : Type 0 where
   pub answer : (room : ℕ) → answerTo l what room ≡ counts.Refused NotSound
   pub buffer : (out : List ℕ) → leftIn l what out ≡ out
-
--- the op of a request that is about the layout: all but an opening, and what is malformed ("before all others")
-abbrev pub opOf : Request → Option ℕ
-opOf (Open number size cut stages) = none
-opOf (Offers mark part) = some 2
-opOf (Insert mark part rotation shape) = some 3
-opOf (Remove mark) = some 4
-opOf Keep = some 5
-opOf Restore = some 6
-opOf Report = some 7
-opOf Malformed = none
 
 pub record Examined (l : Layout) : Type 0 where
   -- crate layout; `restore` examines both that it is handed, and `free_piece` is the head of every call on a free piece

@@ -1,34 +1,34 @@
 -- The laws of the step: the record and the line decide what comes of them; a refusal leaves the record as it was, whatever it holds; a record with an
 -- unlisted kind or cut is refused with 1; the next record stands for the next session. And of the list of saw cuts: the record and the bytes decide it,
--- and there is none of an unlisted record. Rests on `session`'s proofs/Decided and proofs/Kept, and on Listed and Refused.
+-- and there is none of an unlisted record. Rests on `session`'s proofs/Decided, proofs/Kept and proofs/Refused, and on Listed.
 use mathlib.Core.Path.{_≡_, refl, sym, ap, _∙_}
 use mathlib.Core.Bool.{Bool, true, false, cond}
 use mathlib.Core.List.{List}
 use mathlib.Core.Logic.{_⊎_, inl, inr}
+use mathlib.Core.Option.{some}
 use Prim.Native.Nat.{ℕ}
 use lib.ListN.{length}
 use Rattle.lists.proofs.Scan.{test, clash}
 use Rattle.answers.specs.declared.Refusal.the-variants.{NotSound}
+use Rattle.frames.specs.declared.Ask.{Ask}
 use Rattle.frames.specs.declared.Request.{Request}
-use Rattle.frames.specs.declared.Request.the-variants as requests
+use Rattle.frames.specs.declared.Request.the-variants.{OfLayout, Keep, Restore, Malformed}
 use Rattle.frames.specs.Requests.{requestOf}
 use Rattle.frames.specs.Answers.{Answer, refused, answerLine}
 use Rattle.layout.specs.declared.layout.Layout.{Layout}
 use Rattle.layout.specs.Check.{soundB}
 use Rattle.session.specs.declared.Session.{Session}
-use Rattle.session.specs.declared.replies.Scope.{Scope}
-use Rattle.session.specs.declared.replies.Scope.the-variants.{Alone, Keep, Restore}
-use Rattle.session.specs.Session.{Reply, reply, held, keptBy, afterKeep, Answers}
-use Rattle.session.specs.Replies.{scopeOf, refusal}
+use Rattle.session.specs.Session.{Reply, reply, held, keptBy, afterKeep, Answers, opOf}
+use Rattle.session.specs.Replies.{refusal}
 use Rattle.session.proofs.Decided.{answers-once}
 use Rattle.session.proofs.Kept.{kept-after}
+use Rattle.session.proofs.Refused.{refused-stays, unsound-refused, unsound-kept-refused}
 use Rattle.kiosk.specs.declared.records.LayoutRecord.{LayoutRecord}
 use Rattle.kiosk.specs.declared.records.SessionRecord.{SessionRecord}
 use Rattle.kiosk.specs.Records.{layoutOf, sessionOf, layoutRecord, AllListed, allListedB}
 use Rattle.kiosk.specs.Step.{keptRecord, recordAfter, Answered}
 use Rattle.kiosk.specs.Cuts.{Handed}
 use Rattle.kiosk.proofs.Listed.{unlisted-unsound, layout-listed, layout-back, sound-stays}
-use Rattle.kiosk.proofs.Refused.{opOf, looksB, refused-stays, unsound-refused, unsound-kept-refused}
 
 -- ---- decided
 
@@ -38,7 +38,7 @@ pub answered-once : {before n m : SessionRecord} {line xs ys : List ℕ} {j k : 
 answered-once {before} {line = line} a b =
     let e = answers-once (sessionOf before) (requestOf line) (a .steps .answers) (b .steps .answers) in
     let said : a .steps .answer ≡ b .steps .answer = ap (λ (r : Reply). r .answer) e in (
-      a .left ∙ ap (λ (r : Reply). recordAfter before (refusal (r .answer)) (scopeOf (requestOf line)) (r .session .layout)) e ∙ sym (b .left),
+      a .left ∙ ap (λ (r : Reply). recordAfter before (refusal (r .answer)) (requestOf line) (r .session .layout)) e ∙ sym (b .left),
       a .written ∙ a .steps .padded ∙ ap held said ∙ sym (b .steps .padded) ∙ sym (b .written),
       a .counted ∙ a .steps .count ∙ ap (λ (x : Answer). length (answerLine x)) said ∙ sym (b .steps .count) ∙ sym (b .counted),
     )
@@ -54,23 +54,27 @@ handed-once a b = (a .written ∙ sym (b .written), a .counted ∙ sym (b .count
 pub record-stays : {before next : SessionRecord} {line answer : List ℕ} {count : ℕ} (a : Answered before line next answer count)
     → refusal (a .steps .answer) ≡ true → next ≡ before
 record-stays {before} {line = line} a refuses =
-    a .left ∙ ap (λ (b : Bool). recordAfter before b (scopeOf (requestOf line)) (a .stepped .session .layout)) refuses
+    a .left ∙ ap (λ (b : Bool). recordAfter before b (requestOf line) (a .stepped .session .layout)) refuses
+
+abbrev answerOf : Reply → Answer
+answerOf r = r .answer
 
 -- AN UNLISTED kind or cut in the layout's record: what looks at the layout refuses with 1, and the record is as it was
 pub unlisted-refused : {before next : SessionRecord} {line answer : List ℕ} {count : ℕ} (a : Answered before line next answer count)
-    → looksB (requestOf line) ≡ true → allListedB (before .layout .nodes) ≡ false
-    → (a .steps .answer ≡ refused (opOf (requestOf line)) NotSound) × (next ≡ before)
-unlisted-refused {before} {line = line} a looks unlisted =
+    → (op : ℕ) → opOf (requestOf line) ≡ some op → allListedB (before .layout .nodes) ≡ false
+    → (a .steps .answer ≡ refused op NotSound) × (next ≡ before)
+unlisted-refused {before} {line = line} a op looks unlisted =
     let unsound = unlisted-unsound (before .layout) unlisted in
-    let says = unsound-refused (sessionOf before) (requestOf line) (a .stepped .session) looks unsound (a .steps .answers) in
+    let says = ap answerOf (unsound-refused (sessionOf before) (requestOf line) op looks unsound (a .stepped .session) (a .steps .answer) (a .steps .answers)) in
     (says, record-stays a (ap refusal says))
 
 -- or in the kept one: restore refuses with 1
 pub unlisted-kept-refused : {before next : SessionRecord} {line answer : List ℕ} {count : ℕ} (a : Answered before line next answer count)
-    → requestOf line ≡ requests.Restore → allListedB (before .kept .nodes) ≡ false
+    → requestOf line ≡ Restore → allListedB (before .kept .nodes) ≡ false
     → (a .steps .answer ≡ refused 6 NotSound) × (next ≡ before)
 unlisted-kept-refused {before} a restores unlisted =
-    let says = unsound-kept-refused (sessionOf before) (a .stepped .session) (unlisted-unsound (before .kept) unlisted) (rw restores at (a .steps .answers)) in
+    let unsound = unlisted-unsound (before .kept) unlisted in
+    let says = ap answerOf (unsound-kept-refused (sessionOf before) unsound (a .stepped .session) (a .steps .answer) (rw restores at (a .steps .answers))) in
     (says, record-stays a (ap refusal says))
 
 -- and there is no list of saw cuts: nothing is written
@@ -84,25 +88,22 @@ unlisted-no-list {given} h unlisted =
 
 -- what is kept after an accepted call, as a record and as a layout
 kept-stands : (r : SessionRecord) (q : Request) (t : Session) (a : Answer) → Answers (sessionOf r) q t a → refusal a ≡ false
-    → layoutOf (keptRecord r (scopeOf q) (t .layout)) ≡ t .kept
+    → layoutOf (keptRecord r q (t .layout)) ≡ t .kept
 unfolding Answers afterKeep
-kept-stands r (requests.Open number size cut stages) t a h accepts = sym (kept-after (sessionOf r) (requests.Open number size cut stages) t a h)
-kept-stands r (requests.Offers mark part) t a h accepts = sym (kept-after (sessionOf r) (requests.Offers mark part) t a h)
-kept-stands r (requests.Insert m p f g) t a h accepts = sym (kept-after (sessionOf r) (requests.Insert m p f g) t a h)
-kept-stands r (requests.Remove m) t a h accepts = sym (kept-after (sessionOf r) (requests.Remove m) t a h)
-kept-stands r requests.Keep t a h accepts = layout-back (t .layout) ∙ go (soundB (layoutOf (r .layout))) h
+kept-stands r (OfLayout ask) t a h accepts = sym (kept-after (sessionOf r) (OfLayout ask) t a h)
+kept-stands r Keep t a h accepts = layout-back (t .layout) ∙ go (soundB (layoutOf (r .layout))) h
   where
     go : (b : Bool) → reply t a ≡ keptBy (sessionOf r) b → t .layout ≡ t .kept
     go true e = ap (λ (x : Reply). x .session .layout) e ∙ sym (ap (λ (x : Reply). x .session .kept) e)
     go false e = absurd (clash (sym accepts ∙ ap (λ (x : Reply). refusal (x .answer)) e))
-kept-stands r requests.Restore t a h accepts = sym (kept-after (sessionOf r) requests.Restore t a h)
-kept-stands r requests.Report t a h accepts = sym (kept-after (sessionOf r) requests.Report t a h)
-kept-stands r requests.Malformed t a h accepts = sym (kept-after (sessionOf r) requests.Malformed t a h)
+kept-stands r Restore t a h accepts = sym (kept-after (sessionOf r) Restore t a h)
+kept-stands r Malformed t a h accepts = sym (kept-after (sessionOf r) Malformed t a h)
 
-kept-listed : (r : SessionRecord) (v : Scope) (l : Layout) → AllListed (r .kept .nodes) → AllListed (keptRecord r v l .nodes)
-kept-listed r Alone l h = h
+kept-listed : (r : SessionRecord) (q : Request) (l : Layout) → AllListed (r .kept .nodes) → AllListed (keptRecord r q l .nodes)
+kept-listed r (OfLayout ask) l h = h
 kept-listed r Keep l h = layout-listed l
 kept-listed r Restore l h = h
+kept-listed r Malformed l h = h
 
 module _ {before next : SessionRecord} {line answer : List ℕ} {count : ℕ} (a : Answered before line next answer count) where
   abbrev q : Request
@@ -115,7 +116,7 @@ module _ {before next : SessionRecord} {line answer : List ℕ} {count : ℕ} (a
   pub next-stands : sessionOf next ≡ t
   next-stands = go (refusal (a .steps .answer)) refl (a .left)
     where
-      go : (b : Bool) → refusal (a .steps .answer) ≡ b → next ≡ recordAfter before b (scopeOf q) (t .layout) → sessionOf next ≡ t
+      go : (b : Bool) → refusal (a .steps .answer) ≡ b → next ≡ recordAfter before b q (t .layout) → sessionOf next ≡ t
       go true e left = ap sessionOf left ∙ sym (refused-stays (sessionOf before) q (a .steps .answer) e (a .steps .answers))
       go false e left =
           let layout = layout-back (t .layout) in
@@ -126,18 +127,21 @@ module _ {before next : SessionRecord} {line answer : List ℕ} {count : ℕ} (a
   pub next-listed : AllListed (before .layout .nodes) → AllListed (before .kept .nodes) → AllListed (next .layout .nodes) × AllListed (next .kept .nodes)
   next-listed h k = go (refusal (a .steps .answer)) (a .left)
     where
-      go : (b : Bool) → next ≡ recordAfter before b (scopeOf q) (t .layout) → AllListed (next .layout .nodes) × AllListed (next .kept .nodes)
+      go : (b : Bool) → next ≡ recordAfter before b q (t .layout) → AllListed (next .layout .nodes) × AllListed (next .kept .nodes)
       go true left = rw left (h, k)
-      go false left = rw left (layout-listed (t .layout), kept-listed before (scopeOf q) (t .layout) k)
+      go false left = rw left (layout-listed (t .layout), kept-listed before q (t .layout) k)
 
-  -- what looks at the layout alone, and leaves the session as it was, leaves the record so: offers and report, accepted too
-  pub looked-stays : scopeOf q ≡ Alone → looksB q ≡ true → t ≡ sessionOf before → next ≡ before
-  looked-stays alone looks same = go (test (soundB (layoutOf (before .layout))))
+  -- what is asked of the layout and looks at it, and leaves the session as it was, leaves the record so: offers and report, accepted too
+  pub looked-stays : (ask : Ask) → q ≡ OfLayout ask → (op : ℕ) → opOf q ≡ some op → t ≡ sessionOf before → next ≡ before
+  looked-stays ask asked op looks same = go (test (soundB (layoutOf (before .layout))))
     where
       go : (soundB (layoutOf (before .layout)) ≡ true) ⊎ (soundB (layoutOf (before .layout)) ≡ false) → next ≡ before
-      go (inl e) = a .left ∙ rw (alone, same, sound-stays (before .layout) e) (either (refusal (a .steps .answer)))
+      go (inl e) =
+          a .left ∙ ap (λ (x : Request). recordAfter before (refusal (a .steps .answer)) x (t .layout)) asked
+          ∙ rw (same, sound-stays (before .layout) e) (either (refusal (a .steps .answer)))
         where
           either : (b : Bool) → cond b before (record { layout = before .layout; kept = before .kept }) ≡ before
           either true = refl
           either false = refl
-      go (inr e) = record-stays a (ap refusal (unsound-refused (sessionOf before) q t looks e (a .steps .answers)))
+      go (inr e) =
+          record-stays a (ap (λ (r : Reply). refusal (r .answer)) (unsound-refused (sessionOf before) q op looks e t (a .steps .answer) (a .steps .answers)))

@@ -5,35 +5,40 @@ use mathlib.Core.Bool.{Bool, cond}
 use mathlib.Core.List.{List}
 use Prim.Native.Nat.{ℕ}
 use Rattle.layout.specs.declared.layout.Layout.{Layout}
+use Rattle.frames.specs.declared.Request.{Request}
+use Rattle.frames.specs.declared.Request.the-variants.{OfLayout, Keep, Restore, Malformed}
 use Rattle.frames.specs.Requests.{requestOf}
 use Rattle.session.specs.declared.Stepped.{Stepped}
-use Rattle.session.specs.declared.replies.Scope.{Scope}
-use Rattle.session.specs.declared.replies.Scope.the-variants.{Alone, Keep, Restore}
 use Rattle.session.specs.declared.replies.Said.{Said}
 use Rattle.session.specs.Session.{Steps}
-use Rattle.session.specs.Replies.{scopeOf, refusal}
+use Rattle.session.specs.Replies.{refusal}
 use Rattle.kiosk.specs.declared.SteppedRecord.{SteppedRecord}
 use Rattle.kiosk.specs.declared.records.LayoutRecord.{LayoutRecord}
 use Rattle.kiosk.specs.declared.records.SessionRecord.{SessionRecord}
 use Rattle.kiosk.specs.Records.{sessionOf, layoutRecord}
 
--- the record of what is kept after an accepted call that leaves the layout l: keep alone writes it
-abbrev pub keptRecord : SessionRecord → Scope → Layout → LayoutRecord
-keptRecord r Alone l = r .kept
+-- the record of what is kept after an accepted request that leaves the layout l: keep alone writes it
+abbrev pub keptRecord : SessionRecord → Request → Layout → LayoutRecord
+keptRecord r (OfLayout ask) l = r .kept
 keptRecord r Keep l = layoutRecord l
 keptRecord r Restore l = r .kept
+keptRecord r Malformed l = r .kept
 
 -- the record afterwards: where the answer says no, the record before; else that of the layout l, and of what is kept
-abbrev pub recordAfter : SessionRecord → Bool → Scope → Layout → SessionRecord
-recordAfter r refused v l = cond refused r (record { layout = layoutRecord l; kept = keptRecord r v l })
+abbrev pub recordAfter : SessionRecord → Bool → Request → Layout → SessionRecord
+recordAfter r refused q l = cond refused r (record { layout = layoutRecord l; kept = keptRecord r q l })
 
 -- from the record before, the line's characters give the record next and an answer whose first count characters are its line
 pub record Answered (before : SessionRecord) (line : List ℕ) (next : SessionRecord) (answer : List ℕ) (count : ℕ) : Type 0 where
   pub stepped : Stepped
   pub steps : Steps (sessionOf before) (requestOf line) stepped
-  pub left : next ≡ recordAfter before (refusal (steps .answer)) (scopeOf (requestOf line)) (stepped .session .layout)
+  pub left : next ≡ recordAfter before (refusal (steps .answer)) (requestOf line) (stepped .session .layout)
   pub written : answer ≡ stepped .line
   pub counted : count ≡ stepped .count
+
+-- the record with the layout l, and what is kept as it was
+abbrev pub withLayout : SessionRecord → Layout → SessionRecord
+withLayout r l = record { layout = layoutRecord l; kept = r .kept }
 
 -- the record s, and what is said
 abbrev pub stepTo : SessionRecord → Said → SteppedRecord

@@ -2,8 +2,9 @@
 // from its record by restore alone, and keep alone writes one; a refusal writes none. Rests on records.rt for the records and on `session` for the
 // answers.
 ghost use mathlib.Core.Path.{_≡_};
-ghost use Rattle.session.specs.declared.replies.Scope.the-variants.{Alone};
-ghost use Rattle.kiosk.specs.Step.{Answered, stepTo, recordAfter};
+ghost use mathlib.Core.Bool.{cond};
+ghost use Rattle.kiosk.specs.Step.{Answered, stepTo, withLayout};
+use frames::Request;
 use frames::read::request;
 use records::SessionRecord;
 use records::layout_of;
@@ -11,11 +12,10 @@ use records::layout_record;
 use session::LONGEST;
 use session::replies::Response;
 use session::replies::Said;
-use session::replies::Scope;
 use session::replies::keep;
 use session::replies::replied;
 use session::replies::restore;
-use session::replies::scope_of;
+use session::say;
 
 pub mod cuts; // cuts.rt: the list of saw cuts
 pub mod records; // records.rt: the session as plain numbers, read and written
@@ -43,7 +43,7 @@ fn says(session: SessionRecord, said: Said) -> SteppedRecord
 
 // The state with the layout of an answer, and what that says. The kept record stays, and where the answer is a refusal both do.
 fn told(mut given: SessionRecord, answer: Response) -> SteppedRecord
-    ensures { λ r. ⌜ r ≡ stepTo (recordAfter given (answer .refused) Alone (answer .layout)) (answer .said) ⌝ }
+    ensures { λ r. ⌜ r ≡ stepTo (cond (answer .refused) given (withLayout given (answer .layout))) (answer .said) ⌝ }
 {
     let said = answer.said;
     if answer.refused {
@@ -61,10 +61,9 @@ fn stepped(given: SessionRecord, line: &[u8]) -> SteppedRecord
     let before = given.layout;
     let kept = given.kept;
     let layout = layout_of(before);
-    let asked = request(line);
-    match scope_of(asked) {
-        Scope::Alone => told(given, replied(layout, asked)),
-        Scope::Keep => {
+    match request(line) {
+        Request::OfLayout(ask) => told(given, replied(layout, ask)),
+        Request::Keep => {
             let answer = keep(layout);
             let said = answer.said;
             if answer.sound { // a sound layout's record is the one that it was read from
@@ -79,7 +78,8 @@ fn stepped(given: SessionRecord, line: &[u8]) -> SteppedRecord
                 says(given, said)
             }
         }
-        Scope::Restore => told(given, restore(layout, layout_of(kept))),
+        Request::Restore => told(given, restore(layout, layout_of(kept))),
+        Request::Malformed => says(given, say::malformed()),
     }
 }
 
