@@ -7,9 +7,6 @@ use borrow.Author.Needs.{needs}
 use Rattle.lines.proofs.chars_at.Statement.{statement}
 use Rattle.lines.proofs.chars_at.Tie as tie
 
-returns : tie.Need-returns
-returns c = chars-none _ _ (c .before .if1 .taken)
-
 sub-result-2 : tie.Need-sub-result-2
 sub-result-2 c =
     let a = c .before .before .before .args in
@@ -38,7 +35,7 @@ chars-at-spec =
     (λ c. search needs)  -- sub-result
     (λ c. search needs)  -- part-result-start
     (λ c. search needs)  -- part-result-end
-    returns
+    (λ c. chars-none _ _ (c .before .if1 .taken))  -- returns
     (λ c κs. search needs)  -- newline-requires
     sub-result-2
     part-result-start-2

@@ -14,9 +14,6 @@ Inv-loop text at i₀ i = newlineFrom text i ≡ newlineFrom text at
 abbrev μ-loop : tie.MeasureT-loop
 μ-loop text at i₀ i = length text - i
 
-loop-holds : tie.Need-loop-holds Inv-loop μ-loop
-loop-holds c = refl
-
 returns : tie.Need-returns Inv-loop μ-loop
 returns c =
     let s = c .before .before .before .before .args .text .now in
@@ -39,7 +36,7 @@ newline-spec =
     (tie.spec
     Inv-loop
     μ-loop
-    loop-holds
+    (λ c. refl)  -- loop-holds
     (λ c. search needs)  -- shared-slice-read-if1
     returns
     (λ c. search needs)  -- add-i

@@ -5,24 +5,13 @@ use borrow.Author.Needs.{needs}
 use Rattle.lines.proofs.stream.Pending.one.Statement.{statement}
 use Rattle.lines.proofs.stream.Pending.one.Tie as tie
 
-returns : tie.Need-returns
-unfolding add
-returns c = simp (c .if1 .taken)
-
-returns-2 : tie.Need-returns-2
-unfolding add
-returns-2 c = simp (c .before .if1 .left, lt-ltb (c .before .before .args .t1 .count) 64 (search needs))
-
-returns-3 : tie.Need-returns-3
-unfolding add
-returns-3 c = simp (c .before .if1 .left, le-ltb (c .before .before .args .t1 .count) 64 (search needs))
-
 pub one-spec : {M : Type 1} → statement M
+unfolding add
 one-spec =
     tie.close
     (tie.spec
-    returns
+    (λ c. simp (c .if1 .taken))  -- returns
     (λ c. search needs)  -- element-write-self
     (λ c. search needs)  -- add-self
-    returns-2
-    returns-3)
+    (λ c. simp (c .before .if1 .left, lt-ltb (c .before .before .args .t1 .count) 64 (search needs)))  -- returns-2
+    (λ c. simp (c .before .if1 .left, le-ltb (c .before .before .args .t1 .count) 64 (search needs))))  -- returns-3

@@ -14,9 +14,6 @@ Inv-loop chars p₀ i₀ p i = adds p (drop i chars) ≡ adds p₀ chars
 abbrev μ-loop : tie.MeasureT-loop
 μ-loop chars p₀ i₀ p i = length chars - i
 
-loop-holds : tie.Need-loop-holds Inv-loop μ-loop
-loop-holds c = refl
-
 returns : tie.Need-returns Inv-loop μ-loop
 returns c =
     let l = c .before .before .loop in
@@ -38,7 +35,7 @@ some-spec =
     (tie.spec
     Inv-loop
     μ-loop
-    loop-holds
+    (λ c. refl)  -- loop-holds
     returns
     (λ c. search needs)  -- shared-slice-read-one
     (λ c κs. search needs)  -- one-requires
