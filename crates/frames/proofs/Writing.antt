@@ -1,8 +1,8 @@
 -- Writing in a row: what two writes leave, a list's turn, and an answer's end.
 use mathlib.Core.Path.{_≡_, refl, sym, ap, _∙_}
 use mathlib.Core.List.{List, [], _∷_, _++_, append-assoc, append-nil}
-use Prim.Native.Nat.{ℕ, _+_, _-_, _*_, _/_, _%_, _^_, _<_, _≤_}
-use native.Mathlib.Nat.{mul-zero, mul-suc, add-comm}
+use Prim.Native.Nat.{ℕ, suc, _+_, _-_, _*_, _/_, _%_, _^_, _<_, _≤_}
+use native.Mathlib.Nat.{mul-zero, mul-suc, mul-le-mul-left, add-comm}
 use native.Mathlib.Numerals.{add-one}
 use native.Mathlib.Omega.{arith}
 use lib.ListN.{length, getD, set, take, length-append}
@@ -75,24 +75,46 @@ module _ {A : Type 0} (bytes : A → List ℕ) where
       ∙ each-append (take i xs) (getD xs i d ∷ [])
       ∙ ap (λ (t : List ℕ). each bytes (take i xs) ++ t) (append-nil (bytes (getD xs i d)))
 
-  -- a loop over a list: where it begins, and one turn
-  pub none-yet : {l : List ℕ} {p : Pen} (xs : List A) → p .sum < 256 → Wrote l p (each bytes (take 0 xs)) l p
+-- a loop that writes a list up to n, element by element: the first i are written
+pub record Turns {A : Type 0} (bytes : A → List ℕ) (xs : List A) (n : ℕ) (l : List ℕ) (p : Pen) (i : ℕ) (m : List ℕ) (q : Pen) : Type 0 where
+  pub wrote : Wrote l p (each bytes (take i xs)) m q
+  pub most : i ≤ n
+
+module _ {A : Type 0} {bytes : A → List ℕ} {xs : List A} {n : ℕ} {l : List ℕ} {p : Pen} where
+  pub none-yet : p .sum < 256 → Turns bytes xs n l p 0 l p
   unfolding each charsOf total
-  none-yet xs h = record { chars = refl; moved = omega arith; added = omega arith }
+  none-yet h = record { wrote = record { chars = refl; moved = omega arith; added = omega arith }; most = omega arith }
 
-  module _ {l m : List ℕ} {p q : Pen} (xs : List A) (i : ℕ) (w : Wrote l p (each bytes (take i xs)) m q) where
-    pub turn : {n : List ℕ} {r : Pen} (d : A) → i < length xs → Wrote m q (bytes (getD xs i d)) n r → Wrote l p (each bytes (take (i + 1) xs)) n r
-    turn d h y = rw (one-more xs i d h) (and-then w y)
+  module _ {i : ℕ} {m : List ℕ} {q : Pen} (w : Turns bytes xs n l p i m q) where
+    pub turn : {m′ : List ℕ} {q′ : Pen} (d : A) → i < n → n ≤ length xs → Wrote m q (bytes (getD xs i d)) m′ q′ → Turns bytes xs n l p (i + 1) m′ q′
+    turn d h f y = record { wrote = rw (one-more bytes xs i d (omega arith)) (and-then (w .wrote) y); most = omega arith }
 
-    pub so-far : (k : ℕ) → ((x : A) → length (bytes x) ≡ k) → i ≤ length xs → q .at ≡ p .at + 2 * (k * i)
-    so-far k e h = rw (← length-take-le i xs h, ← length-each k e (take i xs)) (w .moved)
+    -- where each takes k bytes, and there was room for the count and n of them, there is room for one more
+    pub next-room : {l₀ : List ℕ} {p₀ : Pen} {b : ℕ} (k : ℕ) → ((x : A) → length (bytes x) ≡ k) → Wrote l₀ p₀ (b ∷ []) l p → i < n → n ≤ length xs
+        → p₀ .at + (2 + 2 * (k * n)) ≤ length l₀ → q .at + 2 * k ≤ length m
+    next-room k e count h f room =
+        let more : suc i ≤ n = omega arith in
+        omega (
+          arith,
+          mul-suc k i,
+          mul-le-mul-left k more,
+          count .moved,
+          same-room count,
+          w .wrote .moved,
+          same-room (w .wrote),
+          length-taken bytes k e xs i (omega arith),
+        )
 
-    pub whole : (n : ℕ) → i ≤ n → n ≤ i → Wrote l p (each bytes (take n xs)) m q
-    whole n a b = let e : i ≡ n = omega arith in rw e at w
+    pub whole : n ≤ i → Wrote l p (each bytes (take n xs)) m q
+    whole h = let e : i ≡ n = omega arith in rw e at (w .wrote)
 
 length-ending : (s : ℕ) → length (ending s) ≡ 3
 unfolding charsOf
 length-ending s = refl
+
+-- an answer's end has room
+pub end-room : {l m bs : List ℕ} {q : Pen} → Wrote l start bs m q → 2 * length bs + 3 ≤ length l → q .at + 3 ≤ length m
+end-room w h = omega (arith, w .moved, same-room w)
 
 pub answered : {l m n bs : List ℕ} {p : Pen} {r : ℕ} (a : Answer) → contentOf a ≡ bs → Wrote l start bs m p
     → (r ≡ p .at + 3) × (n ≡ sets m (p .at) (ending (p .sum))) → Answered l a n r

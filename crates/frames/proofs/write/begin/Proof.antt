@@ -4,9 +4,6 @@ use Rattle.frames.proofs.Writing.{and-then}
 use Rattle.frames.proofs.write.begin.Statement.{statement}
 use Rattle.frames.proofs.write.begin.Tie as tie
 
-returns : tie.Need-returns
-returns c = and-then (c .before .before .before .before .before .before .put .ensures) (c .before .before .put2 .ensures)
-
 pub begin-spec : {M : Type 1} → statement M
 begin-spec =
     tie.close
@@ -14,4 +11,4 @@ begin-spec =
     (λ c κs. search needs)  -- put-requires
     (λ c κs. search needs)  -- put-requires-2
     (λ c. search needs)  -- same-length
-    returns)
+    (λ c. and-then (c .before .before .before .before .before .before .put .ensures) (c .before .before .put2 .ensures)))  -- returns

@@ -1,33 +1,28 @@
 -- `write::offered` meets its contract. Assumes nothing.
 use mathlib.Core.List.{_∷_}
 use mathlib.Core.Path.{_≡_, sym, ap, refl, _∙_}
-use Prim.Native.Nat.{ℕ}
+use Prim.Native.Nat.{ℕ, _≤_}
 use native.Mathlib.Omega.{arith}
 use lib.Seq.{length-take-le}
 use lib.ListN.{length, take, length-map}
 use borrow.Author.Needs.{needs}
 use Rattle.frames.specs.Answers.{each, offerBytes, contentOf}
-use Rattle.frames.proofs.Writing.{answered, and-then, length-taken, same-room}
+use Rattle.frames.proofs.Writing.{answered, and-then, length-taken, end-room}
 use Rattle.frames.proofs.write.offered.Statement.{statement}
 use Rattle.frames.proofs.write.offered.Tie as tie
 
-four-offers : (c : tie.Start) → length (c .args .offers .list) ≡ 4
-four-offers c = sym (length-map (c .args .offers .list) _) ∙ c .good .1 .0 .1 .1 .0 .1 .0 .1
+four-offers : (s : tie.Start) → s .args .offers .count ≤ length (s .args .offers .list)
+four-offers s =
+    let four : length (s .args .offers .list) ≡ 4 = sym (length-map (s .args .offers .list) _) ∙ s .good .1 .0 .1 .1 .0 .1 .0 .1 in
+    omega (arith, s .pre)
 
 end-requires : tie.Need-end-requires
 end-requires c κs =
     let o = c .before .before .before in
     let b = o .before .before .before .before in
     let s = b .before .before .before in
-    omega (
-      arith,
-      s .pre,
-      b .begin .ensures .moved,
-      o .put-offers .ensures .moved,
-      same-room (b .begin .ensures),
-      same-room (o .put-offers .ensures),
-      length-taken offerBytes 2 (λ x. refl) (s .args .offers .list) (s .args .offers .count) (omega (arith, four-offers s)),
-    )
+    end-room (and-then (b .begin .ensures) (o .put-offers .ensures))
+    (omega (arith, s .pre, length-taken offerBytes 2 (λ x. refl) (s .args .offers .list) (s .args .offers .count) (four-offers s)))
 
 returns : tie.Need-returns
 unfolding contentOf
@@ -38,7 +33,7 @@ returns c =
     let s = b .before .before .before in
     let x = s .args .offers in
     answered _
-    (ap (λ (n : ℕ). 2 ∷ 0 ∷ n ∷ each offerBytes (take (x .count) (x .list))) (length-take-le (x .count) (x .list) (omega (arith, four-offers s))))
+    (ap (λ (n : ℕ). 2 ∷ 0 ∷ n ∷ each offerBytes (take (x .count) (x .list))) (length-take-le (x .count) (x .list) (four-offers s)))
     (and-then (b .begin .ensures) (o .put-offers .ensures))
     (e .end .ensures)
 

@@ -6,12 +6,6 @@ use Rattle.frames.proofs.Writing.{put-one}
 use Rattle.frames.proofs.write.put.Statement.{statement}
 use Rattle.frames.proofs.write.put.Tie as tie
 
-slice-write-out-2 : tie.Need-slice-write-out-2
-slice-write-out-2 c = simp length-set (omega arith)
-
-returns : tie.Need-returns
-returns c = put-one _ _ _ _ _ _ (c .before .before .letter .ensures) (c .before .letter2 .ensures) (c .wrapping-add-u8 .ensures)
-
 pub put-spec : {M : Type 1} → statement M
 put-spec =
     tie.close
@@ -20,8 +14,8 @@ put-spec =
     (λ c. search needs)  -- slice-write-out
     (λ c κs. search needs)  -- letter-requires-2
     (λ c. search needs)  -- add-out
-    slice-write-out-2
+    (λ c. simp length-set (omega arith))  -- slice-write-out-2
     (λ c. search needs)  -- add-t8
     (λ c κs. search needs)  -- wrapping-add-u8-requires
     (λ c. search needs)  -- same-length
-    returns)
+    (λ c. put-one _ _ _ _ _ _ (c .before .before .letter .ensures) (c .before .letter2 .ensures) (c .wrapping-add-u8 .ensures)))  -- returns

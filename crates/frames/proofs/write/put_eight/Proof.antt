@@ -4,9 +4,6 @@ use Rattle.frames.proofs.Writing.{and-then}
 use Rattle.frames.proofs.write.put_eight.Statement.{statement}
 use Rattle.frames.proofs.write.put_eight.Tie as tie
 
-returns : tie.Need-returns
-returns c = and-then (c .before .before .before .before .before .before .put-four .ensures) (c .before .before .put-four2 .ensures)
-
 pub put-eight-spec : {M : Type 1} → statement M
 put-eight-spec =
     tie.close
@@ -16,4 +13,4 @@ put-eight-spec =
     (λ c. search needs)  -- cast-put-four-2
     (λ c κs. search needs)  -- put-four-requires-2
     (λ c. search needs)  -- same-length
-    returns)
+    (λ c. and-then (c .before .before .before .before .before .before .put-four .ensures) (c .before .before .put-four2 .ensures)))  -- returns

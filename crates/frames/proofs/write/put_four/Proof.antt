@@ -4,9 +4,6 @@ use Rattle.frames.proofs.Writing.{and-then}
 use Rattle.frames.proofs.write.put_four.Statement.{statement}
 use Rattle.frames.proofs.write.put_four.Tie as tie
 
-returns : tie.Need-returns
-returns c = and-then (c .before .before .before .before .before .before .put-two .ensures) (c .before .before .put-two2 .ensures)
-
 pub put-four-spec : {M : Type 1} → statement M
 put-four-spec =
     tie.close
@@ -16,4 +13,4 @@ put-four-spec =
     (λ c. search needs)  -- cast-put-two-2
     (λ c κs. search needs)  -- put-two-requires-2
     (λ c. search needs)  -- same-length
-    returns)
+    (λ c. and-then (c .before .before .before .before .before .before .put-two .ensures) (c .before .before .put-two2 .ensures)))  -- returns

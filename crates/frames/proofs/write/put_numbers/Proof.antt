@@ -1,76 +1,38 @@
 -- `write::put_numbers` meets its contract. The loop has written the first i numbers. Assumes nothing.
-use mathlib.Core.Path.{refl, _∙_}
+use mathlib.Core.Path.{refl}
 use Prim.Native.Nat.{_≤_, _-_}
 use native.Mathlib.Omega.{arith}
-use lib.ListN.{take}
+use lib.ListN.{length}
 use Rattle.frames.specs.Inner.{Wrote}
-use Rattle.frames.specs.Answers.{each}
 use Rattle.frames.specs.Bytes.{two}
-use Rattle.frames.proofs.Writing.{and-then, none-yet, turn, so-far, whole, same-room}
+use Rattle.frames.proofs.Writing.{Turns, and-then, none-yet, turn, next-room, whole, same-room}
 use Rattle.frames.proofs.write.put_numbers.Statement.{statement}
 use Rattle.frames.proofs.write.put_numbers.Tie as tie
 
 abbrev Inv-loop : tie.InvT-loop
-Inv-loop out₀ numbers count next₀ i₀ out next i = Wrote out₀ next₀ (each two (take i numbers)) out next × (i ≤ count)
+Inv-loop out₀ numbers count next₀ i₀ out next i = Turns two numbers count out₀ next₀ i out next
 
 abbrev μ-loop : tie.MeasureT-loop
 μ-loop out₀ numbers count next₀ i₀ out next i = count - i
 
-cast-put : tie.Need-cast-put Inv-loop μ-loop
-cast-put c = omega arith
-
-put-requires : tie.Need-put-requires Inv-loop μ-loop
-put-requires c κs = omega arith
-
-loop-holds : tie.Need-loop-holds Inv-loop μ-loop
-loop-holds c =
-    let s = c .before .before .before .before .before .before in
-    (none-yet two (s .args .numbers .now) (omega (arith, c .before .before .put .ensures .added)), omega arith)
-
-mul-put-two : tie.Need-mul-put-two Inv-loop μ-loop
-mul-put-two c = omega arith
-
-shared-slice-read-put-two : tie.Need-shared-slice-read-put-two Inv-loop μ-loop
-shared-slice-read-put-two c = omega arith
+fits : (s : tie.Start Inv-loop μ-loop) → s .args .count ≤ length (s .args .numbers .now)
+fits s = s .pre .1
 
 put-two-requires : tie.Need-put-two-requires Inv-loop μ-loop
 put-two-requires c κs =
     let l = c .before .before .before in
-    let s = l .before .before .before .before .before .before .before in
     let p = l .before .before .before in
-    omega (
-      arith,
-      s .pre,
-      p .put .ensures .moved,
-      same-room (p .put .ensures),
-      same-room (l .loop .inv .0),
-      so-far two (s .args .numbers .now) (l .loop .i) (l .loop .inv .0) 2 (λ x. refl) (omega arith),
-    )
-
-add-i : tie.Need-add-i Inv-loop μ-loop
-add-i c = omega arith
-
-loop-less : tie.Need-loop-less Inv-loop μ-loop
-loop-less c = omega arith
+    let s = p .before .before .before .before in
+    next-room (l .loop .inv) 2 (λ x. refl) (p .put .ensures) (omega arith) (fits s) (omega (arith, s .pre))
 
 loop-again : tie.Need-loop-again Inv-loop μ-loop
 loop-again c =
     let t = c .before .before in
     let l = t .before .before .before .before in
-    let s = l .before .before .before .before .before .before .before in
-    (turn two (s .args .numbers .now) (l .loop .i) (l .loop .inv .0) 0 (omega arith) (t .put-two .ensures), omega arith)
-
-same-length : tie.Need-same-length Inv-loop μ-loop
-same-length c =
-    let p = c .before .before .before .before in
-    same-room (c .before .loop .inv .0) ∙ same-room (p .put .ensures)
+    turn (l .loop .inv) 0 (omega arith) (fits (l .before .before .before .before .before .before .before)) (t .put-two .ensures)
 
 returns : tie.Need-returns Inv-loop μ-loop
-returns c =
-    let l = c .before .loop in
-    let p = c .before .before .before .before in
-    let s = p .before .before .before .before in
-    and-then (p .put .ensures) (whole two (s .args .numbers .now) (l .i) (l .inv .0) (s .args .count) (l .inv .1) (c .loop-test .left))
+returns c = and-then (c .before .before .before .before .put .ensures) (whole (c .before .loop .inv) (c .loop-test .left))
 
 pub put-numbers-spec : {M : Type 1} → statement M
 put-numbers-spec =
@@ -78,14 +40,14 @@ put-numbers-spec =
     (tie.spec
     Inv-loop
     μ-loop
-    cast-put
-    put-requires
-    loop-holds
-    mul-put-two
-    shared-slice-read-put-two
+    (λ c. omega arith)  -- cast-put
+    (λ c κs. omega arith)  -- put-requires
+    (λ c. none-yet (omega (arith, c .before .before .put .ensures .added)))  -- loop-holds
+    (λ c. omega arith)  -- mul-put-two
+    (λ c. omega arith)  -- shared-slice-read-put-two
     put-two-requires
-    add-i
-    loop-less
+    (λ c. omega arith)  -- add-i
+    (λ c. omega arith)  -- loop-less
     loop-again
-    same-length
+    (λ c. same-room (returns c))  -- same-length
     returns)

@@ -4,9 +4,6 @@ use Rattle.frames.proofs.Writing.{and-then}
 use Rattle.frames.proofs.write.put_two.Statement.{statement}
 use Rattle.frames.proofs.write.put_two.Tie as tie
 
-returns : tie.Need-returns
-returns c = and-then (c .before .before .before .before .before .before .put .ensures) (c .before .before .put2 .ensures)
-
 pub put-two-spec : {M : Type 1} → statement M
 put-two-spec =
     tie.close
@@ -16,4 +13,4 @@ put-two-spec =
     (λ c. search needs)  -- cast-put-2
     (λ c κs. search needs)  -- put-requires-2
     (λ c. search needs)  -- same-length
-    returns)
+    (λ c. and-then (c .before .before .before .before .before .before .put .ensures) (c .before .before .put2 .ensures)))  -- returns

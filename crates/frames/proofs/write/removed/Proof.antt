@@ -9,7 +9,7 @@ use borrow.Author.Needs.{needs}
 use Rattle.frames.specs.Answers.{each, contentOf}
 use Rattle.frames.specs.Fields.{markBytes}
 use Rattle.frames.specs.Bytes.{two}
-use Rattle.frames.proofs.Writing.{answered, and-then, length-taken, same-room}
+use Rattle.frames.proofs.Writing.{answered, and-then, length-taken, end-room}
 use Rattle.frames.proofs.write.removed.Statement.{statement}
 use Rattle.frames.proofs.write.removed.Tie as tie
 
@@ -19,17 +19,8 @@ end-requires c κs =
     let m = o .before .before .before .before in
     let b = m .before .before .before .before in
     let s = b .before .before .before .before in
-    omega (
-      arith,
-      s .pre,
-      b .begin .ensures .moved,
-      m .put-mark .ensures .moved,
-      o .put-numbers .ensures .moved,
-      same-room (b .begin .ensures),
-      same-room (m .put-mark .ensures),
-      same-room (o .put-numbers .ensures),
-      length-taken two 2 (λ x. refl) (s .args .numbers .now) (s .args .count) (omega arith),
-    )
+    end-room (and-then (b .begin .ensures) (and-then (m .put-mark .ensures) (o .put-numbers .ensures)))
+    (omega (arith, s .pre, length-taken two 2 (λ x. refl) (s .args .numbers .now) (s .args .count) (omega arith)))
 
 returns : tie.Need-returns
 unfolding contentOf
