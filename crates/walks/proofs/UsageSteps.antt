@@ -1,6 +1,6 @@
 -- The steps of `usage_of`, over its definition: they rest on the turns of Chain. Assumes nothing.
 use mathlib.Core.Path.{_≡_, refl, _∙_}
-use mathlib.Core.List.{List, []}
+use mathlib.Core.List.{List}
 use mathlib.Core.Bool.{cond}
 use Prim.Native.Nat.{ℕ, zero, suc, _-_, _^_, _<_, _≤_}
 use lib.Dec.{T, eqb, le→leb}
@@ -27,9 +27,6 @@ module _ (limit : ℕ) (first next kind area : List ℕ) where
   pub sum-more : (left turns c : ℕ) (s u : Float) → 0 < turns → c < limit → u ≡ usageOf limit first next kind area (left - 1) c
       → sum left (turns - 1) (getD next c 0) (add binary64 s (mul binary64 (weight area c) u)) ≡ sum left turns c s
   sum-more left turns c s u more held e = rw (siblings-more limit next c turns more held, e)
-
-  pub sum-over : (left turns c : ℕ) (s : Float) → siblings limit next turns c ≡ [] → sum left turns c s ≡ s
-  sum-over left turns c s none = rw none
 
   pub usage-none : (n x : ℕ) → n ≡ 0 → usageOf limit first next kind area n x ≡ nought
   unfolding usageOf

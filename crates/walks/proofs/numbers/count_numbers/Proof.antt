@@ -20,18 +20,8 @@ Inv-loop order count nodes found₀ i₀ found i =
 abbrev μ-loop : tie.MeasureT-loop
 μ-loop order count nodes found₀ i₀ found i = count - i
 
-loop-holds : tie.Need-loop-holds Inv-loop μ-loop
-unfolding entries
-loop-holds c = (omega arith, omega arith, refl)
-
 array-copy-out-node : tie.Need-array-copy-out-node Inv-loop μ-loop
 array-copy-out-node c = c .before .before .before .pre .1 (c .before .before .loop .i) (c .before .loop-test .taken)
-
-cast-p : tie.Need-cast-p Inv-loop μ-loop
-cast-p c = omega (arith, array-copy-out-node c)
-
-mul-node : tie.Need-mul-node Inv-loop μ-loop
-mul-node c = omega (arith, array-copy-out-node c)
 
 add-found : tie.Need-add-found Inv-loop μ-loop
 add-found c =
@@ -57,16 +47,17 @@ returns c =
     l .inv .2 ∙ ap (λ (i : ℕ). length (numbersAlong (a .t1) (entries i (a .order .now)))) e
 
 pub count-numbers-spec : {M : Type 1} → statement M
+unfolding entries
 count-numbers-spec =
     tie.close
     (tie.spec
     Inv-loop
     μ-loop
-    loop-holds
+    (λ c. (omega arith, omega arith, refl))  -- loop-holds
     (λ c. search needs)  -- mul-c
     (λ c. search needs)  -- element-copy-out-c
-    cast-p
-    mul-node
+    (λ c. omega (arith, array-copy-out-node c))  -- cast-p
+    (λ c. omega (arith, array-copy-out-node c))  -- mul-node
     array-copy-out-node
     (λ c κs. search needs)  -- count-number-requires
     add-found

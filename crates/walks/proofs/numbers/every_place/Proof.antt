@@ -19,10 +19,6 @@ Inv-loop order₀ i₀ order i = (i ≤ limit) × (length order ≡ limit) × (t
 abbrev μ-loop : tie.MeasureT-loop
 μ-loop order₀ i₀ order i = limit - i
 
-loop-holds : tie.Need-loop-holds Inv-loop μ-loop
-unfolding below
-loop-holds c = (omega arith, refl, refl)
-
 loop-again : tie.Need-loop-again Inv-loop μ-loop
 loop-again c =
     let l = c .before .loop in
@@ -39,12 +35,13 @@ returns c =
     sym (take-all limit (l .order) (omega arith)) ∙ (rw e at (l .inv .2))
 
 pub every-place-spec : {M : Type 1} → statement M
+unfolding below
 every-place-spec =
     tie.close
     (tie.spec
     Inv-loop
     μ-loop
-    loop-holds
+    (λ c. (omega arith, refl, refl))  -- loop-holds
     (λ c. search needs)  -- cast-order
     (λ c. search needs)  -- mul-order
     (λ c. search needs)  -- array-write-order

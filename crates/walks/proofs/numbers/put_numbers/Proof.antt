@@ -22,12 +22,6 @@ loop-holds c =
 array-copy-out-node : tie.Need-array-copy-out-node Inv-loop μ-loop
 array-copy-out-node c = c .before .before .before .before .pre .2 (c .before .before .loop .i) (c .before .loop-test .taken)
 
-cast-p : tie.Need-cast-p Inv-loop μ-loop
-cast-p c = omega (arith, array-copy-out-node c)
-
-mul-node : tie.Need-mul-node Inv-loop μ-loop
-mul-node c = omega (arith, array-copy-out-node c)
-
 put-number-requires : tie.Need-put-number-requires Inv-loop μ-loop
 put-number-requires c κs =
     let l = c .before .before .before .before .loop in
@@ -64,8 +58,8 @@ put-numbers-spec =
     loop-holds
     (λ c. search needs)  -- mul-c
     (λ c. search needs)  -- element-copy-out-c
-    cast-p
-    mul-node
+    (λ c. omega (arith, array-copy-out-node c))  -- cast-p
+    (λ c. omega (arith, array-copy-out-node c))  -- mul-node
     array-copy-out-node
     put-number-requires
     (λ c. search needs)  -- add-i

@@ -7,15 +7,6 @@ use Rattle.walks.proofs.NodeBytes.{four-stored}
 use Rattle.walks.proofs.snapshot.put_four.Statement.{statement}
 use Rattle.walks.proofs.snapshot.put_four.Tie as tie
 
-slice-write-out-2 : tie.Need-slice-write-out-2
-slice-write-out-2 c = simp length-set (omega arith)
-
-slice-write-out-3 : tie.Need-slice-write-out-3
-slice-write-out-3 c = simp length-set (omega arith)
-
-slice-write-out-4 : tie.Need-slice-write-out-4
-slice-write-out-4 c = simp length-set (omega arith)
-
 returns : tie.Need-returns
 returns c =
     let a = c .args in
@@ -29,12 +20,12 @@ put-four-spec =
     (λ c. search needs)  -- slice-write-out
     (λ c. search needs)  -- cast-out-2
     (λ c. search needs)  -- add-out
-    slice-write-out-2
+    (λ c. simp length-set (omega arith))  -- slice-write-out-2
     (λ c. search needs)  -- cast-out-3
     (λ c. search needs)  -- add-out-2
-    slice-write-out-3
+    (λ c. simp length-set (omega arith))  -- slice-write-out-3
     (λ c. search needs)  -- cast-out-4
     (λ c. search needs)  -- add-out-3
-    slice-write-out-4
+    (λ c. simp length-set (omega arith))  -- slice-write-out-4
     (λ c. search needs)  -- same-length
     returns)

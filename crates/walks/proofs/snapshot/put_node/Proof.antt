@@ -8,15 +8,6 @@ use Rattle.walks.proofs.NodeBytes.{node-stored}
 use Rattle.walks.proofs.snapshot.put_node.Statement.{statement}
 use Rattle.walks.proofs.snapshot.put_node.Tie as tie
 
-slice-write-out-2 : tie.Need-slice-write-out-2
-slice-write-out-2 c = simp length-set (omega arith)
-
-slice-write-out-3 : tie.Need-slice-write-out-3
-slice-write-out-3 c = simp length-set (omega arith)
-
-put-two-requires : tie.Need-put-two-requires
-put-two-requires c κs = simp length-set (omega arith)
-
 put-four-requires : tie.Need-put-four-requires
 put-four-requires c κs =
     let e = simp (length-sets, length-set) at (ap length (c .before .before .before .put-two .ensures)) in
@@ -36,23 +27,20 @@ returns c =
     (c .before .before .before .before .before .before .put-four .ensures)
     (c .before .before .put-four2 .ensures)
 
-same-length : tie.Need-same-length
-same-length c = ap length (returns c) ∙ simp length-sets
-
 pub put-node-spec : {M : Type 1} → statement M
 put-node-spec =
     tie.close
     (tie.spec
     (λ c. search needs)  -- slice-write-out
     (λ c. search needs)  -- add-out
-    slice-write-out-2
+    (λ c. simp length-set (omega arith))  -- slice-write-out-2
     (λ c. search needs)  -- add-out-2
-    slice-write-out-3
+    (λ c. simp length-set (omega arith))  -- slice-write-out-3
     (λ c. search needs)  -- add-put-two
-    put-two-requires
+    (λ c κs. simp length-set (omega arith))  -- put-two-requires
     (λ c. search needs)  -- add-put-four
     put-four-requires
     (λ c. search needs)  -- add-put-four-2
     put-four-requires-2
-    same-length
+    (λ c. ap length (returns c) ∙ simp length-sets)  -- same-length
     returns)

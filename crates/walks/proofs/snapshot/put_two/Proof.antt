@@ -7,12 +7,6 @@ use Rattle.walks.proofs.NodeBytes.{two-stored}
 use Rattle.walks.proofs.snapshot.put_two.Statement.{statement}
 use Rattle.walks.proofs.snapshot.put_two.Tie as tie
 
-slice-write-out-2 : tie.Need-slice-write-out-2
-slice-write-out-2 c = simp length-set (omega arith)
-
-returns : tie.Need-returns
-returns c = let a = c .args in two-stored (a .out .now) (a .at) (a .v / 256 % 256) (a .v % 256)
-
 pub put-two-spec : {M : Type 1} → statement M
 put-two-spec =
     tie.close
@@ -21,6 +15,6 @@ put-two-spec =
     (λ c. search needs)  -- cast-low
     (λ c. search needs)  -- slice-write-out
     (λ c. search needs)  -- add-out
-    slice-write-out-2
+    (λ c. simp length-set (omega arith))  -- slice-write-out-2
     (λ c. search needs)  -- same-length
-    returns)
+    (λ c. let a = c .args in two-stored (a .out .now) (a .at) (a .v / 256 % 256) (a .v % 256)))  -- returns
