@@ -1,7 +1,7 @@
 #!/usr/bin/env bash
 # The tests, tested: every script of this folder that runs programs, and oracle/compare, must end in non-zero on programs that are wrong, and say what failed.
 # Programs are replaced by stand-ins (PROGRAMS, see tests/run.bash). A script is one of these tests if it sources tests/run.bash; one that does not has to say why, in
-# a line of its own such as the next.
+# a line of its own such as the next. One that needs what a machine may not have says so, in a line such as '# Needs node.'
 # No stand-ins: this is the script that makes them.
 set -u
 cd "$(dirname "$0")/.." || exit 2
@@ -55,6 +55,27 @@ END_OF_SCRIPT
 
 mkdir "$room/missing" || exit 2
 
+# module KIND STATEMENT...: beside the programs of a kind a WebAssembly module with their step, as tools/wasm would make it
+module() {
+  local calls=(limit longest room session_bytes cuts step)
+  cat > "$room/module.c" <<END
+typedef unsigned long long usize;
+usize nickelgrove_limit(void) { return 255; }
+usize nickelgrove_longest(void) { return 1035; }
+usize nickelgrove_room(void) { return 2295; }
+usize nickelgrove_session_bytes(void) { return 18432; }
+unsigned short nickelgrove_cuts(const void *session, char *list) { return 65535; }
+usize nickelgrove_step(void *session, const char *line, usize length, char *answer) { ${*:2} }
+END
+  "$tools/bin/clang" --target=wasm32-unknown-unknown --no-default-config -c "$room/module.c" -o "$room/module.o" &&
+    "$tools/bin/ld.lld" -flavor wasm --no-entry --stack-first -z stack-size=$((512 << 10)) "${calls[@]/#/--export=nickelgrove_}" --export=__heap_base \
+      "$room/module.o" -o "$room/$1/kiosk.wasm" || exit 2
+}
+module wrong 'answer[0] = 0x30; answer[1] = 10; return 2;'
+module silent 'answer[0] = 10; return 1;'
+module dying '__builtin_trap();'
+module stuck 'for (;;) {}'
+
 stand_in late <<END_OF_SCRIPT
 # Answers rightly, but only when the input has ended.
 echo "\$0" >> "\$RUNS"
@@ -102,8 +123,11 @@ kinds=(wrong silent dying stuck missing)
 meant=0
 for script in tests/*.sh; do
   name=$(basename "$script" .sh)
+  needed=$(sed -n 's/^# Needs \([a-z]*\)\..*/\1/p' "$script")
   if grep -q '^# No stand-ins: .' "$script"; then
     continue
+  elif [ -n "$needed" ] && ! command -v "$needed" > /dev/null; then
+    echo "skipped: $script needs $needed, and there is none here"
   elif grep -qx '\. tests/run\.bash' "$script"; then
     for kind in "${kinds[@]}"; do
       fails "$kind" 1 "$script" ${arguments[$name]:-}
@@ -123,6 +147,12 @@ fails hoarding 1 tests/counter_random.sh 1000000
 grep -q '^FAILED: flat memory' "$room/log"
 tried $? 'it is the memory that tests/counter_random.sh finds'
 fails heavy 3 tests/stack.sh
+if command -v node > /dev/null; then
+  fails wrong 3 tests/wasm.sh
+  grep -q '^FAILED: the long sessions: .* differ' "$room/log" && grep -q '^ok: it imports nothing' "$room/log"
+  tried $? 'it is the answers that tests/wasm.sh finds'
+  meant=$((meant + 2))
+fi
 
 # ends STATUS WHAT: a test with the lines on standard input ends so
 ends() {

@@ -1,0 +1,61 @@
+#!/usr/bin/env bash
+# The archive's calls as a WebAssembly module (tools/wasm), run in node by the loader of a page (page/nickelgrove.mjs): the Rust's recorded sessions, what the
+# module exports, and its stack. And of a crate that is not proved there is no module.
+# Needs node. Where there is none the module is made and not run.
+set -u
+cd "$(dirname "$0")/.." || exit 2
+. tests/run.bash
+kib=512 # of stack, which a module has unless tools/wasm is told another number
+meant=0
+
+# means COUNT: so many things more are to be tried
+means() { meant=$((meant + $1)); }
+
+# ask QUESTION MODULE [KIB]: what tests/wasm.mjs has for an answer
+ask() { timeout --foreground "$limit" node "${engine[@]}" tests/wasm.mjs "$@"; }
+engine=()
+
+module=target/wasm/kiosk.wasm small=$room/small.wasm small_kib=128
+if [ -n "${PROGRAMS:-}" ]; then
+  module=$programs/kiosk.wasm small=$module
+else
+  means 5
+  tools/wasm kiosk > /dev/null
+  tried $? 'the module is made'
+  tools/wasm kiosk $small_kib "$small" > /dev/null
+  tried $? "and one on a stack of $small_kib KiB"
+
+  # a checkout of one crate, whose one function is to give a number and gives one
+  checkout=$room/checkout one=$room/checkout/target/wasm/one.wasm
+  mkdir -p "$checkout/crates/one/src" && cp -r tools "$checkout" && echo 'one:' > "$checkout/crates.txt" || exit 2
+  one() { # SAID GIVEN
+    printf '%s\n' 'ghost use mathlib.Core.Path.{_≡_};' '#[no_mangle]' 'pub extern "C" fn one() -> usize' "    ensures { λ r. ⌜ r ≡ $1 ⌝ }" "{ $2 }" \
+      > "$checkout/crates/one/src/lib.rt"
+    "$checkout/tools/wasm" one > "$room/log" 2>&1
+  }
+  one 1 1 && mv "$one" "$room/one.wasm"
+  tried $? 'a crate that is proved has a module' || cat "$room/log"
+  ! one 1 2 && [ ! -e "$one" ] && grep -q 'one is not proved' "$room/log"
+  tried $? 'one that is not proved, after a change, has none' || cat "$room/log"
+  one 2 2 && ! cmp -s "$one" "$room/one.wasm"
+  tried $? 'proved again it has another module' || cat "$room/log"
+fi
+
+command -v node > /dev/null || { echo 'skipped: there is no node here, and the module was not run'; finished $meant; }
+
+means 6
+writes 'the long sessions' recorded/long.out ask answers "$module" < recorded/long.in
+cut -d ' ' -f 1,8 recorded/sessions.out > "$room/cuts"
+writes 'the short sessions, each line with its list of saw cuts' "$room/cuts" ask cuts "$module" < recorded/sessions.in
+
+{ sed -n 's/^[a-z0-9_]* \(nickelgrove_[a-z_]*\)(.*/export function \1/p' kiosk/nickelgrove.h; echo 'export memory memory'; echo 'export global __heap_base'; } |
+  LC_ALL=C sort > "$room/calls"
+writes "it imports nothing, and exports nickelgrove.h's calls and its memory" "$room/calls" ask calls "$module"
+
+used=$(ask stack "$module" $kib < recorded/long.in) && [ "$used" -gt 0 ] && [ "$used" -le $((kib / 2)) ]
+tried $? "chains to level 253 take ${used:-no} KiB of its stack, which has $kib"
+printf '%s\n' 'stopped' 'nothing written over' 'refused: this counter was stopped in a call: open another one' > "$room/stopped"
+writes "on a stack of $small_kib KiB the engine stops it, and nothing is written over" "$room/stopped" ask overflow "$small" $small_kib < recorded/long.in
+engine=(--stack-size=256)
+writes "the long sessions on 256 KiB of the engine's own stack" recorded/long.out ask answers "$module" < recorded/long.in
+finished $meant
