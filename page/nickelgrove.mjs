@@ -75,10 +75,15 @@ export class Counter {
     return this.#calls.memory;
   }
 
-  /** Lets the memory grow to this address. */
+  /** Lets the memory grow to this address, the line's end. */
   #reach(end) {
     const missing = end - this.#memory.buffer.byteLength;
-    if (missing > 0) this.#memory.grow(Math.ceil(missing / PAGE));
+    if (missing <= 0) return;
+    try {
+      this.#memory.grow(Math.ceil(missing / PAGE));
+    } catch {
+      throw new RangeError('the line is too long for the memory');
+    }
   }
 
   #bytes(at, length) {

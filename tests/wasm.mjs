@@ -1,7 +1,8 @@
 // What tests/wasm.sh asks of the module, in node: node tests/wasm.mjs QUESTION MODULE [KIB] < LINES
 //   answers   to each line, through page/nickelgrove.mjs
 //   cuts      the same, each with the list of saw cuts behind it, as `inspect` writes it
-//   calls     what the module imports and exports, and takes and gives
+//   odd       to lines that are no frames, one of them too long for the memory, and to a report behind them
+//   calls     what the module imports and exports
 //   stack     the most KiB of its stack, which has KIB, that a call has written to
 //   overflow  whether the first line is stopped on its stack of KIB, with nothing written over
 import { readFileSync } from 'node:fs';
@@ -42,6 +43,12 @@ const questions = {
   cuts() {
     const counter = new Counter(exported());
     say(lines().map((line) => `${counter.step(line)} ${written(counter.cuts())}`));
+  },
+
+  odd() {
+    const counter = new Counter(exported());
+    const odd = ['', 'zz', '07f9\n', '\u00ff', '\ud800', '0'.repeat(300000)].map((line) => counter.step(line));
+    say([...odd, stopped(() => counter.step('0'.repeat(16 << 20))), counter.step('07f9')]);
   },
 
   calls() {

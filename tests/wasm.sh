@@ -15,15 +15,23 @@ means() { meant=$((meant + $1)); }
 ask() { timeout --foreground "$limit" node "${engine[@]}" tests/wasm.mjs "$@"; }
 engine=()
 
+# narrow: what of an LLVM module as text could mean something else where addresses are narrower, a line each
+narrow() { LC_ALL=C awk -f tests/width.awk; }
+
 module=target/wasm/kiosk.wasm small=$room/small.wasm small_kib=128
 if [ -n "${PROGRAMS:-}" ]; then
   module=$programs/kiosk.wasm small=$module
 else
-  means 5
+  means 7
   tools/wasm kiosk > /dev/null
   tried $? 'the module is made'
   tools/wasm kiosk $small_kib "$small" > /dev/null
   tried $? "and one on a stack of $small_kib KiB"
+  "$tools/bin/clang" --no-default-config --target=x86_64-unknown-linux-gnu -x ir target/module/kiosk/module.bc -S -emit-llvm -Xclang -disable-llvm-passes \
+    -o "$room/module.ll" && grep -q '^define .*@nickelgrove_step(' "$room/module.ll" && narrow < "$room/module.ll" > "$room/narrow" && [ ! -s "$room/narrow" ]
+  tried $? 'nothing in what it is compiled from depends on how wide an address is' || cat "$room/narrow"
+  [ "$(printf '  %%r0 = %s\n' 'alloca ptr, align 8' 'ptrtoint ptr %r1 to i64' 'getelementptr ptr, ptr %r1, i64 1' 'load i64, ptr %r0, align 8' | narrow | wc -l)" -eq 3 ]
+  tried $? 'and where something does, it is found'
 
   # a checkout of one crate, whose one function is to give a number and gives one
   checkout=$room/checkout one=$room/checkout/target/wasm/one.wasm
@@ -43,10 +51,12 @@ fi
 
 command -v node > /dev/null || { echo 'skipped: there is no node here, and the module was not run'; finished $meant; }
 
-means 6
+means 7
 writes 'the long sessions' recorded/long.out ask answers "$module" < recorded/long.in
 cut -d ' ' -f 1,8 recorded/sessions.out > "$room/cuts"
 writes 'the short sessions, each line with its list of saw cuts' "$room/cuts" ask cuts "$module" < recorded/sessions.in
+{ yes ff0ef3 | head -n 6; echo 'refused: the line is too long for the memory'; echo 0701f8; } > "$room/odd"
+writes 'lines that are no frames, and a report behind them' "$room/odd" ask odd "$module"
 
 { sed -n 's/^[a-z0-9_]* \(nickelgrove_[a-z_]*\)(.*/export function \1/p' kiosk/nickelgrove.h; echo 'export memory memory'; echo 'export global __heap_base'; } |
   LC_ALL=C sort > "$room/calls"
