@@ -136,8 +136,8 @@ enrolled-once nil h u q n none = tt
 enrolled-once (grow p d k r) h u q n none =
     once-both (when (isPart (d .kind)) p) _ (once-when (isPart (d .kind)) p)
     (once-both (when none q) _ (once-when none q)
-    (once-both (enrolled p true k) (enrolled q false r) (enrolled-once k (h .1) (u .3) p (u .0) true)
-    (enrolled-once r (h .2) (u .4) q (λ i. n (inr (inr i))) false) apart) under) own
+    (once-both (enrolled p true k) (enrolled q false r) (enrolled-once k (h .1) (u .below) p (u .notBelow) true)
+    (enrolled-once r (h .2) (u .beside) q (λ i. n (inr (inr i))) false) apart) under) own
   where
     below : (i : ℕ) → Names i (enrolled p true k) → (i ≡ p) ⊎ In i k
     below i z = ⊎-elim (λ y. inl (y .1)) (λ y. inr (solid-in i k y)) (enrolled-named k (h .1) p true i z)
@@ -146,7 +146,7 @@ enrolled-once (grow p d k r) h u q n none =
     later i z = ⊎-elim (λ y. absurd (false≢true (y .0))) (solid-in i r) (enrolled-named r (h .2) q false i z)
 
     apart : (i : ℕ) → Names i (enrolled p true k) → Names i (enrolled q false r) → ⊥
-    apart i y z = ⊎-elim (λ e. u .1 (in-eq r e (later i z))) (λ v. u .2 i v (later i z)) (below i y)
+    apart i y z = ⊎-elim (λ e. u .notBeside (in-eq r e (later i z))) (λ v. u .apart i v (later i z)) (below i y)
 
     under : (i : ℕ) → Names i (when none q) → Names i (enrolled p true k ++ enrolled q false r) → ⊥
     under i y z =
@@ -160,7 +160,7 @@ enrolled-once (grow p d k r) h u q n none =
         let bare : k ≡ nil = part-childless (d .kind) k (f .0) (h .0) in
         let e : i ≡ p = f .1 in
         ⊎-elim (λ v. n (inl (sym (names-when i none q v .1) ∙ e)))
-        (λ v. ⊎-elim (λ s. subst (λ (t : Tree). Names i (enrolled p true t) → ⊥) (sym bare) (λ a. a) s) (λ s. u .1 (in-eq r e (later i s)))
+        (λ v. ⊎-elim (λ s. subst (λ (t : Tree). Names i (enrolled p true t) → ⊥) (sym bare) (λ a. a) s) (λ s. u .notBeside (in-eq r e (later i s)))
         (names-cases i (enrolled p true k) (enrolled q false r) v)) (names-cases i (when none q) _ z)
 
 -- ---- the block of a booking is so built

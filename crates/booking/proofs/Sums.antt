@@ -42,7 +42,7 @@ module _ (m : Tree → ℕ) (g : Datum → ℕ) (none : m nil ≡ 0)
     (here : m (h (grow x d nil nil)) ≡ n) where
   sum-change : (w : Tree) → Where x (Alone d) w → Distinct w → In x w → m (h w) + g d ≡ m w + n
   sum-change nil a u o = absurd o
-  sum-change (grow y c k r) a u o = go (same? y x) o (sum-change k (a .1) (u .3)) (sum-change r (a .2) (u .4))
+  sum-change (grow y c k r) a u o = go (same? y x) o (sum-change k (a .1) (u .below)) (sum-change r (a .2) (u .beside))
     where
       go : (y ≡ x) ⊎ (y ≡ x → ⊥) → In x (grow y c k r) → (In x k → m (h k) + g d ≡ m k + n) → (In x r → m (h r) + g d ≡ m r + n)
           → m (h (grow y c k r)) + g d ≡ m (grow y c k r) + n
@@ -51,10 +51,10 @@ module _ (m : Tree → ℕ) (g : Datum → ℕ) (none : m nil ≡ 0)
       go (inr e) (inl v) ik ir = absurd (e (sym v))
       go (inr e) (inr (inl v)) ik ir =
           let z = ik v in
-          rw (pass y c k r e, some y c (h k) (h r), some y c k r, pass-absent x h end pass r (u .2 x v)) (omega arith)
+          rw (pass y c k r e, some y c (h k) (h r), some y c k r, pass-absent x h end pass r (u .apart x v)) (omega arith)
       go (inr e) (inr (inr v)) ik ir =
           let z = ir v in
-          rw (pass y c k r e, some y c (h k) (h r), some y c k r, pass-absent x h end pass k (λ i. u .2 x i v)) (omega arith)
+          rw (pass y c k r e, some y c (h k) (h r), some y c k r, pass-absent x h end pass k (λ i. u .apart x i v)) (omega arith)
 
 -- ---- the block's part
 

@@ -102,7 +102,7 @@ module _ (x : ℕ) (g f : Datum → Tree → Tree) (less-row : (j : ℕ) (d : Da
     parent-change : (q : ℕ) (w : Tree) → Distinct w → Distinct (change x f w) → In i (change x g w)
         → parentIn i q (change x f w) ≡ parentIn i q w
     parent-change q nil dis apart h = absurd h
-    parent-change q (grow y d k r) dis apart h = go (same? y x) (parent-change y k (dis .3)) (parent-change q r (dis .4))
+    parent-change q (grow y d k r) dis apart h = go (same? y x) (parent-change y k (dis .below)) (parent-change q r (dis .beside))
       where
         Kept : ℕ → Tree → Type 0
         Kept v u = Distinct (change x f u) → In i (change x g u) → parentIn i v (change x f u) ≡ parentIn i v u
@@ -112,7 +112,7 @@ module _ (x : ℕ) (g f : Datum → Tree → Tree) (less-row : (j : ℕ) (d : Da
             let a : Distinct (f d r) = rw (eq-eqb y x e) at apart in
             let l : In i (g d r) = rw (eq-eqb y x e) at h in
             let j = less-row i d r l in
-            rw (eq-eqb y x e, ne-eqb y i (λ z. dis .1 (in-eq r (sym z) j)), absent-holds i k (λ z. dis .2 i z j)) (same-row q d r a l)
+            rw (eq-eqb y x e, ne-eqb y i (λ z. dis .notBeside (in-eq r (sym z) j)), absent-holds i k (λ z. dis .apart i z j)) (same-row q d r a l)
         go (inr n) ik ir = other (rw (ne-eqb y x n) at apart) (rw (ne-eqb y x n) at h)
           where
             other : Distinct (grow y d (change x f k) (change x f r)) → In i (grow y d (change x g k) (change x g r))
@@ -120,23 +120,23 @@ module _ (x : ℕ) (g f : Datum → Tree → Tree) (less-row : (j : ℕ) (d : Da
             other a (inl z) = rw (ne-eqb y x n, eq-eqb y i (sym z)) refl
             other a (inr (inl l)) =
                 let j = was k l in
-                rw (ne-eqb y x n, ne-eqb y i (λ z. dis .0 (in-eq k (sym z) j)), in-holds i k j, in-holds i (change x f k) (in-more i k l))
-                (ik (a .3) l)
+                rw (ne-eqb y x n, ne-eqb y i (λ z. dis .notBelow (in-eq k (sym z) j)), in-holds i k j, in-holds i (change x f k) (in-more i k l))
+                (ik (a .below) l)
             other a (inr (inr l)) =
                 let j = was r l in
                 let m = in-more i r l in
                 rw (
                   ne-eqb y x n,
-                  ne-eqb y i (λ z. dis .1 (in-eq r (sym z) j)),
-                  absent-holds i k (λ z. dis .2 i z j),
-                  absent-holds i (change x f k) (λ z. a .2 i z m),
+                  ne-eqb y i (λ z. dis .notBeside (in-eq r (sym z) j)),
+                  absent-holds i k (λ z. dis .apart i z j),
+                  absent-holds i (change x f k) (λ z. a .apart i z m),
                 )
-                (ir (a .4) l)
+                (ir (a .beside) l)
 
     -- and the parent, if it is not what the tree hangs under, is left too
     parent-stays : (q : ℕ) (w : Tree) → Distinct w → In i (change x g w) → (parentIn i q w ≡ q) ⊎ In (parentIn i q w) (change x g w)
     parent-stays q nil dis h = absurd h
-    parent-stays q (grow y d k r) dis h = go (same? y x) (parent-stays y k (dis .3)) (parent-stays q r (dis .4))
+    parent-stays q (grow y d k r) dis h = go (same? y x) (parent-stays y k (dis .below)) (parent-stays q r (dis .beside))
       where
         Held : ℕ → Tree → Type 0
         Held v u = In i (change x g u) → (parentIn i v u ≡ v) ⊎ In (parentIn i v u) (change x g u)
@@ -146,7 +146,7 @@ module _ (x : ℕ) (g f : Datum → Tree → Tree) (less-row : (j : ℕ) (d : Da
         go (inl e) ik ir =
             let l : In i (g d r) = rw (eq-eqb y x e) at h in
             let j = less-row i d r l in
-            rw (eq-eqb y x e, ne-eqb y i (λ z. dis .1 (in-eq r (sym z) j)), absent-holds i k (λ z. dis .2 i z j)) (held-row q d r l)
+            rw (eq-eqb y x e, ne-eqb y i (λ z. dis .notBeside (in-eq r (sym z) j)), absent-holds i k (λ z. dis .apart i z j)) (held-row q d r l)
         go (inr n) ik ir = other (rw (ne-eqb y x n) at h)
           where
             -- under y, and among the later siblings
@@ -163,11 +163,11 @@ module _ (x : ℕ) (g f : Datum → Tree → Tree) (less-row : (j : ℕ) (d : Da
             other (inl z) = rw (eq-eqb y i (sym z)) (inl refl)
             other (inr (inl l)) =
                 let j = was k l in
-                rw (ne-eqb y x n, ne-eqb y i (λ z. dis .0 (in-eq k (sym z) j)), in-holds i k j)
+                rw (ne-eqb y x n, ne-eqb y i (λ z. dis .notBelow (in-eq k (sym z) j)), in-holds i k j)
                 (inr (below (ik l)))
             other (inr (inr l)) =
                 let j = was r l in
-                rw (ne-eqb y x n, ne-eqb y i (λ z. dis .1 (in-eq r (sym z) j)), absent-holds i k (λ z. dis .2 i z j))
+                rw (ne-eqb y x n, ne-eqb y i (λ z. dis .notBeside (in-eq r (sym z) j)), absent-holds i k (λ z. dis .apart i z j))
                 (beside (ir l))
 
 -- ---- a booking

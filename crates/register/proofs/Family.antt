@@ -85,13 +85,13 @@ module _ (x : ℕ) where
   parent-kids v q m nil dis h i = absurd h
   parent-kids v q m (grow p d l r) dis (inl e) i =
       let j : In x l = rw (e .1) at i in
-      rw (ne-eqb p x (λ z. dis .0 (in-eq l (sym z) j)), in-holds x l j, e .0, e .1) refl
+      rw (ne-eqb p x (λ z. dis .notBelow (in-eq l (sym z) j)), in-holds x l j, e .0, e .1) refl
   parent-kids v q m (grow p d l r) dis (inr (inl h)) i =
       let j : In x l = kids-under q m x l h i in
-      rw (ne-eqb p x (λ z. dis .0 (in-eq l (sym z) j)), in-holds x l j) (parent-kids p q m l (dis .3) h i)
+      rw (ne-eqb p x (λ z. dis .notBelow (in-eq l (sym z) j)), in-holds x l j) (parent-kids p q m l (dis .below) h i)
   parent-kids v q m (grow p d l r) dis (inr (inr h)) i =
       let j : In x r = kids-under q m x r h i in
-      rw (ne-eqb p x (λ z. dis .1 (in-eq r (sym z) j)), absent-holds x l (λ y. dis .2 x y j)) (parent-kids v q m r (dis .4) h i)
+      rw (ne-eqb p x (λ z. dis .notBeside (in-eq r (sym z) j)), absent-holds x l (λ y. dis .apart x y j)) (parent-kids v q m r (dis .beside) h i)
 
 -- the parent of x is the piece among whose children x stands
 pub parent-spot : (limit x : ℕ) (w : Tree) → Distinct w → (s : Spot x w) → parentOf limit x w ≡ s .parent
@@ -114,9 +114,9 @@ module _ (settings : Settings) (q : ℕ) (m : Tree) (n : m ≡ nil → ⊥) wher
 
   children-solid : (c : Datum) (w : Tree) → Children settings c w → Kids q m w → Solid w
   children-solid c nil h g = absurd g
-  children-solid c (grow p d l r) h (inl z) = (d, inl (z .0, refl), kind-solid (d .kind) d l r (λ y. n (z .1 ∙ y)) (h .1))
-  children-solid c (grow p d l r) h (inr (inl g)) = let o = children-solid d l (h .2) g in (o .0, inr (inl (o .1)), o .2)
-  children-solid c (grow p d l r) h (inr (inr g)) = let o = children-solid c r (h .3) g in (o .0, inr (inr (o .1)), o .2)
+  children-solid c (grow p d l r) h (inl z) = (d, inl (z .0, refl), kind-solid (d .kind) d l r (λ y. n (z .1 ∙ y)) (h .kinded))
+  children-solid c (grow p d l r) h (inr (inl g)) = let o = children-solid d l (h .below) g in (o .0, inr (inl (o .1)), o .2)
+  children-solid c (grow p d l r) h (inr (inr g)) = let o = children-solid c r (h .beside) g in (o .0, inr (inr (o .1)), o .2)
 
   topped-solid : (w : Tree) → Topped settings w → Kids q m w → Solid w
   topped-solid nil h g = absurd g
@@ -236,10 +236,10 @@ childless-is q k nil dis h = absurd h
 childless-is q k (grow p d l r) dis (inl e) = rw (eq-eqb p q (sym (e .0)), e .1) refl
 childless-is q k (grow p d l r) dis (inr (inl h)) =
     let i = kids-in q k l h in
-    rw (ne-eqb p q (λ e. dis .0 (in-eq l (sym e) i)), childless-absent q r (dis .2 q i), or-none (childless q l)) (childless-is q k l (dis .3) h)
+    rw (ne-eqb p q (λ e. dis .notBelow (in-eq l (sym e) i)), childless-absent q r (dis .apart q i), or-none (childless q l)) (childless-is q k l (dis .below) h)
 childless-is q k (grow p d l r) dis (inr (inr h)) =
     let i = kids-in q k r h in
-    rw (ne-eqb p q (λ e. dis .1 (in-eq r (sym e) i)), childless-absent q l (λ y. dis .2 q y i)) (childless-is q k r (dis .4) h)
+    rw (ne-eqb p q (λ e. dis .notBeside (in-eq r (sym e) i)), childless-absent q l (λ y. dis .apart q y i)) (childless-is q k r (dis .beside) h)
 
 -- the table shows it
 no-first : (limit : ℕ) (t : List Node) (q : ℕ) (k : Tree) → Rep limit t q limit k → leb limit (head limit k) ≡ isNil k

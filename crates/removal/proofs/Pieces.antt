@@ -62,13 +62,13 @@ module _ (i : ℕ) where
   -- it is not left
   end-out : (b : Tree) → Distinct b → Names i (freeEnd b) → In i (withoutLast b) → ⊥
   end-out nil dis h g = h
-  end-out (grow p d k r) dis h g = go (isFree (d .kind) && isNil r) h g (end-out r (dis .4))
+  end-out (grow p d k r) dis h g = go (isFree (d .kind) && isNil r) h g (end-out r (dis .beside))
     where
       go : (c : Bool) → Names i (cond c (p ∷ []) (freeEnd r)) → In i (cond c nil (grow p d k (withoutLast r)))
           → (Names i (freeEnd r) → In i (withoutLast r) → ⊥) → ⊥
       go true h g ih = g
-      go false h (inl e) ih = dis .1 (in-eq r e (end-in r h))
-      go false h (inr (inl g)) ih = dis .2 i g (end-in r h)
+      go false h (inl e) ih = dis .notBeside (in-eq r e (end-in r h))
+      go false h (inr (inl g)) ih = dis .apart i g (end-in r h)
       go false h (inr (inr g)) ih = ih h g
 
   -- and all else is
@@ -146,10 +146,10 @@ module _ (t : List Node) (x : ℕ) (d : Datum) (w : Tree) (dis : Distinct w) (o 
         (in-after i (o .before) (withoutLast (o .behind)) v)
       where
         late : In i (withoutLast (o .behind)) → In i (grow x d (o .below) nil) ⊎ Names i (freeEnd (o .behind)) → ⊥
-        late a (inl (inl e)) = row-apart .1 (in-eq (o .behind) e (in-left i (o .behind) a))
-        late a (inl (inr (inl u))) = row-apart .2 i u (in-left i (o .behind) a)
+        late a (inl (inl e)) = row-apart .notBeside (in-eq (o .behind) e (in-left i (o .behind) a))
+        late a (inl (inr (inl u))) = row-apart .apart i u (in-left i (o .behind) a)
         late a (inl (inr (inr u))) = u
-        late a (inr u) = end-out i (o .behind) (row-apart .4) u a
+        late a (inr u) = end-out i (o .behind) (row-apart .beside) u a
 
     -- all else of it is
     row-left : (Names i (going t x w) → ⊥) → In i m → In i k

@@ -53,10 +53,10 @@ module _ (t : List Node) (φ : Datum → ℕ) (F : Tree → ℕ) (G : List ℕ �
       rw (put-here q k p d l r (e .0), e .1) (omega (arith, F-grow p d l r, F-grow p d k r))
   sum-put q m k (grow p d l r) dis (inr (inl h)) =
       rw (put-left q k p d l r dis (kids-in q m l h))
-      (omega (arith, F-grow p d l r, F-grow p d (put q k l) r, sum-put q m k l (dis .3) h))
+      (omega (arith, F-grow p d l r, F-grow p d (put q k l) r, sum-put q m k l (dis .below) h))
   sum-put q m k (grow p d l r) dis (inr (inr h)) =
       rw (put-right q k p d l r dis (kids-in q m r h))
-      (omega (arith, F-grow p d l r, F-grow p d l (put q k r), sum-put q m k r (dis .4) h))
+      (omega (arith, F-grow p d l r, F-grow p d l (put q k r), sum-put q m k r (dis .beside) h))
 
   -- a row that goes
   sum-leaving : (limit : ℕ) (k : Tree) → Shown limit t k → G (leaving k) ≡ F k

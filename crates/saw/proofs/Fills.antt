@@ -58,7 +58,7 @@ flat-gone Structure p d k r f e = absurd (sided-area (f .sided) e)
 -- of a row with no width nothing stays
 none-left : (stages : ℕ) (q : Datum) (r : Tree) → Children stages q r → extent (other (q .cut)) r ≡ 0 → withoutEmpty r ≡ nil
 none-left stages q nil h e = refl
-none-left stages q (grow p d k r) h e = flat-gone (d .kind) p d k r (h .1) (flat-area (other (q .cut)) (d .size) (omega arith))
+none-left stages q (grow p d k r) h e = flat-gone (d .kind) p d k r (h .kinded) (flat-area (other (q .cut)) (d .size) (omega arith))
 
 -- what is left out has no board, nothing below it and nothing behind it
 pub empty-gone : (κ : Kind) (d : Datum) (k r : Tree) → Kinded κ d k r → (isFree κ && eqb (area (d .size)) 0) ≡ true
@@ -70,10 +70,10 @@ empty-gone Structure d k r f e = absurd (clash e)
 pub boards-kept : (stages : ℕ) (q : Datum) (r : Tree) → Children stages q r → boards (withoutEmpty r) ≡ boards r
 boards-kept stages q nil h = refl
 boards-kept stages q (grow p d k r) h =
-    let below = boards-kept stages d k (h .2) in
-    let rest = boards-kept stages q r (h .3) in
+    let below = boards-kept stages d k (h .below) in
+    let rest = boards-kept stages q r (h .beside) in
     ⊎-elim
-    (λ e. let gone = empty-gone (d .kind) d k r (h .1) e in rw (e, gone .0, gone .1) rest)
+    (λ e. let gone = empty-gone (d .kind) d k r (h .kinded) e in rw (e, gone .0, gone .1) rest)
     (λ e. rw e (ap₂ (λ (u v : List Size). ownBoard (d .kind) (d .size) ++ (u ++ v)) below rest))
     (test (isEmpty d))
 
@@ -128,7 +128,7 @@ no-length h e = omega arith
 module _ (stages : ℕ) (q : Datum) (p : ℕ) (d : Datum) (k r : Tree) (s : Size) (h : Children stages q (grow p d k r))
     (a : Spans q (grow p d k r) s) where
   height : laid (other (q .cut)) (d .size) .height ≡ laid (other (q .cut)) s .height
-  height = (rw (h .0 .cut) at (h .0 .side)) ∙ sym (a .height)
+  height = (rw (h .child .cut) at (h .child .side)) ∙ sym (a .height)
 
   lengths : side (q .cut) (d .size) + extent (other (q .cut)) r ≡ side (q .cut) s
   lengths = a .length
@@ -138,7 +138,7 @@ module _ (stages : ℕ) (q : Datum) (p : ℕ) (d : Datum) (k r : Tree) (s : Size
   whole z = is-whole (q .cut) (d .size) s height (omega (arith, lengths))
 
   two-sides : Sided (d .size)
-  two-sides = piece-sided (d .kind) d k r (h .1) (λ y z. subst⁻¹ Sided (whole (ap (extent (other (q .cut))) z)) (a .sided))
+  two-sides = piece-sided (d .kind) d k r (h .kinded) (λ y z. subst⁻¹ Sided (whole (ap (extent (other (q .cut))) z)) (a .sided))
 
   off : 1 ≤ extent (other (q .cut)) r → Off (q .cut) s (d .size)
   off z =
@@ -162,13 +162,13 @@ module _ (stages : ℕ) (q : Datum) (p : ℕ) (d : Datum) (k r : Tree) (s : Size
       (rest : (s′ : Size) → Spans q r s′ → Fills (q .cut) s′ (withoutEmpty r)) where
     under : Below (d .kind) (withoutEmpty k) (Fills (other (q .cut)) (d .size) (withoutEmpty k))
     under =
-        piece-below (d .kind) d k r (Fills (other (q .cut)) (d .size) (withoutEmpty k)) (h .1)
-        (λ g. subst (λ (w : Orientation). Fills w (d .size) (withoutEmpty k)) (h .0 .cut) (below g))
+        piece-below (d .kind) d k r (Fills (other (q .cut)) (d .size) (withoutEmpty k)) (h .kinded)
+        (λ g. subst (λ (w : Orientation). Fills w (d .size) (withoutEmpty k)) (h .child .cut) (below g))
 
     shares : Share (q .cut) s (d .size) (withoutEmpty r) (Fills (q .cut) (remnant (q .cut) s (d .size)) (withoutEmpty r))
     shares =
         ⊎-elim
-        (λ z. share-last (q .cut) s (d .size) (withoutEmpty r) _ (none-left stages q r (h .3) z) (whole z))
+        (λ z. share-last (q .cut) s (d .size) (withoutEmpty r) _ (none-left stages q r (h .beside) z) (whole z))
         (λ z. share-more (q .cut) s (d .size) (withoutEmpty r) (off z) (rest (remnant (q .cut) s (d .size)) (spans-rest z)))
         (eq-zero-or-pos (extent (other (q .cut)) r))
 
@@ -179,8 +179,8 @@ row-fills : (stages : ℕ) (q : Datum) (r : Tree) (s : Size) → Children stages
 row-fills stages q nil s h a = no-length (sided-side (q .cut) (a .sided)) (a .length)
 row-fills stages q (grow p d k r) s h a =
     piece-fills stages q p d k r s h a
-    (λ g. row-fills stages d k (d .size) (h .2) (spans-own d k g))
-    (λ s′ z. row-fills stages q r s′ (h .3) z)
+    (λ g. row-fills stages d k (d .size) (h .below) (spans-own d k g))
+    (λ s′ z. row-fills stages q r s′ (h .beside) z)
 
 -- the children of a structure fill it
 pub structure-fills : (stages : ℕ) (d : Datum) (k : Tree) → StructurePiece d k → Children stages d k → Fills (d .cut) (d .size) (withoutEmpty k)

@@ -138,11 +138,11 @@ module _ (limit stages : ℕ) where
       filled b =
           let none : side (q .cut) (d .size) ≡ 0 =
           eqb-true (side (q .cut) (d .size)) 0
-          (sym (empty-side (q .cut) refl (s .sided) (e .0) (d .kind) k r (e .1)) ∙ b) in
+          (sym (empty-side (q .cut) refl (s .sided) (e .child) (d .kind) k r (e .kinded)) ∙ b) in
           omega (
             arith,
             s .filled,
-            ap (extent (other (q .cut))) (empty-gone (d .kind) d k r (e .1) b .2),
+            ap (extent (other (q .cut))) (empty-gone (d .kind) d k r (e .kinded) b .2),
             sided-side (q .cut) (s .sided),
           )
 
@@ -171,12 +171,12 @@ module _ (limit stages : ℕ) where
     rest-kept q way o p nil cut sided c e n = rw (n, le-leb limit limit (le-refl limit)) refl
     rest-kept q way o p (grow x d k r) cut sided c e n =
         rw
-        (n, lt-leb limit x (e .0), sides-at way x _ (e .1), ← empty-side way cut sided (c .0) (d .kind) k r (c .1))
+        (n, lt-leb limit x (e .0), sides-at way x _ (e .1), ← empty-side way cut sided (c .child) (d .kind) k r (c .kinded))
         (go (isEmpty d) refl)
       where
         go : (b : Bool) → isEmpty d ≡ b
             → cond b limit x ≡ head limit (cond b (withoutEmpty r) (grow x d (withoutEmpty k) (withoutEmpty r)))
-        go true b = rw (empty-gone (d .kind) d k r (c .1) b .2) refl
+        go true b = rw (empty-gone (d .kind) d k r (c .kinded) b .2) refl
         go false b = refl
 
     -- a piece in the columns
@@ -186,8 +186,8 @@ module _ (limit stages : ℕ) where
     piece-of q way o pv p d k r cut sided c e =
         record {
           placed = e .0;
-          first = column (λ (x : Node). x .first) p _ (e .1) ∙ children-kept (d .kind) d k r (c .1) (c .2);
-          rest = rest-kept q way o p r cut sided (c .3) (e .3) (column (λ (x : Node). x .next) p _ (e .1));
+          first = column (λ (x : Node). x .first) p _ (e .1) ∙ children-kept (d .kind) d k r (c .kinded) (c .below);
+          rest = rest-kept q way o p r cut sided (c .beside) (e .3) (column (λ (x : Node). x .next) p _ (e .1));
           kind = column (λ (x : Node). kindNo (x .datum .kind)) p _ (e .1);
           distance = sides-at way p _ (e .1);
         }
@@ -204,9 +204,9 @@ module _ (limit stages : ℕ) where
     shown (grow p d k r) q way o pv cut sided c e =
         keep (isEmpty d) way p d (withoutEmpty k) (withoutEmpty r)
         (piece-of q way o pv p d k r cut (sided (omega arith)) c e)
-        (shown k d (other way) p limit (ap other cut ∙ sym (c .0 .cut))
-        (λ h. piece-sided (d .kind) d k r (c .1) (λ z y. let none : ⊥ = omega (arith, ap count z) in absurd none)) (c .2) (e .2))
-        (shown r q way o p cut (λ h. sided (omega arith)) (c .3) (e .3))
+        (shown k d (other way) p limit (ap other cut ∙ sym (c .child .cut))
+        (λ h. piece-sided (d .kind) d k r (c .kinded) (λ z y. let none : ⊥ = omega (arith, ap count z) in absurd none)) (c .below) (e .2))
+        (shown r q way o p cut (λ h. sided (omega arith)) (c .beside) (e .3))
 
 -- The laws. `n` is the fuel: the count of nodes held is enough.
 module _ (limit stages : ℕ) (t : List Node) where

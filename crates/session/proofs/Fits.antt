@@ -91,7 +91,7 @@ piece-numbered Structure d k r h e = absurd (clash e)
 row-numbered : (stages : ℕ) (q : Datum) (w : Tree) → Children stages q w → Numbered w
 row-numbered stages q nil h = tt
 row-numbered stages q (grow p d k r) h =
-    (piece-numbered (d .kind) d k r (h .1), row-numbered stages d k (h .2), row-numbered stages q r (h .3))
+    (piece-numbered (d .kind) d k r (h .kinded), row-numbered stages d k (h .below), row-numbered stages q r (h .beside))
 
 tree-numbered : (stages : ℕ) (sheet : Size) (w : Tree) → Topped stages sheet w → Numbered w
 tree-numbered stages sheet nil h = absurd h

@@ -133,7 +133,7 @@ module _ (limit : ℕ) (settings : Settings) (t : List Node) (places : (i : ℕ)
       let s = solid q pv p d k r rep (g .0 .held) ihk in
       let f = ihr (rw (ap (λ (x : Node). x .next) (rep .1)) at (g .1)) in
       let taken : sum + step (at t p) + extent (other (at t q .datum .cut)) r ≡ room (at t q) = f .1 in
-      ((c, s .0, s .1, f .0), omega arith)
+      (record { child = c; kinded = s .0; below = s .1; beside = f .0 }, omega arith)
 
   -- the row that the table holds from there on
   row-filled : (q m pv sum : ℕ) (r : Tree) → Rep limit t q pv r → Siblings limit settings t q m pv (head limit r) sum

@@ -29,9 +29,9 @@ use Rattle.sound.proofs.Means.{Passes}
 children-deep : (settings : Settings) (q : Datum) (r : Tree) → Children settings q r → Deep (q .level + 1) r
 children-deep settings q nil h = tt
 children-deep settings q (grow p d k r) h = (
-  h .0 .level,
-  subst (λ (l : ℕ). Deep (l + 1) k) (h .0 .level) (children-deep settings d k (h .2)),
-  children-deep settings q r (h .3),
+  h .child .level,
+  subst (λ (l : ℕ). Deep (l + 1) k) (h .child .level) (children-deep settings d k (h .below)),
+  children-deep settings q r (h .beside),
 )
 
 -- the top of a sound tree is at place 0, and alone
@@ -61,8 +61,8 @@ module _ (limit : ℕ) (settings : Settings) (t : List Node) where
   row-walked q (suc m) pv sum nil rep ch e f held c =
       ((λ l. record { none = refl; last = e; full = omega arith }), λ l. let no-place : ⊥ = omega arith in absurd no-place)
   row-walked q (suc m) pv sum (grow p d k r) rep ch e f held c =
-      let taken = step-is settings (at t p) (at t q .datum) d (ap (λ (x : Node). x .datum) (rep .1)) (ch .0) in
-      let rest = row-walked q m p (sum + step (at t p)) r (rep .3) (ch .3) e (omega arith) (λ i y. held i (inr (inr y))) (omega arith) in (
+      let taken = step-is settings (at t p) (at t q .datum) d (ap (λ (x : Node). x .datum) (rep .1)) (ch .child) in
+      let rest = row-walked q m p (sum + step (at t p)) r (rep .3) (ch .beside) e (omega arith) (λ i y. held i (inr (inr y))) (omega arith) in (
         (λ l. let b : p < limit = rep .0 in let no-end : ⊥ = omega arith in absurd no-end),
         λ l. (here, rw (ap (λ (x : Node). x .next) (rep .1)) rest),
       )
@@ -73,7 +73,7 @@ module _ (limit : ℕ) (settings : Settings) (t : List Node) where
             held = held p (inl refl);
             parent = ap (λ (x : Node). x .parent) (rep .1);
             prev = ap (λ (x : Node). x .prev) (rep .1);
-            piece = rw (rep .1) (ch .0);
+            piece = rw (rep .1) (ch .child);
           }
 
   -- a piece shows what it is, and so does its row
@@ -102,11 +102,11 @@ module _ (limit : ℕ) (settings : Settings) (t : List Node) where
       → (i : ℕ) → In i r → Shown i
   row-shown q pv nil rep ch held c i y = absurd y
   row-shown q pv (grow p d k r) rep ch held c i (inl e) =
-      rw e (piece-shown q pv p d k r rep (held p (inl refl)) (ch .1) (ch .2) (λ j z. held j (inr (inl z))) (omega arith))
+      rw e (piece-shown q pv p d k r rep (held p (inl refl)) (ch .kinded) (ch .below) (λ j z. held j (inr (inl z))) (omega arith))
   row-shown q pv (grow p d k r) rep ch held c i (inr (inl y)) =
-      row-shown p limit k (rep .2) (rw (rep .1) (ch .2)) (λ j z. held j (inr (inl z))) (omega arith) i y
+      row-shown p limit k (rep .2) (rw (rep .1) (ch .below)) (λ j z. held j (inr (inl z))) (omega arith) i y
   row-shown q pv (grow p d k r) rep ch held c i (inr (inr y)) =
-      row-shown q p r (rep .3) (ch .3) (λ j z. held j (inr (inr z))) (omega arith) i y
+      row-shown q p r (rep .3) (ch .beside) (λ j z. held j (inr (inr z))) (omega arith) i y
 
   zero-shown : (i : ℕ) → at t i ≡ zeroNode → Shown i
   zero-shown i e =

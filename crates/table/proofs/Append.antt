@@ -9,7 +9,7 @@ use Rattle.piece.specs.declared.node.Datum.{Datum}
 use Rattle.piece.specs.Row.{nil, grow}
 use Rattle.tree.specs.Tree.{Tree, In, after}
 use Rattle.tree.specs.Steps.{app, Kids}
-use Rattle.tree.proofs.Rows.{in-eq, in-after, distinct-after}
+use Rattle.tree.proofs.Rows.{in-eq, in-after, distinct-one, distinct-after}
 use Rattle.tree.proofs.Kids.{kids-of, kids-in, kids-under, kids-distinct, kids-self, put, put-distinct}
 use Rattle.tree.proofs.Hangs.{hang-put, in-hang, in-hung}
 use Rattle.table.specs.declared.Node.{Node}
@@ -84,7 +84,7 @@ module _ (limit : ℕ) (t : List Node) (q a : ℕ) (d : Datum) where
               (entry u k row g) new-row);
           distinct = rw is-put
               (put-distinct q (after k leaf) k w (h .distinct) kids
-              (distinct-after k leaf (kids-distinct q k w (h .distinct) kids) (absurd, absurd, (λ i y z. y), tt, tt)
+              (distinct-after k leaf (kids-distinct q k w (h .distinct) kids) (distinct-one a d)
               (λ i y z. ⊎-elim (λ e. out (in-eq w e (kids-under q k i w kids y))) (λ v. ⊎-elim absurd absurd v) z))
               (λ i y z. ⊎-elim (λ v. v) (λ e. absurd (out (in-eq w e z))) (new-in i y)));
           rest = λ i b n.

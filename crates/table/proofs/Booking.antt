@@ -42,7 +42,7 @@ module _ (limit : ℕ) (t : List Node) (q p : ℕ) (d : Datum) (k r w : Tree) (h
       ⊎-elim (λ z. ⊎-elim inl (λ v. ⊎-elim absurd absurd v) z) inr (hang-in q leaf (own .0) w (h .distinct) (own .1) j y)
 
   pub kids-new : (j : ℕ) → In j k → In j w₁ → ⊥
-  kids-new j y z = ⊎-elim (λ e. dis .0 (in-eq k e y)) (new j (inr (inl y))) (in-w₁ j z)
+  kids-new j y z = ⊎-elim (λ e. dis .notBelow (in-eq k e y)) (new j (inr (inl y))) (in-w₁ j z)
 
   lower : (l : Tree) × Kids p l w₁
   lower = kids-of p w₁ first-in
@@ -53,7 +53,7 @@ module _ (limit : ℕ) (t : List Node) (q p : ℕ) (d : Datum) (k r w : Tree) (h
 
   pub rest-new : (j : ℕ) → In j r → In j (hang p k w₁) → ⊥
   rest-new j y z =
-      ⊎-elim (λ v. dis .2 j v y) (λ v. ⊎-elim (λ e. dis .1 (in-eq r e y)) (new j (inr (inr y))) (in-w₁ j v))
+      ⊎-elim (λ v. dis .apart j v y) (λ v. ⊎-elim (λ e. dis .notBeside (in-eq r e y)) (new j (inr (inr y))) (in-w₁ j v))
       (hang-in p k (lower .0) w₁ (first-holds .distinct) (lower .1) j z)
 
 module _ (limit : ℕ) where
@@ -63,11 +63,11 @@ module _ (limit : ℕ) where
   plant-holds nil t q w h i dis low new = rw (hang-nil q w) h
   plant-holds (grow p d k r) t q w h i dis low new =
       let h₁ = first-holds limit t q p d k r w h i dis low new in
-      let h₂ = plant-holds k (append limit t q p d) p (app q p d w) h₁ (first-in limit t q p d k r w h i dis low new) (dis .3)
+      let h₂ = plant-holds k (append limit t q p d) p (app q p d w) h₁ (first-in limit t q p d k r w h i dis low new) (dis .below)
       (λ j y. low j (inr (inl y))) (kids-new limit t q p d k r w h i dis low new)
       in
       let h₃ = plant-holds r (plant limit (append limit t q p d) p k) q (hang p k (app q p d w)) h₂
-      (rest-in limit t q p d k r w h i dis low new) (dis .4) (λ j y. low j (inr (inr y))) (rest-new limit t q p d k r w h i dis low new)
+      (rest-in limit t q p d k r w h i dis low new) (dis .beside) (λ j y. low j (inr (inr y))) (rest-new limit t q p d k r w h i dis low new)
       in
       rw (hang-row q p d k r w (new p (inl refl))) at h₃
 

@@ -128,16 +128,16 @@ module _ (limit : ℕ) (t : List Node) where
   distinct-rep q pv lv nil rep dp n = tt
   distinct-rep q pv lv (grow p d k r) rep dp n =
       let one = once q pv p d k r rep n in
-      let here : at t p .datum .level ≡ lv = ap (λ (x : Node). x .datum .level) (rep .1) ∙ dp .0 in (
-        (λ h. let z : lv + 1 ≤ at t p .datum .level = level-in p limit (lv + 1) p k (rep .2) (dp .1) h in omega arith),
-        (λ h. let z : at t p .datum .level - lv ≡ 0 = omega arith in one (rw z at (up-in q p lv p r (rep .3) (dp .2) h))),
-        (λ i h g.
+      let here : at t p .datum .level ≡ lv = ap (λ (x : Node). x .datum .level) (rep .1) ∙ dp .0 in record {
+        notBelow = λ h. let z : lv + 1 ≤ at t p .datum .level = level-in p limit (lv + 1) p k (rep .2) (dp .1) h in omega arith;
+        notBeside = λ h. let z : at t p .datum .level - lv ≡ 0 = omega arith in one (rw z at (up-in q p lv p r (rep .3) (dp .2) h));
+        apart = λ i h g.
             let b : lv + 1 ≤ at t i .datum .level = level-in p limit (lv + 1) i k (rep .2) (dp .1) h in
             let e = kid-up p lv i k (rep .2) b (up-in p limit (lv + 1) i k (rep .2) (dp .1) h) in
-            one (rw e at (up-in q p lv i r (rep .3) (dp .2) g))),
-        distinct-rep p limit (lv + 1) k (rep .2) (dp .1) (λ h. limit-out limit t p limit k (rep .2) (top-in limit k h)),
-        distinct-rep q p lv r (rep .3) (dp .2) one,
-      )
+            one (rw e at (up-in q p lv i r (rep .3) (dp .2) g));
+        below = distinct-rep p limit (lv + 1) k (rep .2) (dp .1) (λ h. limit-out limit t p limit k (rep .2) (top-in limit k h));
+        beside = distinct-rep q p lv r (rep .3) (dp .2) one;
+      }
 
   -- what stands among the siblings from the head of a row on is in the row
   among-in : (m q pv j : ℕ) (w : Tree) → Rep limit t q pv w → Among limit m t (head limit w) j → In j w

@@ -81,11 +81,11 @@ module _ (h : ℕ → ℕ) where
   share-in : (i : ℕ) (w : Tree) → Distinct w → In i w → share w i ≡ h i
   share-in i nil dis y = absurd y
   share-in i (grow p d k r) dis (inl e) =
-      omega (arith, this p i e, share-out i k (λ y. dis .0 (in-eq k e y)), share-out i r (λ y. dis .1 (in-eq r e y)))
+      omega (arith, this p i e, share-out i k (λ y. dis .notBelow (in-eq k e y)), share-out i r (λ y. dis .notBeside (in-eq r e y)))
   share-in i (grow p d k r) dis (inr (inl y)) =
-      omega (arith, other p i (λ e. dis .0 (in-eq k e y)), share-in i k (dis .3) y, share-out i r (dis .2 i y))
+      omega (arith, other p i (λ e. dis .notBelow (in-eq k e y)), share-in i k (dis .below) y, share-out i r (dis .apart i y))
   share-in i (grow p d k r) dis (inr (inr y)) =
-      omega (arith, other p i (λ e. dis .1 (in-eq r e y)), share-out i k (λ z. dis .2 i z y), share-in i r (dis .4) y)
+      omega (arith, other p i (λ e. dis .notBeside (in-eq r e y)), share-out i k (λ z. dis .apart i z y), share-in i r (dis .beside) y)
 
   -- the row has all that counts: each of its places is one of the numbers, and none stands twice
   pub everywhere : (w : Tree) (n : ℕ) → Distinct w → ((i : ℕ) → In i w → i < n) → ((i : ℕ) → i < n → (In i w → ⊥) → h i ≡ 0)

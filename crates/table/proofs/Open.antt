@@ -11,6 +11,7 @@ use Rattle.piece.specs.declared.settings.Opening.{Opening}
 use Rattle.piece.specs.declared.node.Datum.{Datum}
 use Rattle.piece.specs.Row.{nil, grow}
 use Rattle.tree.specs.Open.{topDatum, firstFree, opened}
+use Rattle.tree.proofs.Rows.{distinct-one}
 use Rattle.table.specs.declared.Node.{Node}
 use Rattle.table.specs.Table.{mk, zeroNode, Holds, append}
 use Rattle.table.specs.Steps.{topOnly}
@@ -22,7 +23,7 @@ top-only-holds limit d h =
     record {
       len = length-set empty 0 top ∙ length-replicate limit zeroNode;
       rep = (h, getD-set-same empty 0 top zeroNode (omega (arith, length-replicate limit zeroNode)), tt, tt);
-      distinct = (absurd, absurd, (λ i y z. y), tt, tt);
+      distinct = distinct-one 0 d;
       rest = λ i b n. getD-set-other empty 0 i top zeroNode (λ e. n (inl e)) ∙ getD-replicate limit i zeroNode zeroNode b;
     }
   where

@@ -143,14 +143,14 @@ module _ (limit : ℕ) where
     renext pv nx n (grow p d k nil) dis s same tied = (
       s .0,
       tied (inl refl) ∙ ap (λ (m : Node). withNext m n) (s .1),
-      frame t u p limit k (λ i h. same i (inr (inl h)) (λ e. dis .0 (in-eq k e h))) (s .2),
+      frame t u p limit k (λ i h. same i (inr (inl h)) (λ e. dis .notBelow (in-eq k e h))) (s .2),
       tt,
     )
     renext pv nx n (grow p d k (grow p₁ d₁ k₁ r₁)) dis s same tied = (
       s .0,
-      same p (inl refl) (λ e. dis .1 (in-eq r (sym e) end)) ∙ s .1,
-      frame t u p limit k (λ i h. same i (inr (inl h)) (λ e. dis .2 i h (in-eq r (sym e) end))) (s .2),
-      renext p nx n (grow p₁ d₁ k₁ r₁) (dis .4) (s .3) (λ i h m. same i (inr (inr h)) m) (λ h. tied (inr (inr h))),
+      same p (inl refl) (λ e. dis .notBeside (in-eq r (sym e) end)) ∙ s .1,
+      frame t u p limit k (λ i h. same i (inr (inl h)) (λ e. dis .apart i h (in-eq r (sym e) end))) (s .2),
+      renext p nx n (grow p₁ d₁ k₁ r₁) (dis .beside) (s .3) (λ i h m. same i (inr (inr h)) m) (λ h. tied (inr (inr h))),
     )
       where
         r : Tree
@@ -166,8 +166,8 @@ module _ (limit : ℕ) where
     reprev pv nx n (grow p d k r) dis s same tied = (
       s .0,
       tied (inl refl) ∙ ap (λ (m : Node). withPrev m n) (s .1),
-      frame t u p limit k (λ i h. same i (inr (inl h)) (λ e. dis .0 (in-eq k e h))) (s .2),
-      part-frame p nx r (λ i h. same i (inr (inr h)) (λ e. dis .1 (in-eq r e h))) (s .3),
+      frame t u p limit k (λ i h. same i (inr (inl h)) (λ e. dis .notBelow (in-eq k e h))) (s .2),
+      part-frame p nx r (λ i h. same i (inr (inr h)) (λ e. dis .notBeside (in-eq r e h))) (s .3),
     )
 
   -- other children of q
@@ -183,25 +183,25 @@ module _ (limit : ℕ) where
           rw (e .0, rep .1) at entry,
           rw (e .0) at new,
           frame t u v p r
-              (λ i y. same i (inr (inr y)) (λ z. dis .1 (in-eq r (z ∙ e .0) y)) (λ z. dis .2 i (rw (e .1) at z) y)) (rep .3),
+              (λ i y. same i (inr (inr y)) (λ z. dis .notBeside (in-eq r (z ∙ e .0) y)) (λ z. dis .apart i (rw (e .1) at z) y)) (rep .3),
         )
     rep-put v pv (grow p d l r) rep dis (inr (inl h)) same entry new =
         let j : In q l = kids-in q m l h in
         rw (put-left q k p d l r dis j) (
           rep .0,
           rw (head-put q k limit l, last-put q k limit l)
-              (same p (inl refl) (λ z. dis .0 (in-eq l (sym z) j)) (λ z. dis .0 (kids-under q m p l h z)) ∙ rep .1),
-          rep-put p limit l (rep .2) (dis .3) h (λ i y. same i (inr (inl y))) entry new,
+              (same p (inl refl) (λ z. dis .notBelow (in-eq l (sym z) j)) (λ z. dis .notBelow (kids-under q m p l h z)) ∙ rep .1),
+          rep-put p limit l (rep .2) (dis .below) h (λ i y. same i (inr (inl y))) entry new,
           frame t u v p r
-              (λ i y. same i (inr (inr y)) (λ z. dis .2 q j (in-eq r z y)) (λ z. dis .2 i (kids-under q m i l h z) y)) (rep .3),
+              (λ i y. same i (inr (inr y)) (λ z. dis .apart q j (in-eq r z y)) (λ z. dis .apart i (kids-under q m i l h z) y)) (rep .3),
         )
     rep-put v pv (grow p d l r) rep dis (inr (inr h)) same entry new =
         let j : In q r = kids-in q m r h in
         rw (put-right q k p d l r dis j) (
           rep .0,
           rw (head-put q k limit r)
-              (same p (inl refl) (λ z. dis .1 (in-eq r (sym z) j)) (λ z. dis .1 (kids-under q m p r h z)) ∙ rep .1),
+              (same p (inl refl) (λ z. dis .notBeside (in-eq r (sym z) j)) (λ z. dis .notBeside (kids-under q m p r h z)) ∙ rep .1),
           frame t u p limit l
-              (λ i y. same i (inr (inl y)) (λ z. dis .2 q (in-eq l z y) j) (λ z. dis .2 i y (kids-under q m i r h z))) (rep .2),
-          rep-put v p r (rep .3) (dis .4) h (λ i y. same i (inr (inr y))) entry new,
+              (λ i y. same i (inr (inl y)) (λ z. dis .apart q (in-eq l z y) j) (λ z. dis .apart i y (kids-under q m i r h z))) (rep .2),
+          rep-put v p r (rep .3) (dis .beside) h (λ i y. same i (inr (inr y))) entry new,
         )

@@ -28,12 +28,12 @@ module _ {A : Type 0} where
 
   once : (i : ℕ) (w : Row A) → Distinct w → times i w ≤ 1
   once i nil dis = omega arith
-  once i (grow p d k r) dis = go (same? i p) (in? i k) (once i k (dis .3)) (once i r (dis .4))
+  once i (grow p d k r) dis = go (same? i p) (in? i k) (once i k (dis .below)) (once i r (dis .beside))
     where
       go : (i ≡ p) ⊎ (i ≡ p → ⊥) → In i k ⊎ (In i k → ⊥) → times i k ≤ 1 → times i r ≤ 1 → times i (grow p d k r) ≤ 1
       go (inl e) c a b =
-          rw (eq-eqb i p e, never i k (λ h. dis .0 (in-eq k e h)), never i r (λ h. dis .1 (in-eq r e h))) (omega arith)
-      go (inr n) (inl h) a b = rw (ne-eqb i p n, never i r (dis .2 i h)) (omega arith)
+          rw (eq-eqb i p e, never i k (λ h. dis .notBelow (in-eq k e h)), never i r (λ h. dis .notBeside (in-eq r e h))) (omega arith)
+      go (inr n) (inl h) a b = rw (ne-eqb i p n, never i r (dis .apart i h)) (omega arith)
       go (inr n) (inr m) a b = rw (ne-eqb i p n, never i k m) (omega arith)
 
   below-most : (n : ℕ) (w : Row A) → Distinct w → below n w ≤ n

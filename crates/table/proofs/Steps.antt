@@ -38,13 +38,13 @@ module _ (settings : Settings) where
 
   children-leaves : (q : Datum) (k : Tree) → Children settings q k → FreeLeaves k
   children-leaves q nil h = tt
-  children-leaves q (grow p d k r) h = ((λ e. free-kind (d .kind) d k r e (h .1) .childless), children-leaves q r (h .3))
+  children-leaves q (grow p d k r) h = ((λ e. free-kind (d .kind) d k r e (h .kinded) .childless), children-leaves q r (h .beside))
 
   kids-leaves : (q : Datum) (x : ℕ) (k w : Tree) → Children settings q w → Kids x k w → FreeLeaves k
   kids-leaves q x k nil h g = absurd g
-  kids-leaves q x k (grow p d l r) h (inl e) = rw (e .1) (children-leaves d l (h .2))
-  kids-leaves q x k (grow p d l r) h (inr (inl g)) = kids-leaves d x k l (h .2) g
-  kids-leaves q x k (grow p d l r) h (inr (inr g)) = kids-leaves q x k r (h .3) g
+  kids-leaves q x k (grow p d l r) h (inl e) = rw (e .1) (children-leaves d l (h .below))
+  kids-leaves q x k (grow p d l r) h (inr (inl g)) = kids-leaves d x k l (h .below) g
+  kids-leaves q x k (grow p d l r) h (inr (inr g)) = kids-leaves q x k r (h .beside) g
 
   topped-leaves : (x : ℕ) (k w : Tree) → Topped settings w → Kids x k w → FreeLeaves k
   topped-leaves x k nil h g = absurd g

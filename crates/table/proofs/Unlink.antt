@@ -71,7 +71,7 @@ module _ (limit : ℕ) (t : List Node) (q x : ℕ) (a : Tree) (d : Datum) (b w :
   not-x-a i y e = after-apart a (grow x d nil b) dis i y (inl e)
 
   not-x-b : (i : ℕ) → In i b → i ≡ x → ⊥
-  not-x-b i y e = after-second a (grow x d nil b) dis .1 (in-eq b e y)
+  not-x-b i y e = after-second a (grow x d nil b) dis .notBeside (in-eq b e y)
 
   apart : (i : ℕ) → In i a → In i b → ⊥
   apart i y z = after-apart a (grow x d nil b) dis i y (inr (inr z))
@@ -106,7 +106,7 @@ module _ (limit : ℕ) (t : List Node) (q x : ℕ) (a : Tree) (d : Datum) (b w :
       (λ i y n. g .other i (not-x-a i y) (not-q i (in-a i y)) n
       (λ e. ⊎-elim (λ z. not-limit i (in-a i y) (e ∙ z)) (λ z. apart i y (in-eq b (sym e) z)) behind))
       (λ y. g .before (bound limit t q limit pv m (row .rep) (in-a pv y))))
-      (reprev limit t u q x limit pv b (after-second a (grow x d nil b) dis .4) (parts .1 .3)
+      (reprev limit t u q x limit pv b (after-second a (grow x d nil b) dis .beside) (parts .1 .3)
       (λ i y n. g .other i (not-x-b i y) (not-q i (in-b i y))
       (λ e. ⊎-elim (λ z. not-limit i (in-b i y) (e ∙ z)) (λ z. apart i (in-eq a (sym e) z) y) before) n)
       (λ y. g .behind (bound limit t q limit nx m (row .rep) (in-b nx y)))))
@@ -149,7 +149,7 @@ module _ (limit : ℕ) (t : List Node) (q x : ℕ) (a : Tree) (d : Datum) (b w :
             entry new-row);
         distinct = rw is-put
             (put-distinct q (after a b) m w (h .distinct) kids
-            (distinct-after a b (after-first a (grow x d nil b) dis) (after-second a (grow x d nil b) dis .4) apart)
+            (distinct-after a b (after-first a (grow x d nil b) dis) (after-second a (grow x d nil b) dis .beside) apart)
             (λ i y z. ⊎-elim (in-a i) (in-b i) (in-after i a b y)));
         rest = λ i l n. ⊎-elim (λ e. rw e (g .gone)) (λ nx. kept i l n nx) (same? i x);
       }

@@ -35,9 +35,9 @@ pub row-area : (settings : Settings) (q : Datum) (r : Tree) → Children setting
 row-area settings q nil h = omega arith
 row-area settings q (grow p d k r) h =
     let c = other (q .cut) in
-    let side : laid c (d .size) .height ≡ laid c (q .size) .height = rw (h .0 .cut) at (h .0 .side) in
+    let side : laid c (d .size) .height ≡ laid c (q .size) .height = rw (h .child .cut) at (h .child .side) in
     let here : laid c (d .size) .width * laid c (q .size) .height ≡ area (d .size) = rw side at (area-laid c (d .size)) in
-    let rest = row-area settings q r (h .3) in
+    let rest = row-area settings q r (h .beside) in
     omega arith
 
 -- the children of a structure fill it
@@ -55,7 +55,7 @@ piece-area Structure d k r f below = omega (arith, below f)
 pub row-held : (settings : Settings) (q : Datum) (r : Tree) → Children settings q r → partArea r + freeArea r ≡ rowArea r
 row-held settings q nil h = refl
 row-held settings q (grow p d k r) h =
-    let below = row-held settings d k (h .2) in
-    let rest = row-held settings q r (h .3) in
-    let here = piece-area (d .kind) d k r (h .1) (λ s. below ∙ filled-area settings d k s (h .2)) in
+    let below = row-held settings d k (h .below) in
+    let rest = row-held settings q r (h .beside) in
+    let here = piece-area (d .kind) d k r (h .kinded) (λ s. below ∙ filled-area settings d k s (h .below)) in
     omega arith

@@ -32,21 +32,21 @@ inside-inner x i (grow p d k r) (inr (inr h)) = inr (inr (inside-inner x i r h))
 -- what is left when x has gone was not inside x
 pub left-outside : (x i : ℕ) (t : Tree) → Distinct t → In i (cleared x t) → Inside x i t → ⊥
 left-outside x i nil u h g = g
-left-outside x i (grow p d k r) u h g = go (same? p x) (left-outside x i k (u .3)) (left-outside x i r (u .4))
+left-outside x i (grow p d k r) u h g = go (same? p x) (left-outside x i k (u .below)) (left-outside x i r (u .beside))
   where
     here : p ≡ x → In i r → Inside x i (grow p d k r) → ⊥
-    here e o (inl z) = u .2 i (z .1) o
-    here e o (inr (inl z)) = u .0 (in-eq k (sym e) (inside-outer x i k z))
-    here e o (inr (inr z)) = u .1 (in-eq r (sym e) (inside-outer x i r z))
+    here e o (inl z) = u .apart i (z .1) o
+    here e o (inr (inl z)) = u .notBelow (in-eq k (sym e) (inside-outer x i k z))
+    here e o (inr (inr z)) = u .notBeside (in-eq r (sym e) (inside-outer x i r z))
 
     further : (p ≡ x → ⊥) → (In i (cleared x k) → Inside x i k → ⊥) → (In i (cleared x r) → Inside x i r → ⊥)
         → In i (grow p d (cleared x k) (cleared x r)) → Inside x i (grow p d k r) → ⊥
     further m a b o (inl z) = m (sym (z .0))
-    further m a b (inl e) (inr (inl z)) = u .0 (in-eq k e (inside-inner x i k z))
+    further m a b (inl e) (inr (inl z)) = u .notBelow (in-eq k e (inside-inner x i k z))
     further m a b (inr (inl o)) (inr (inl z)) = a o z
-    further m a b (inr (inr o)) (inr (inl z)) = u .2 i (inside-inner x i k z) (in-cleared x i r o)
-    further m a b (inl e) (inr (inr z)) = u .1 (in-eq r e (inside-inner x i r z))
-    further m a b (inr (inl o)) (inr (inr z)) = u .2 i (in-cleared x i k o) (inside-inner x i r z)
+    further m a b (inr (inr o)) (inr (inl z)) = u .apart i (inside-inner x i k z) (in-cleared x i r o)
+    further m a b (inl e) (inr (inr z)) = u .notBeside (in-eq r e (inside-inner x i r z))
+    further m a b (inr (inl o)) (inr (inr z)) = u .apart i (in-cleared x i k o) (inside-inner x i r z)
     further m a b (inr (inr o)) (inr (inr z)) = b o z
 
     go : (p ≡ x) ⊎ (p ≡ x → ⊥) → (In i (cleared x k) → Inside x i k → ⊥) → (In i (cleared x r) → Inside x i r → ⊥) → ⊥
@@ -58,12 +58,12 @@ left-outside x i (grow p d k r) u h g = go (same? p x) (left-outside x i k (u .3
 -- in the row without its free last piece
 subtree-left : (y : ℕ) (r : Tree) → Distinct r → In y (withoutLast r) → subtree y (withoutLast r) ≡ subtree y r
 subtree-left y nil u h = refl
-subtree-left y (grow p d k r) u h = go (isFree (d .kind) && isNil r) h (subtree-left y r (u .4))
+subtree-left y (grow p d k r) u h = go (isFree (d .kind) && isNil r) h (subtree-left y r (u .beside))
   where
     later : (In y (withoutLast r) → subtree y (withoutLast r) ≡ subtree y r) → In y (grow p d k (withoutLast r))
         → subtree y (grow p d k (withoutLast r)) ≡ subtree y (grow p d k r)
     later ih (inl e) = rw (eq-eqb p y (sym e)) refl
-    later ih (inr (inl o)) = rw (subtree-absent y r (u .2 y o), subtree-absent y (withoutLast r) (λ z. u .2 y o (in-left y r z))) refl
+    later ih (inr (inl o)) = rw (subtree-absent y r (u .apart y o), subtree-absent y (withoutLast r) (λ z. u .apart y o (in-left y r z))) refl
     later ih (inr (inr o)) = rw (ih o) refl
 
     go : (c : Bool) → In y (cond c nil (grow p d k (withoutLast r))) → (In y (withoutLast r) → subtree y (withoutLast r) ≡ subtree y r)
@@ -86,13 +86,13 @@ module _ (x n s y : ℕ) (apart : y ≡ n → ⊥) where
   unfolding settled
   subtree-beside nil u h out = refl
   subtree-beside (grow p d k r) u h out =
-      go (same? p x) (λ o. subtree-beside k (u .3) o (λ z. out (inr (inl z)))) (λ o. subtree-beside r (u .4) o (λ z. out (inr (inr z))))
+      go (same? p x) (λ o. subtree-beside k (u .below) o (λ z. out (inr (inl z)))) (λ o. subtree-beside r (u .beside) o (λ z. out (inr (inr z))))
     where
       here : p ≡ x → In y (withoutLast r) → subtree y (settled n s d r) ≡ subtree y (grow p d k r)
       here e o =
           let held = in-left y r o in
-          rw (ne-eqb p y (λ z. u .1 (in-eq r (sym z) held)), subtree-absent y k (λ z. u .2 y z held))
-          (subtree-end _ (withoutLast r) ∙ subtree-left y r (u .4) o)
+          rw (ne-eqb p y (λ z. u .notBeside (in-eq r (sym z) held)), subtree-absent y k (λ z. u .apart y z held))
+          (subtree-end _ (withoutLast r) ∙ subtree-left y r (u .beside) o)
 
       further : (In y (cleared x k) → subtree y (remove x n s k) ≡ subtree y k) → (In y (cleared x r) → subtree y (remove x n s r) ≡ subtree y r)
           → In y (grow p d (cleared x k) (cleared x r)) → subtree y (grow p d (remove x n s k) (remove x n s r)) ≡ subtree y (grow p d k r)
@@ -100,12 +100,12 @@ module _ (x n s y : ℕ) (apart : y ≡ n → ⊥) where
           rw (eq-eqb p y (sym e), absent x (settled n s) k (λ o. out (inl (e, o)))) refl
       further ik ir (inr (inl o)) =
           let held = in-cleared x y k o in
-          let none = u .2 y held in
-          rw (ne-eqb p y (λ z. u .0 (in-eq k (sym z) held)), ik o, subtree-absent y r none, subtree-absent y (remove x n s r) (still-absent r none))
+          let none = u .apart y held in
+          rw (ne-eqb p y (λ z. u .notBelow (in-eq k (sym z) held)), ik o, subtree-absent y r none, subtree-absent y (remove x n s r) (still-absent r none))
       further ik ir (inr (inr o)) =
           let held = in-cleared x y r o in
-          let none : In y k → ⊥ = λ z. u .2 y z held in
-          rw (ne-eqb p y (λ z. u .1 (in-eq r (sym z) held)), ir o, subtree-absent y k none, subtree-absent y (remove x n s k) (still-absent k none))
+          let none : In y k → ⊥ = λ z. u .apart y z held in
+          rw (ne-eqb p y (λ z. u .notBeside (in-eq r (sym z) held)), ir o, subtree-absent y k none, subtree-absent y (remove x n s k) (still-absent k none))
 
       go : (p ≡ x) ⊎ (p ≡ x → ⊥) → (In y (cleared x k) → subtree y (remove x n s k) ≡ subtree y k)
           → (In y (cleared x r) → subtree y (remove x n s r) ≡ subtree y r)

@@ -103,40 +103,49 @@ module _ (settings : Settings) (b : Booking) (q : Datum) (l : ℕ) (c : Orientat
   column : (i j n u : ℕ) → 1 ≤ u → l + 1 ≤ settings .stages
       → Children settings (node b c i l c Structure u H)
       (grow (b .place j) (node b c j (l + 1) (other c) Part u h) nil (grow (b .place n) (node b c n (l + 1) (other c) Free u (H - h)) nil nil))
-  column i j n u u₁ m = (
-    inner-child i j Part u H h m,
-    part j (l + 1) (other c) u h u₁ h₁,
-    tt,
-    (inner-child i n Free u H (H - h) m, free-piece refl refl refl, tt, tt),
-  )
+  column i j n u u₁ m = record {
+    child = inner-child i j Part u H h m;
+    kinded = part j (l + 1) (other c) u h u₁ h₁;
+    below = tt;
+    beside = record { child = inner-child i n Free u H (H - h) m; kinded = free-piece refl refl refl; below = tt; beside = tt };
+  }
 
   table-children : (s : InsertionShape) → l + deep s ≤ settings .stages → Children settings q (planted b l c (laidAll c (table s W H w h)))
   unfolding table
-  table-children AlongCurrentCut m =
-      (row-child 0 Part w, part 0 l c w H w₁ (omega arith), tt, (row-child 1 Free (W - w), free-piece refl refl refl, tt, tt))
-  table-children AcrossCurrentCut m = (row-child 0 Structure W, split 0 1 2 Part W nil (omega arith), column 0 1 2 W (omega arith) m, tt)
-  table-children AlongThenAcross m = (
-    row-child 0 Structure w,
-    split 0 1 2 Part w nil w₁,
-    column 0 1 2 w w₁ m,
-    (row-child 3 Free (W - w), free-piece refl refl refl, tt, tt),
-  )
-  table-children AcrossThenAlong m = (
-    row-child 0 Structure W,
-    split 0 1 4 Structure W _ (omega arith),
-    (
-      inner-child 0 1 Structure W H h (omega arith),
-      structure-piece (omega arith) (laid-sided c (sided (omega arith) h₁)) (simp (other-twice, laid-twice) (omega arith)) refl,
-      (
-        strip-child 1 2 Part W w h m,
-        part 2 (l + 1 + 1) (other (other c)) w h w₁ h₁,
-        tt,
-        (strip-child 1 3 Free W (W - w) h m, free-piece refl refl refl, tt, tt),
-      ),
-      (inner-child 0 4 Free W H (H - h) (omega arith), free-piece refl refl refl, tt, tt),
-    ),
-    tt,
-  )
+  table-children AlongCurrentCut m = record {
+    child = row-child 0 Part w;
+    kinded = part 0 l c w H w₁ (omega arith);
+    below = tt;
+    beside = record { child = row-child 1 Free (W - w); kinded = free-piece refl refl refl; below = tt; beside = tt };
+  }
+  table-children AcrossCurrentCut m = record {
+    child = row-child 0 Structure W;
+    kinded = split 0 1 2 Part W nil (omega arith);
+    below = column 0 1 2 W (omega arith) m;
+    beside = tt;
+  }
+  table-children AlongThenAcross m = record {
+    child = row-child 0 Structure w;
+    kinded = split 0 1 2 Part w nil w₁;
+    below = column 0 1 2 w w₁ m;
+    beside = record { child = row-child 3 Free (W - w); kinded = free-piece refl refl refl; below = tt; beside = tt };
+  }
+  table-children AcrossThenAlong m = record {
+    child = row-child 0 Structure W;
+    kinded = split 0 1 4 Structure W _ (omega arith);
+    below = record {
+      child = inner-child 0 1 Structure W H h (omega arith);
+      kinded = structure-piece (omega arith) (laid-sided c (sided (omega arith) h₁)) (simp (other-twice, laid-twice) (omega arith)) refl;
+      below = record {
+        child = strip-child 1 2 Part W w h m;
+        kinded = part 2 (l + 1 + 1) (other (other c)) w h w₁ h₁;
+        below = tt;
+        beside = record { child = strip-child 1 3 Free W (W - w) h m; kinded = free-piece refl refl refl; below = tt; beside = tt };
+      };
+      beside = record { child = inner-child 0 4 Free W H (H - h) (omega arith); kinded = free-piece refl refl refl; below = tt; beside = tt };
+    };
+    beside = tt;
+  }
 
 -- the pieces of the first row fill the free piece
 table-extent : (b : Booking) (l : ℕ) (c : Orientation) (W H w h : ℕ) → w ≤ W → (s : InsertionShape)
@@ -162,16 +171,16 @@ planted-in b l c e i (grow j m k r) (inr (inr h)) = let z = planted-in b l c e i
 planted-distinct : (b : Booking) (l : ℕ) (c e : Orientation) (w : Row Made)
     → ((i j : ℕ) → In i w → In j w → b .place i ≡ b .place j → i ≡ j) → Distinct w → Distinct (planted b l c (laidAll e w))
 planted-distinct b l c e nil f u = tt
-planted-distinct b l c e (grow i m k r) f u = (
-  (λ h. let z = planted-in b (l + 1) (other c) e (b .place i) k h in
-      u .0 (in-eq k (sym (f i (z .0) (inl refl) (inr (inl (z .1))) (z .2))) (z .1))),
-  (λ h. let z = planted-in b l c e (b .place i) r h in u .1 (in-eq r (sym (f i (z .0) (inl refl) (inr (inr (z .1))) (z .2))) (z .1))),
-  (λ p h g. let z = planted-in b (l + 1) (other c) e p k h in
+planted-distinct b l c e (grow i m k r) f u = record {
+  notBelow = λ h. let z = planted-in b (l + 1) (other c) e (b .place i) k h in
+      u .notBelow (in-eq k (sym (f i (z .0) (inl refl) (inr (inl (z .1))) (z .2))) (z .1));
+  notBeside = λ h. let z = planted-in b l c e (b .place i) r h in u .notBeside (in-eq r (sym (f i (z .0) (inl refl) (inr (inr (z .1))) (z .2))) (z .1));
+  apart = λ p h g. let z = planted-in b (l + 1) (other c) e p k h in
       let y = planted-in b l c e p r g in
-      u .2 (y .0) (in-eq k (f (z .0) (y .0) (inr (inl (z .1))) (inr (inr (y .1))) (sym (z .2) ∙ y .2)) (z .1)) (y .1)),
-  planted-distinct b (l + 1) (other c) e k (λ p o y z. f p o (inr (inl y)) (inr (inl z))) (u .3),
-  planted-distinct b l c e r (λ p o y z. f p o (inr (inr y)) (inr (inr z))) (u .4),
-)
+      u .apart (y .0) (in-eq k (f (z .0) (y .0) (inr (inl (z .1))) (inr (inr (y .1))) (sym (z .2) ∙ y .2)) (z .1)) (y .1);
+  below = planted-distinct b (l + 1) (other c) e k (λ p o y z. f p o (inr (inl y)) (inr (inl z))) (u .below);
+  beside = planted-distinct b l c e r (λ p o y z. f p o (inr (inr y)) (inr (inr z))) (u .beside);
+}
 
 table-numbered : (s : InsertionShape) (W H w h : ℕ) → Numbered 0 (table s W H w h)
 unfolding table
@@ -241,8 +250,8 @@ block-exchange settings b q d y f h =
     let i = laid-fits (d .cut) (d .size) (b .size) (f .inside) in
     let e = table-extent b (d .level) (d .cut) _ (laid (d .cut) (d .size) .height) _ (laid (d .cut) (b .size) .height) (i .0) (b .shape) in
     record {
-      children = table-children settings b q (d .level) (d .cut) _ _ _ _ (h .0 .level) (h .0 .stage) (h .0 .cut) (h .0 .side) (f .numbered)
-          (s .wide) (s .tall) (i .0) (i .1) (b .shape) (offered-deep _ _ (d .level) (settings .stages) (b .shape) (h .0 .stage) (f .offered));
-      same = rw (← h .0 .cut) (omega arith);
+      children = table-children settings b q (d .level) (d .cut) _ _ _ _ (h .child .level) (h .child .stage) (h .child .cut) (h .child .side) (f .numbered)
+          (s .wide) (s .tall) (i .0) (i .1) (b .shape) (offered-deep _ _ (d .level) (settings .stages) (b .shape) (h .child .stage) (f .offered));
+      same = rw (← h .child .cut) (omega arith);
       some = λ z. omega (arith, block-count b d, some-new (b .shape));
     }

@@ -106,14 +106,14 @@ remove-planted AcrossThenAlong b n s l c W H w h e = rw (eq-eqb (b .place 0) (b 
 pub at-unique : (i : ℕ) (d e : Datum) (t : Tree) → Distinct t → At i d t → At i e t → e ≡ d
 at-unique i d e nil n g h = absurd g
 at-unique i d e (grow p f k r) n (inl g) (inl h) = h .1 ∙ sym (g .1)
-at-unique i d e (grow p f k r) n (inl g) (inr (inl h)) = absurd (n .0 (in-eq k (g .0) (at-in i e k h)))
-at-unique i d e (grow p f k r) n (inl g) (inr (inr h)) = absurd (n .1 (in-eq r (g .0) (at-in i e r h)))
-at-unique i d e (grow p f k r) n (inr (inl g)) (inl h) = absurd (n .0 (in-eq k (h .0) (at-in i d k g)))
-at-unique i d e (grow p f k r) n (inr (inl g)) (inr (inl h)) = at-unique i d e k (n .3) g h
-at-unique i d e (grow p f k r) n (inr (inl g)) (inr (inr h)) = absurd (n .2 i (at-in i d k g) (at-in i e r h))
-at-unique i d e (grow p f k r) n (inr (inr g)) (inl h) = absurd (n .1 (in-eq r (h .0) (at-in i d r g)))
-at-unique i d e (grow p f k r) n (inr (inr g)) (inr (inl h)) = absurd (n .2 i (at-in i e k h) (at-in i d r g))
-at-unique i d e (grow p f k r) n (inr (inr g)) (inr (inr h)) = at-unique i d e r (n .4) g h
+at-unique i d e (grow p f k r) n (inl g) (inr (inl h)) = absurd (n .notBelow (in-eq k (g .0) (at-in i e k h)))
+at-unique i d e (grow p f k r) n (inl g) (inr (inr h)) = absurd (n .notBeside (in-eq r (g .0) (at-in i e r h)))
+at-unique i d e (grow p f k r) n (inr (inl g)) (inl h) = absurd (n .notBelow (in-eq k (h .0) (at-in i d k g)))
+at-unique i d e (grow p f k r) n (inr (inl g)) (inr (inl h)) = at-unique i d e k (n .below) g h
+at-unique i d e (grow p f k r) n (inr (inl g)) (inr (inr h)) = absurd (n .apart i (at-in i d k g) (at-in i e r h))
+at-unique i d e (grow p f k r) n (inr (inr g)) (inl h) = absurd (n .notBeside (in-eq r (h .0) (at-in i d r g)))
+at-unique i d e (grow p f k r) n (inr (inr g)) (inr (inl h)) = absurd (n .apart i (at-in i e k h) (at-in i d r g))
+at-unique i d e (grow p f k r) n (inr (inr g)) (inr (inr h)) = at-unique i d e r (n .beside) g h
 
 module _ (settings : Settings) (x n s : ℕ) (b : Booking) where
   -- a piece in which b can be booked
@@ -136,11 +136,11 @@ module _ (settings : Settings) (x n s : ℕ) (b : Booking) where
   row-back : (q : Datum) (r : Tree) → Children settings q r → ((e : Datum) → At x e r → Takes e) → (In (b .place 0) r → b .place 0 ≡ x) → Back r
   row-back q nil w h o = refl
   row-back q (grow p d k r) w h o =
-      go (same? p x) (row-back d k (w .2) (λ e g. h e (inr (inl g))) (λ g. o (inr (inl g))))
-      (row-back q r (w .3) (λ e g. h e (inr (inr g))) (λ g. o (inr (inr g))))
+      go (same? p x) (row-back d k (w .below) (λ e g. h e (inr (inl g))) (λ g. o (inr (inl g))))
+      (row-back q r (w .beside) (λ e g. h e (inr (inr g))) (λ g. o (inr (inr g))))
     where
       go : (p ≡ x) ⊎ (p ≡ x → ⊥) → Back k → Back r → Back (grow p d k r)
-      go (inl e) ik ir = let t = h d (inl (sym e, refl)) in back-here p d k r e t (subst (λ (κ : Kind). Kinded κ d k r) (t .0) (w .1))
+      go (inl e) ik ir = let t = h d (inl (sym e, refl)) in back-here p d k r e t (subst (λ (κ : Kind). Kinded κ d k r) (t .0) (w .kinded))
       go (inr m) ik ir = rw (ne-eqb p x m, ne-eqb p (b .place 0) (λ e. m (e ∙ o (inl (sym e)))), ik, ir)
 
   -- the top is a structure, so the piece at x is below it

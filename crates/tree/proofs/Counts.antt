@@ -44,14 +44,14 @@ module _ (x : ℕ) (f : Datum → Tree → Tree) (P : Datum → Tree → Tree �
   count-change : (t : Tree) → In x t → Distinct t → Where x P t → count (change x f t) + a ≡ count t + c
   count-change nil i u w = absurd i
   count-change (grow y d k r) i u w =
-      go (same? y x) i (λ h. count-change k h (u .3) (w .1)) (λ h. count-change r h (u .4) (w .2))
+      go (same? y x) i (λ h. count-change k h (u .below) (w .1)) (λ h. count-change r h (u .beside) (w .2))
     where
       go : (y ≡ x) ⊎ (y ≡ x → ⊥) → In x (grow y d k r) → (In x k → count (change x f k) + a ≡ count k + c)
           → (In x r → count (change x f r) + a ≡ count r + c) → count (change x f (grow y d k r)) + a ≡ count (grow y d k r) + c
       go (inl e) i ik ir = rw (eq-eqb y x e) (local d k r (w .0 e))
       go (inr n) (inl e) ik ir = absurd (n (sym e))
-      go (inr n) (inr (inl h)) ik ir = let z = ik h in rw (ne-eqb y x n, absent x f r (u .2 x h)) (omega arith)
-      go (inr n) (inr (inr h)) ik ir = let z = ir h in rw (ne-eqb y x n, absent x f k (λ o. u .2 x o h)) (omega arith)
+      go (inr n) (inr (inl h)) ik ir = let z = ik h in rw (ne-eqb y x n, absent x f r (u .apart x h)) (omega arith)
+      go (inr n) (inr (inr h)) ik ir = let z = ir h in rw (ne-eqb y x n, absent x f k (λ o. u .apart x o h)) (omega arith)
 
 -- a booking takes the free piece away and adds the nodes of its shape
 pub count-book : (limit : ℕ) (settings : Settings) (t : Tree) (x : ℕ) (d : Datum) (b : Booking) → Sound limit settings t → At x d t

@@ -35,13 +35,13 @@ module _ (x : ℕ) where
   subtree-kids q m nil dis h i = absurd h
   subtree-kids q m (grow p e k r) dis (inl z) i =
       let j : In x k = rw (z .1) at i in
-      rw (ne-eqb p x (λ y. dis .0 (in-eq k (sym y) j)), subtree-absent r (dis .2 x j), after-nil (subtree x k), z .1) refl
+      rw (ne-eqb p x (λ y. dis .notBelow (in-eq k (sym y) j)), subtree-absent r (dis .apart x j), after-nil (subtree x k), z .1) refl
   subtree-kids q m (grow p e k r) dis (inr (inl h)) i =
       let j : In x k = kids-under q m x k h i in
-      rw (ne-eqb p x (λ y. dis .0 (in-eq k (sym y) j)), subtree-absent r (dis .2 x j), after-nil (subtree x k)) (subtree-kids q m k (dis .3) h i)
+      rw (ne-eqb p x (λ y. dis .notBelow (in-eq k (sym y) j)), subtree-absent r (dis .apart x j), after-nil (subtree x k)) (subtree-kids q m k (dis .below) h i)
   subtree-kids q m (grow p e k r) dis (inr (inr h)) i =
       let j : In x r = kids-under q m x r h i in
-      rw (ne-eqb p x (λ y. dis .1 (in-eq r (sym y) j)), subtree-absent k (λ y. dis .2 x y j)) (subtree-kids q m r (dis .4) h i)
+      rw (ne-eqb p x (λ y. dis .notBeside (in-eq r (sym y) j)), subtree-absent k (λ y. dis .apart x y j)) (subtree-kids q m r (dis .beside) h i)
 
 -- the children of q, of which x is one
 module _ (q x : ℕ) (a : Tree) (d : Datum) (l b w : Tree) (dis : Distinct w) (kids : Kids q (after a (grow x d l b)) w) where

@@ -38,13 +38,13 @@ Alone d e k r = (e ≡ d) × (k ≡ nil) × (r ≡ nil)
 pub only : (x : ℕ) (d : Datum) (t : Tree) → Distinct t → At x d t → Where x (This d) t
 only x d nil u h = tt
 only x d (grow y e k r) u (inl h) =
-    ((λ z. sym (h .1)), where-absent x _ k (λ i. u .0 (in-eq k (h .0) i)), where-absent x _ r (λ i. u .1 (in-eq r (h .0) i)))
+    ((λ z. sym (h .1)), where-absent x _ k (λ i. u .notBelow (in-eq k (h .0) i)), where-absent x _ r (λ i. u .notBeside (in-eq r (h .0) i)))
 only x d (grow y e k r) u (inr (inl h)) =
     let i = at-in x d k h in
-    ((λ z. absurd (u .0 (in-eq k (sym z) i))), only x d k (u .3) h, where-absent x _ r (u .2 x i))
+    ((λ z. absurd (u .notBelow (in-eq k (sym z) i))), only x d k (u .below) h, where-absent x _ r (u .apart x i))
 only x d (grow y e k r) u (inr (inr h)) =
     let i = at-in x d r h in
-    ((λ z. absurd (u .1 (in-eq r (sym z) i))), where-absent x _ k (λ j. u .2 x j i), only x d r (u .4) h)
+    ((λ z. absurd (u .notBeside (in-eq r (sym z) i))), where-absent x _ k (λ j. u .apart x j i), only x d r (u .beside) h)
 
 -- what holds of them follows from their being children of a parent
 where-children : (settings : Settings) (x : ℕ) (P Q : Datum → Tree → Tree → Type 0)
@@ -52,7 +52,7 @@ where-children : (settings : Settings) (x : ℕ) (P Q : Datum → Tree → Tree 
     → (q : Datum) (t : Tree) → Children settings q t → Where x P t → Where x Q t
 where-children settings x P Q f q nil h w = tt
 where-children settings x P Q f q (grow y d k r) h w =
-    ((λ e. f q d y k r (w .0 e) h), where-children settings x P Q f d k (h .2) (w .1), where-children settings x P Q f q r (h .3) (w .2))
+    ((λ e. f q d y k r (w .0 e) h), where-children settings x P Q f d k (h .below) (w .1), where-children settings x P Q f q r (h .beside) (w .2))
 
 -- the top is no free piece
 pub not-top : (settings : Settings) (x : ℕ) (d : Datum) (t : Tree) → Topped settings t → Where x (This d) t → d .kind ≡ Free
@@ -80,7 +80,7 @@ free-alone settings x d (grow p c k r) h u i a =
     )
   where
     alone : (q e : Datum) (y : ℕ) (l m : Tree) → e ≡ d → Children settings q (grow y e l m) → Alone d e l m
-    alone q e y l m z g = let f = free-kind (e .kind) e l m (cc) (g .1) in (z, f .childless, f .last)
+    alone q e y l m z g = let f = free-kind (e .kind) e l m (cc) (g .kinded) in (z, f .childless, f .last)
 
 -- a row of children of q may give way to another one
 pub record Exchange (settings : Settings) (q : Datum) (u v : Tree) : Type 0 where
@@ -105,7 +105,7 @@ module _ (settings : Settings) (x : ℕ) (f : Datum → Tree → Tree) (P : Datu
 
   pub exchange : (q : Datum) (t : Tree) → Where x P t → Children settings q t → Exchange settings q t (change x f t)
   exchange q nil w h = record { children = tt; same = refl; some = λ z. z }
-  exchange q (grow y d k r) w h = go (same? y x) (exchange d k (w .1) (h .2)) (exchange q r (w .2) (h .3))
+  exchange q (grow y d k r) w h = go (same? y x) (exchange d k (w .1) (h .below)) (exchange q r (w .2) (h .beside))
     where
       go : (y ≡ x) ⊎ (y ≡ x → ⊥) → Exchange settings d k (change x f k) → Exchange settings q r (change x f r)
           → Exchange settings q (grow y d k r) (change x f (grow y d k r))
@@ -113,7 +113,12 @@ module _ (settings : Settings) (x : ℕ) (f : Datum → Tree → Tree) (P : Datu
       go (inr n) a b =
           rw (ne-eqb y x n)
           (record {
-            children = (h .0, kept-kind (d .kind) d k r (h .1) a, a .children, b .children);
+            children = record {
+              child = h .child;
+              kinded = kept-kind (d .kind) d k r (h .kinded) a;
+              below = a .children;
+              beside = b .children;
+            };
             same = ap (λ (z : ℕ). laid (other (q .cut)) (d .size) .width + z) (b .same);
             some = λ z. omega arith;
           })

@@ -35,16 +35,16 @@ module _ (q : ℕ) (k : Tree) where
 
   pub kids-distinct : (w : Tree) → Distinct w → Kids q k w → Distinct k
   kids-distinct nil dis h = absurd h
-  kids-distinct (grow p d l r) dis (inl e) = rw (e .1) (dis .3)
-  kids-distinct (grow p d l r) dis (inr (inl h)) = kids-distinct l (dis .3) h
-  kids-distinct (grow p d l r) dis (inr (inr h)) = kids-distinct r (dis .4) h
+  kids-distinct (grow p d l r) dis (inl e) = rw (e .1) (dis .below)
+  kids-distinct (grow p d l r) dis (inr (inl h)) = kids-distinct l (dis .below) h
+  kids-distinct (grow p d l r) dis (inr (inr h)) = kids-distinct r (dis .beside) h
 
   -- a piece is not below itself
   pub kids-self : (w : Tree) → Distinct w → Kids q k w → In q k → ⊥
   kids-self nil dis h g = h
-  kids-self (grow p d l r) dis (inl e) g = dis .0 (in-eq l (e .0) (rw (e .1) at g))
-  kids-self (grow p d l r) dis (inr (inl h)) g = kids-self l (dis .3) h g
-  kids-self (grow p d l r) dis (inr (inr h)) g = kids-self r (dis .4) h g
+  kids-self (grow p d l r) dis (inl e) g = dis .notBelow (in-eq l (e .0) (rw (e .1) at g))
+  kids-self (grow p d l r) dis (inr (inl h)) g = kids-self l (dis .below) h g
+  kids-self (grow p d l r) dis (inr (inr h)) g = kids-self r (dis .beside) h g
 
   -- what is a piece of the children is a piece of the tree
   pub kids-kids : (x : ℕ) (l w : Tree) → Kids q k w → Kids x l k → Kids x l w
@@ -66,18 +66,23 @@ kids-row x (grow p e k r) d l b = inr (inr (kids-row x r d l b))
 -- no place of a row is in another that comes after it
 pub after-apart : (a b : Tree) → Distinct (after a b) → (i : ℕ) → In i a → In i b → ⊥
 after-apart nil b dis i h g = h
-after-apart (grow p d k r) b dis i (inl e) g = dis .1 (in-eq (after r b) e (in-second i r b g))
-after-apart (grow p d k r) b dis i (inr (inl h)) g = dis .2 i h (in-second i r b g)
-after-apart (grow p d k r) b dis i (inr (inr h)) g = after-apart r b (dis .4) i h g
+after-apart (grow p d k r) b dis i (inl e) g = dis .notBeside (in-eq (after r b) e (in-second i r b g))
+after-apart (grow p d k r) b dis i (inr (inl h)) g = dis .apart i h (in-second i r b g)
+after-apart (grow p d k r) b dis i (inr (inr h)) g = after-apart r b (dis .beside) i h g
 
 pub after-first : (a b : Tree) → Distinct (after a b) → Distinct a
 after-first nil b dis = tt
-after-first (grow p d k r) b dis =
-    (dis .0, (λ h. dis .1 (in-first p r b h)), (λ i h g. dis .2 i h (in-first i r b g)), dis .3, after-first r b (dis .4))
+after-first (grow p d k r) b dis = record {
+  notBelow = dis .notBelow;
+  notBeside = λ h. dis .notBeside (in-first p r b h);
+  apart = λ i h g. dis .apart i h (in-first i r b g);
+  below = dis .below;
+  beside = after-first r b (dis .beside);
+}
 
 pub after-second : (a b : Tree) → Distinct (after a b) → Distinct b
 after-second nil b dis = dis
-after-second (grow p d k r) b dis = after-second r b (dis .4)
+after-second (grow p d k r) b dis = after-second r b (dis .beside)
 
 -- Where a piece stands: below its parent, after some siblings and before others.
 pub record Spot (x : ℕ) (w : Tree) : Type 0 where
@@ -149,10 +154,10 @@ module _ (q : ℕ) (k : Tree) where
     put-here e = rw (eq-eqb p q (sym e)) refl
 
     pub put-left : Distinct (grow p d l r) → In q l → put q k (grow p d l r) ≡ grow p d (put q k l) r
-    put-left dis h = rw (ne-eqb p q (λ e. dis .0 (in-eq l (sym e) h)), put-absent r (dis .2 q h)) refl
+    put-left dis h = rw (ne-eqb p q (λ e. dis .notBelow (in-eq l (sym e) h)), put-absent r (dis .apart q h)) refl
 
     pub put-right : Distinct (grow p d l r) → In q r → put q k (grow p d l r) ≡ grow p d l (put q k r)
-    put-right dis h = rw (ne-eqb p q (λ e. dis .1 (in-eq r (sym e) h)), put-absent l (λ g. dis .2 q g h)) refl
+    put-right dis h = rw (ne-eqb p q (λ e. dis .notBeside (in-eq r (sym e) h)), put-absent l (λ g. dis .apart q g h)) refl
 
   -- what is in it: the new children, and the places that were not below q
   module _ (m : Tree) (i : ℕ) where
@@ -161,26 +166,26 @@ module _ (q : ℕ) (k : Tree) where
     put-in (grow p d l r) dis (inl e) g = go (rw (put-here p d l r (e .0)) at g)
       where
         go : In i (grow p d k r) → In i k ⊎ (In i (grow p d l r) × (In i m → ⊥))
-        go (inl z) = inr (inl z, λ y. dis .0 (in-eq l z (rw (e .1) at y)))
+        go (inl z) = inr (inl z, λ y. dis .notBelow (in-eq l z (rw (e .1) at y)))
         go (inr (inl z)) = inl z
-        go (inr (inr z)) = inr (inr (inr z), λ y. dis .2 i (rw (e .1) at y) z)
-    put-in (grow p d l r) dis (inr (inl h)) g = go (rw (put-left p d l r dis (kids-in q m l h)) at g) (put-in l (dis .3) h)
+        go (inr (inr z)) = inr (inr (inr z), λ y. dis .apart i (rw (e .1) at y) z)
+    put-in (grow p d l r) dis (inr (inl h)) g = go (rw (put-left p d l r dis (kids-in q m l h)) at g) (put-in l (dis .below) h)
       where
         under : In i m → In i l
         under y = kids-under q m i l h y
 
         go : In i (grow p d (put q k l) r) → (In i (put q k l) → In i k ⊎ (In i l × (In i m → ⊥))) → In i k ⊎ (In i (grow p d l r) × (In i m → ⊥))
-        go (inl z) ih = inr (inl z, λ y. dis .0 (in-eq l z (under y)))
+        go (inl z) ih = inr (inl z, λ y. dis .notBelow (in-eq l z (under y)))
         go (inr (inl z)) ih = ⊎-elim inl (λ y. inr (inr (inl (y .0)), y .1)) (ih z)
-        go (inr (inr z)) ih = inr (inr (inr z), λ y. dis .2 i (under y) z)
-    put-in (grow p d l r) dis (inr (inr h)) g = go (rw (put-right p d l r dis (kids-in q m r h)) at g) (put-in r (dis .4) h)
+        go (inr (inr z)) ih = inr (inr (inr z), λ y. dis .apart i (under y) z)
+    put-in (grow p d l r) dis (inr (inr h)) g = go (rw (put-right p d l r dis (kids-in q m r h)) at g) (put-in r (dis .beside) h)
       where
         under : In i m → In i r
         under y = kids-under q m i r h y
 
         go : In i (grow p d l (put q k r)) → (In i (put q k r) → In i k ⊎ (In i r × (In i m → ⊥))) → In i k ⊎ (In i (grow p d l r) × (In i m → ⊥))
-        go (inl z) ih = inr (inl z, λ y. dis .1 (in-eq r z (under y)))
-        go (inr (inl z)) ih = inr (inr (inl z), λ y. dis .2 i z (under y))
+        go (inl z) ih = inr (inl z, λ y. dis .notBeside (in-eq r z (under y)))
+        go (inr (inl z)) ih = inr (inr (inl z), λ y. dis .apart i z (under y))
         go (inr (inr z)) ih = ⊎-elim inl (λ y. inr (inr (inr (y .0)), y .1)) (ih z)
 
     pub in-put : (w : Tree) → Distinct w → Kids q m w → In i w → (In i m → ⊥) → In i (put q k w)
@@ -189,17 +194,17 @@ module _ (q : ℕ) (k : Tree) where
         rw (put-here p d l r (e .0)) (⊎-elim inl (λ z. ⊎-elim (λ y. absurd (n (rw (e .1) y))) (λ y. inr (inr y)) z) g)
     in-put (grow p d l r) dis (inr (inl h)) g n =
         rw (put-left p d l r dis (kids-in q m l h))
-        (⊎-elim inl (λ z. ⊎-elim (λ y. inr (inl (in-put l (dis .3) h y n))) (λ y. inr (inr y)) z) g)
+        (⊎-elim inl (λ z. ⊎-elim (λ y. inr (inl (in-put l (dis .below) h y n))) (λ y. inr (inr y)) z) g)
     in-put (grow p d l r) dis (inr (inr h)) g n =
         rw (put-right p d l r dis (kids-in q m r h))
-        (⊎-elim inl (λ z. ⊎-elim (λ y. inr (inl y)) (λ y. inr (inr (in-put r (dis .4) h y n))) z) g)
+        (⊎-elim inl (λ z. ⊎-elim (λ y. inr (inl y)) (λ y. inr (inr (in-put r (dis .beside) h y n))) z) g)
 
   module _ (m : Tree) where
     pub put-kids : (w : Tree) → Distinct w → Kids q m w → Kids q k (put q k w)
     put-kids nil dis h = h
     put-kids (grow p d l r) dis (inl e) = rw (put-here p d l r (e .0)) (inl (e .0, refl))
-    put-kids (grow p d l r) dis (inr (inl h)) = rw (put-left p d l r dis (kids-in q m l h)) (inr (inl (put-kids l (dis .3) h)))
-    put-kids (grow p d l r) dis (inr (inr h)) = rw (put-right p d l r dis (kids-in q m r h)) (inr (inr (put-kids r (dis .4) h)))
+    put-kids (grow p d l r) dis (inr (inl h)) = rw (put-left p d l r dis (kids-in q m l h)) (inr (inl (put-kids l (dis .below) h)))
+    put-kids (grow p d l r) dis (inr (inr h)) = rw (put-right p d l r dis (kids-in q m r h)) (inr (inr (put-kids r (dis .beside) h)))
 
     pub put-new : (i : ℕ) (w : Tree) → Distinct w → Kids q m w → In i k → In i (put q k w)
     put-new i w dis h g = kids-under q k i (put q k w) (put-kids w dis h) g
@@ -208,38 +213,41 @@ module _ (q : ℕ) (k : Tree) where
     pub put-distinct : (w : Tree) → Distinct w → Kids q m w → Distinct k → ((i : ℕ) → In i k → In i w → In i m) → Distinct (put q k w)
     put-distinct nil dis h dk n = absurd h
     put-distinct (grow p d l r) dis (inl e) dk n =
-        rw (put-here p d l r (e .0)) (
-          (λ y. dis .0 (rw (e .1) at (n p y (inl refl)))),
-          dis .1,
-          (λ i y z. dis .2 i (rw (e .1) at (n i y (inr (inr z)))) z),
-          dk,
-          dis .4,
-        )
+        rw (put-here p d l r (e .0)) (record {
+          notBelow = λ y. dis .notBelow (rw (e .1) at (n p y (inl refl)));
+          notBeside = dis .notBeside;
+          apart = λ i y z. dis .apart i (rw (e .1) at (n i y (inr (inr z)))) z;
+          below = dk;
+          beside = dis .beside;
+        })
     put-distinct (grow p d l r) dis (inr (inl h)) dk n =
-        rw (put-left p d l r dis (kids-in q m l h)) (
-          (λ y. ⊎-elim (λ z. dis .0 (kids-under q m p l h (n p z (inl refl)))) (λ z. dis .0 (z .0)) (put-in m p l (dis .3) h y)),
-          dis .1,
-          (λ i y z. ⊎-elim (λ v. dis .2 i (kids-under q m i l h (n i v (inr (inr z)))) z) (λ v. dis .2 i (v .0) z) (put-in m i l (dis .3) h y)),
-          put-distinct l (dis .3) h dk (λ i y z. n i y (inr (inl z))),
-          dis .4,
-        )
+        rw (put-left p d l r dis (kids-in q m l h)) (record {
+          notBelow = λ y. ⊎-elim (λ z. dis .notBelow (kids-under q m p l h (n p z (inl refl)))) (λ z. dis .notBelow (z .0)) (put-in m p l (dis .below) h y);
+          notBeside = dis .notBeside;
+          apart = λ i y z. ⊎-elim (λ v. dis .apart i (kids-under q m i l h (n i v (inr (inr z)))) z) (λ v. dis .apart i (v .0) z)
+              (put-in m i l (dis .below) h y);
+          below = put-distinct l (dis .below) h dk (λ i y z. n i y (inr (inl z)));
+          beside = dis .beside;
+        })
     put-distinct (grow p d l r) dis (inr (inr h)) dk n =
-        rw (put-right p d l r dis (kids-in q m r h)) (
-          dis .0,
-          (λ y. ⊎-elim (λ z. dis .1 (kids-under q m p r h (n p z (inl refl)))) (λ z. dis .1 (z .0)) (put-in m p r (dis .4) h y)),
-          (λ i y z. ⊎-elim (λ v. dis .2 i y (kids-under q m i r h (n i v (inr (inl y))))) (λ v. dis .2 i y (v .0)) (put-in m i r (dis .4) h z)),
-          dis .3,
-          put-distinct r (dis .4) h dk (λ i y z. n i y (inr (inr z))),
-        )
+        rw (put-right p d l r dis (kids-in q m r h)) (record {
+          notBelow = dis .notBelow;
+          notBeside = λ y. ⊎-elim (λ z. dis .notBeside (kids-under q m p r h (n p z (inl refl)))) (λ z. dis .notBeside (z .0))
+              (put-in m p r (dis .beside) h y);
+          apart = λ i y z. ⊎-elim (λ v. dis .apart i y (kids-under q m i r h (n i v (inr (inl y))))) (λ v. dis .apart i y (v .0))
+              (put-in m i r (dis .beside) h z);
+          below = dis .below;
+          beside = put-distinct r (dis .beside) h dk (λ i y z. n i y (inr (inr z)));
+        })
 
     -- the new children are counted for the old ones
     pub put-count : (w : Tree) → Distinct w → Kids q m w → count (put q k w) + count m ≡ count w + count k
     put-count nil dis h = absurd h
     put-count (grow p d l r) dis (inl e) = rw (put-here p d l r (e .0), e .1) (omega arith)
     put-count (grow p d l r) dis (inr (inl h)) =
-        let ih = put-count l (dis .3) h in rw (put-left p d l r dis (kids-in q m l h)) (omega arith)
+        let ih = put-count l (dis .below) h in rw (put-left p d l r dis (kids-in q m l h)) (omega arith)
     put-count (grow p d l r) dis (inr (inr h)) =
-        let ih = put-count r (dis .4) h in rw (put-right p d l r dis (kids-in q m r h)) (omega arith)
+        let ih = put-count r (dis .beside) h in rw (put-right p d l r dis (kids-in q m r h)) (omega arith)
 
     pub put-put : (w : Tree) → put q k (put q m w) ≡ put q k w
     put-put nil = refl
@@ -253,8 +261,8 @@ module _ (q : ℕ) (k : Tree) where
   pub put-same : (w : Tree) → Distinct w → Kids q k w → put q k w ≡ w
   put-same nil dis h = refl
   put-same (grow p d l r) dis (inl e) = put-here p d l r (e .0) ∙ ap (λ (z : Tree). grow p d z r) (e .1)
-  put-same (grow p d l r) dis (inr (inl h)) = put-left p d l r dis (kids-in q k l h) ∙ ap (λ (z : Tree). grow p d z r) (put-same l (dis .3) h)
-  put-same (grow p d l r) dis (inr (inr h)) = put-right p d l r dis (kids-in q k r h) ∙ ap (λ (z : Tree). grow p d l z) (put-same r (dis .4) h)
+  put-same (grow p d l r) dis (inr (inl h)) = put-left p d l r dis (kids-in q k l h) ∙ ap (λ (z : Tree). grow p d z r) (put-same l (dis .below) h)
+  put-same (grow p d l r) dis (inr (inr h)) = put-right p d l r dis (kids-in q k r h) ∙ ap (λ (z : Tree). grow p d l z) (put-same r (dis .beside) h)
 
 -- A step that looks for the place x (Changes) does what it does to the row of x and leaves the rest of the tree.
 module _ (x : ℕ) (g : Tree → Tree) (end : g nil ≡ nil)
@@ -263,17 +271,17 @@ module _ (x : ℕ) (g : Tree → Tree) (end : g nil ≡ nil)
   pass-put q k nil dis h i = absurd h
   pass-put q k (grow p d l r) dis (inl e) i =
       let j : In x l = rw (e .1) at i in
-      rw (put-here q (g k) p d l r (e .0), pass p d l r (λ z. dis .0 (in-eq l (sym z) j)), pass-absent x g end pass r (dis .2 x j), e .1) refl
+      rw (put-here q (g k) p d l r (e .0), pass p d l r (λ z. dis .notBelow (in-eq l (sym z) j)), pass-absent x g end pass r (dis .apart x j), e .1) refl
   pass-put q k (grow p d l r) dis (inr (inl h)) i =
       let j : In x l = kids-under q k x l h i in
-      let n : p ≡ x → ⊥ = (λ z. dis .0 (in-eq l (sym z) j)) in
-      rw (put-left q (g k) p d l r dis (kids-in q k l h), pass p d l r n, pass-absent x g end pass r (dis .2 x j))
-      (ap (λ (z : Tree). grow p d z r) (pass-put q k l (dis .3) h i))
+      let n : p ≡ x → ⊥ = (λ z. dis .notBelow (in-eq l (sym z) j)) in
+      rw (put-left q (g k) p d l r dis (kids-in q k l h), pass p d l r n, pass-absent x g end pass r (dis .apart x j))
+      (ap (λ (z : Tree). grow p d z r) (pass-put q k l (dis .below) h i))
   pass-put q k (grow p d l r) dis (inr (inr h)) i =
       let j : In x r = kids-under q k x r h i in
-      let n : p ≡ x → ⊥ = (λ z. dis .1 (in-eq r (sym z) j)) in
-      rw (put-right q (g k) p d l r dis (kids-in q k r h), pass p d l r n, pass-absent x g end pass l (λ y. dis .2 x y j))
-      (ap (λ (z : Tree). grow p d l z) (pass-put q k r (dis .4) h i))
+      let n : p ≡ x → ⊥ = (λ z. dis .notBeside (in-eq r (sym z) j)) in
+      rw (put-right q (g k) p d l r dis (kids-in q k r h), pass p d l r n, pass-absent x g end pass l (λ y. dis .apart x y j))
+      (ap (λ (z : Tree). grow p d l z) (pass-put q k r (dis .beside) h i))
 
   -- of the row in which x stands, after a, the part from x on is changed
   pub pass-piece : (q : ℕ) (a : Tree) (d : Datum) (l b w : Tree) → Distinct w → Kids q (after a (grow x d l b)) w

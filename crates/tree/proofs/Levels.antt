@@ -11,9 +11,9 @@ use Rattle.tree.specs.Sound.{Children, Topped}
 
 row-level : (settings : Settings) (q : Datum) (r : Tree) → Children settings q r → (i : ℕ) (d : Datum) → At i d r → d .level ≤ settings .stages
 row-level settings q nil h i d y = absurd y
-row-level settings q (grow p e k r) h i d (inl y) = rw (y .1) (h .0 .stage)
-row-level settings q (grow p e k r) h i d (inr (inl y)) = row-level settings e k (h .2) i d y
-row-level settings q (grow p e k r) h i d (inr (inr y)) = row-level settings q r (h .3) i d y
+row-level settings q (grow p e k r) h i d (inl y) = rw (y .1) (h .child .stage)
+row-level settings q (grow p e k r) h i d (inr (inl y)) = row-level settings e k (h .below) i d y
+row-level settings q (grow p e k r) h i d (inr (inr y)) = row-level settings q r (h .beside) i d y
 
 pub level-low : (settings : Settings) (t : Tree) → Topped settings t → (i : ℕ) (d : Datum) → At i d t → d .level ≤ settings .stages
 level-low settings nil h i d y = absurd y

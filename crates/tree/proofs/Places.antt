@@ -26,11 +26,11 @@ module _ (x : ℕ) (g : Datum → Tree → Tree) (less : (i : ℕ) (d : Datum) (
   -- the place x itself is not among what is left
   pub gone : (t : Tree) → Distinct t → In x (change x g t) → ⊥
   gone nil u h = h
-  gone (grow y d k r) u h = go (eqb y x) refl h (gone k (u .3)) (gone r (u .4))
+  gone (grow y d k r) u h = go (eqb y x) refl h (gone k (u .below)) (gone r (u .beside))
     where
       go : (b : Bool) → eqb y x ≡ b → In x (cond b (g d r) (grow y d (change x g k) (change x g r)))
           → (In x (change x g k) → ⊥) → (In x (change x g r) → ⊥) → ⊥
-      go true e h a b = u .1 (in-eq r (sym (eqb-true y x e)) (less x d r h))
+      go true e h a b = u .notBeside (in-eq r (sym (eqb-true y x e)) (less x d r h))
       go false e (inl z) a b = eqb-false y x e (sym z)
       go false e (inr (inl h)) a b = a h
       go false e (inr (inr h)) a b = b h
@@ -54,21 +54,21 @@ module _ (x : ℕ) (g f : Datum → Tree → Tree) (New : ℕ → Type 0)
       → ((d : Datum) (r : Tree) → Distinct r → ((i : ℕ) → New i → In i (g d r) → ⊥) → Distinct (f d r))
       → (t : Tree) → Distinct t → ((i : ℕ) → New i → In i (change x g t) → ⊥) → Distinct (change x f t)
   distinct-change less tight nil u n = tt
-  distinct-change less tight (grow y d k r) u n = go (same? y x) (distinct-change less tight k (u .3)) (distinct-change less tight r (u .4))
+  distinct-change less tight (grow y d k r) u n = go (same? y x) (distinct-change less tight k (u .below)) (distinct-change less tight r (u .beside))
     where
       go : (y ≡ x) ⊎ (y ≡ x → ⊥) → (((i : ℕ) → New i → In i (change x g k) → ⊥) → Distinct (change x f k))
           → (((i : ℕ) → New i → In i (change x g r) → ⊥) → Distinct (change x f r)) → Distinct (change x f (grow y d k r))
-      go (inl e) a b = rw (eq-eqb y x e) (tight d r (u .4) (λ i z h. n i z (rw (eq-eqb y x e) h)))
-      go (inr m) a b = rw (ne-eqb y x m) (
-        (λ h. ⊎-elim (λ z. u .0 (in-less x g less y k z)) (λ z. new y (z .0) (inl refl)) (in-change y k h)),
-        (λ h. ⊎-elim (λ z. u .1 (in-less x g less y r z)) (λ z. new y (z .0) (inl refl)) (in-change y r h)),
-        (λ i h l. ⊎-elim
-            (λ z. ⊎-elim (λ o. u .2 i (in-less x g less i k z) (in-less x g less i r o)) (λ o. new i (o .0) (inr (inl z))) (in-change i r l))
-            (λ z. ⊎-elim (λ o. new i (z .0) (inr (inr o))) (λ o. u .2 x (z .1) (o .1)) (in-change i r l))
-            (in-change i k h)),
-        a (λ i z h. new i z (inr (inl h))),
-        b (λ i z h. new i z (inr (inr h))),
-      )
+      go (inl e) a b = rw (eq-eqb y x e) (tight d r (u .beside) (λ i z h. n i z (rw (eq-eqb y x e) h)))
+      go (inr m) a b = rw (ne-eqb y x m) (record {
+        notBelow = λ h. ⊎-elim (λ z. u .notBelow (in-less x g less y k z)) (λ z. new y (z .0) (inl refl)) (in-change y k h);
+        notBeside = λ h. ⊎-elim (λ z. u .notBeside (in-less x g less y r z)) (λ z. new y (z .0) (inl refl)) (in-change y r h);
+        apart = λ i h l. ⊎-elim
+            (λ z. ⊎-elim (λ o. u .apart i (in-less x g less i k z) (in-less x g less i r o)) (λ o. new i (o .0) (inr (inl z))) (in-change i r l))
+            (λ z. ⊎-elim (λ o. new i (z .0) (inr (inr o))) (λ o. u .apart x (z .1) (o .1)) (in-change i r l))
+            (in-change i k h);
+        below = a (λ i z h. new i z (inr (inl h)));
+        beside = b (λ i z h. new i z (inr (inr h)));
+      })
         where
           new : (i : ℕ) → New i → In i (grow y d (change x g k) (change x g r)) → ⊥
           new i z h = n i z (rw (ne-eqb y x m) h)

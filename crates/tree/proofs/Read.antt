@@ -153,12 +153,12 @@ row-readable : (settings : Settings) (q : Datum) (r : Tree) → Children setting
 row-readable settings q nil h s b = tt
 row-readable settings q (grow p d k r) h s b =
     let c = other (q .cut) in
-    let side : laid c (d .size) .height ≡ laid c (q .size) .height = rw (h .0 .cut) at (h .0 .side) in
+    let side : laid c (d .size) .height ≡ laid c (q .size) .height = rw (h .child .cut) at (h .child .side) in
     let lying : Small (laid c (d .size)) = record { width = omega arith; height = omega (arith, laid-small c (q .size) s) } in
     let small : Small (d .size) = small-laid c (d .size) lying in
-    let below = row-readable settings d k (h .2) small (extent-small (d .kind) d k r (h .1) small) in
-    let number = number-small (d .kind) d k r (h .1) in
-    (record { level = h .0 .level; number = number; small = small }, (rw (h .0 .level) at below), row-readable settings q r (h .3) s (omega arith))
+    let below = row-readable settings d k (h .below) small (extent-small (d .kind) d k r (h .kinded) small) in
+    let number = number-small (d .kind) d k r (h .kinded) in
+    (record { level = h .child .level; number = number; small = small }, (rw (h .child .level) at below), row-readable settings q r (h .beside) s (omega arith))
 
 pub sound-readable : {limit : ℕ} {settings : Settings} (t : Tree) → Sound limit settings t → Readable 0 t
 sound-readable nil s = tt

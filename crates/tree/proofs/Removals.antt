@@ -107,14 +107,14 @@ module _ (settings : Settings) (y n s m s′ n′ u m′ u′ : ℕ) (q d : Datu
   behind : (y ≡ n → ⊥) → Child settings q d → (r : Tree) → Children settings q r → Solid y r → Behind r
   unfolding settled
   behind yn a nil w o = rw (ne-eqb n y (λ e. yn (sym e)))
-  behind yn a (grow z e k r) w o = go (isFree (e .kind)) refl (same? z y) (behind yn a r (w .3) (λ f g. o f (inr (inr g))))
+  behind yn a (grow z e k r) w o = go (isFree (e .kind)) refl (same? z y) (behind yn a r (w .beside) (λ f g. o f (inr (inr g))))
     where
       go : (b : Bool) → isFree (e .kind) ≡ b → (z ≡ y) ⊎ (z ≡ y → ⊥) → Behind r → Behind (grow z e k r)
       go true f (inl g) ih = absurd (false≢true (sym (o e (inl (sym g, refl))) ∙ f))
       go true f (inr l) ih =
-          let p = free-kind (e .kind) e k r f (w .1) in
+          let p = free-kind (e .kind) e k r f (w .kinded) in
           rw (p .childless, p .last, settled-join n s d z e f, ne-eqb z y l, settled-join n′ u d z e f, ne-eqb n y (λ g. yn (sym g)))
-      go false f (inl g) ih = rw (settled-past n s d z e k r f, eq-eqb z y g) (twice settings n s m s′ n′ u m′ u′ q d e r a (w .0))
+      go false f (inl g) ih = rw (settled-past n s d z e k r f, eq-eqb z y g) (twice settings n s m s′ n′ u m′ u′ q d e r a (w .child))
       go false f (inr l) ih =
           rw (
             settled-past n s d z e k r f,
@@ -133,10 +133,10 @@ module _ (settings : Settings) (x y n s m s′ n′ u m′ u′ : ℕ) where
       → shape (remove y m s′ (remove x n s r)) ≡ shape (remove x n′ u (remove y m′ u′ r))
   row-removals xy yn xm =
       commute x y (settled n s) (settled m s′) (settled n′ u) (settled m′ u′) xy Row
-      (λ p d k r w. (d, w .1 .2, (λ e g. w .2 e (inr (inl g))), (λ e g. w .3 e (inr (inl g)))))
-      (λ p d k r w. (w .0, w .1 .3, (λ e g. w .2 e (inr (inr g))), (λ e g. w .3 e (inr (inr g)))))
-      (λ d k r w. behind settings y n s m s′ n′ u m′ u′ (w .0) d yn (w .1 .0) r (w .1 .3) (λ e g. w .3 e (inr (inr g))))
-      (λ d k r w. sym (behind settings x m′ u′ n′ u m s′ n s (w .0) d xm (w .1 .0) r (w .1 .3) (λ e g. w .2 e (inr (inr g)))))
+      (λ p d k r w. (d, w .1 .below, (λ e g. w .2 e (inr (inl g))), (λ e g. w .3 e (inr (inl g)))))
+      (λ p d k r w. (w .0, w .1 .beside, (λ e g. w .2 e (inr (inr g))), (λ e g. w .3 e (inr (inr g)))))
+      (λ d k r w. behind settings y n s m s′ n′ u m′ u′ (w .0) d yn (w .1 .child) r (w .1 .beside) (λ e g. w .3 e (inr (inr g))))
+      (λ d k r w. sym (behind settings x m′ u′ n′ u m s′ n s (w .0) d xm (w .1 .child) r (w .1 .beside) (λ e g. w .2 e (inr (inr g)))))
 
   -- the top stays: both go from below it
   pub removes-commute : {limit : ℕ} (t : Tree) → Sound limit settings t → Removable x t → Removable y t

@@ -20,7 +20,7 @@ use Rattle.tree.specs.Tree.{Tree, In, Distinct, count, after, isNil, cha
 use Rattle.tree.specs.Sound.{extent, Kinded, Child, Children, Topped}
 use Rattle.tree.specs.Removal.{freed, joined, board, lastFree, withoutLast, settled, remove, left, cleared}
 use Rattle.tree.specs.Apart.{Removable}
-use Rattle.tree.proofs.Rows.{in-eq, count-after, in-after, distinct-after}
+use Rattle.tree.proofs.Rows.{in-eq, count-after, in-after, distinct-one, distinct-after}
 use Rattle.tree.proofs.Pieces.{free-piece, child}
 use Rattle.tree.proofs.Kept.{This, only, free-kind, Exchange, topped}
 use Rattle.tree.proofs.Places.{distinct-change}
@@ -39,7 +39,12 @@ board-laid d (some e) = rw laid-twice
 -- the new piece is a child of the parent of d
 freed-children : (settings : Settings) (n s : ℕ) (q d : Datum) (o : Option Datum) → Child settings q d → Children settings q (grow n (freed s d (board d o)) nil nil)
 freed-children settings n s q d o h =
-    (child (h .level) (h .stage) (h .cut) (ap (λ (z : Size). z .height) (board-laid d o) ∙ h .side), free-piece refl refl refl, tt, tt)
+    record {
+      child = child (h .level) (h .stage) (h .cut) (ap (λ (z : Size). z .height) (board-laid d o) ∙ h .side);
+      kinded = free-piece refl refl refl;
+      below = tt;
+      beside = tt;
+    }
 
 -- only a free piece asks something of its later siblings
 solid-kind : (a : Kind) (d : Datum) (k r u : Tree) → isFree a ≡ false → Kinded a d k r → Kinded a d k u
@@ -51,25 +56,28 @@ solid-kind Structure d k r u e h = h
 instead : (settings : Settings) (c : Orientation) (q : Datum) (r u : Tree) → Children settings q r → Children settings q u
     → Children settings q (after (withoutLast r) u) × (extent c (after (withoutLast r) u) + spare c (lastFree r) ≡ extent c r + extent c u)
 instead settings c q nil u h g = (g, omega arith)
-instead settings c q (grow p d k r) u h g = go (isFree (d .kind)) refl (instead settings c q r u (h .3) g)
+instead settings c q (grow p d k r) u h g = go (isFree (d .kind)) refl (instead settings c q r u (h .beside) g)
   where
     go : (b : Bool) → isFree (d .kind) ≡ b
         → Children settings q (after (withoutLast r) u) × (extent c (after (withoutLast r) u) + spare c (lastFree r) ≡ extent c r + extent c u)
         → Children settings q (after (withoutLast (grow p d k r)) u)
         × (extent c (after (withoutLast (grow p d k r)) u) + spare c (lastFree (grow p d k r)) ≡ extent c (grow p d k r) + extent c u)
-    go true e ih = rw (e, free-kind (d .kind) d k r e (h .1) .last) (g, omega arith)
-    go false e ih = rw e ((h .0, solid-kind (d .kind) d k r _ e (h .1), h .2, ih .0), omega arith)
+    go true e ih = rw (e, free-kind (d .kind) d k r e (h .kinded) .last) (g, omega arith)
+    go false e ih = rw e (
+      record { child = h .child; kinded = solid-kind (d .kind) d k r _ e (h .kinded); below = h .below; beside = ih .0 },
+      omega arith,
+    )
 
 pub settled-exchange : (settings : Settings) (n s : ℕ) (q d : Datum) (y : ℕ) (k r : Tree) → Children settings q (grow y d k r)
     → Exchange settings q (grow y d k r) (settled n s d r)
 unfolding settled
 settled-exchange settings n s q d y k r h =
     let u = grow n (freed s d (board d (lastFree r))) nil nil in
-    let i = instead settings (d .cut) q r u (h .3) (freed-children settings n s q d (lastFree r) (h .0)) in
+    let i = instead settings (d .cut) q r u (h .beside) (freed-children settings n s q d (lastFree r) (h .child)) in
     let w = ap (λ (z : Size). z .width) (board-laid d (lastFree r)) in
     record {
       children = i .0;
-      same = rw (← h .0 .cut) (omega arith);
+      same = rw (← h .child .cut) (omega arith);
       some = λ z. rw count-after (omega arith);
     }
 
@@ -86,11 +94,17 @@ in-left i (grow p d k r) h = go (isFree (d .kind) && isNil r) h (in-left i r)
 
 distinct-left : (r : Tree) → Distinct r → Distinct (withoutLast r)
 distinct-left nil u = tt
-distinct-left (grow p d k r) u = go (isFree (d .kind) && isNil r) (distinct-left r (u .4))
+distinct-left (grow p d k r) u = go (isFree (d .kind) && isNil r) (distinct-left r (u .beside))
   where
     go : (b : Bool) → Distinct (withoutLast r) → Distinct (cond b nil (grow p d k (withoutLast r)))
     go true a = tt
-    go false a = (u .0, (λ h. u .1 (in-left p r h)), (λ i h g. u .2 i h (in-left i r g)), u .3, a)
+    go false a = record {
+      notBelow = u .notBelow;
+      notBeside = λ h. u .notBeside (in-left p r h);
+      apart = λ i h g. u .apart i h (in-left i r g);
+      below = u .below;
+      beside = a;
+    }
 
 count-left : (r : Tree) → count (withoutLast r) ≤ count r
 count-left nil = omega arith
@@ -108,7 +122,7 @@ settled-in n s i d r h = ⊎-elim inl (λ z. inr (⊎-elim (λ e. e) (λ o. ⊎-
 settled-distinct : (n s : ℕ) (d : Datum) (r : Tree) → Distinct r → ((i : ℕ) → i ≡ n → In i (left d r) → ⊥) → Distinct (settled n s d r)
 unfolding settled
 settled-distinct n s d r u m =
-    distinct-after (withoutLast r) _ (distinct-left r u) ((λ z. z), (λ z. z), (λ i z o. z), tt, tt)
+    distinct-after (withoutLast r) _ (distinct-left r u) (distinct-one n (freed s d (board d (lastFree r))))
     (λ i h g. ⊎-elim (λ e. m i e h) (λ o. ⊎-elim absurd absurd o) g)
 
 pub settled-count : (n s : ℕ) (d : Datum) (r : Tree) → count (settled n s d r) ≤ 1 + count r

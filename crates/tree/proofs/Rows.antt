@@ -68,13 +68,16 @@ pub in-second : {A : Type 0} (i : ℕ) (a b : Row A) → In i b → In i (after 
 in-second i nil b h = h
 in-second i (grow p d k r) b h = inr (inr (in-second i r b h))
 
+pub distinct-one : {A : Type 0} (p : ℕ) (d : A) → Distinct (grow p d nil nil)
+distinct-one p d = record { notBelow = absurd; notBeside = absurd; apart = λ i h g. h; below = tt; beside = tt }
+
 pub distinct-after : {A : Type 0} (a b : Row A) → Distinct a → Distinct b → ((i : ℕ) → In i a → In i b → ⊥)
     → Distinct (after a b)
 distinct-after nil b da db n = db
-distinct-after (grow p d k r) b da db n = (
-  da .0,
-  (λ h. ⊎-elim (da .1) (n p (inl refl)) (in-after p r b h)),
-  (λ i h g. ⊎-elim (da .2 i h) (n i (inr (inl h))) (in-after i r b g)),
-  da .3,
-  distinct-after r b (da .4) db (λ i h g. n i (inr (inr h)) g),
-)
+distinct-after (grow p d k r) b da db n = record {
+  notBelow = da .notBelow;
+  notBeside = λ h. ⊎-elim (da .notBeside) (n p (inl refl)) (in-after p r b h);
+  apart = λ i h g. ⊎-elim (da .apart i h) (n i (inr (inl h))) (in-after i r b g);
+  below = da .below;
+  beside = distinct-after r b (da .beside) db (λ i h g. n i (inr (inr h)) g);
+}

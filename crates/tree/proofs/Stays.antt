@@ -100,12 +100,12 @@ at-remove x n s i e t h = at-more x left (settled n s) i e (λ d r. at-first i e
 at-left : (settings : Settings) (q : Datum) (i : ℕ) (e : Datum) (r : Tree) → Children settings q r → isFree (e .kind) ≡ false → At i e r
     → At i e (withoutLast r)
 at-left settings q i e nil h f g = g
-at-left settings q i e (grow p d k r) h f g = go (isFree (d .kind)) refl g (at-left settings q i e r (h .3) f)
+at-left settings q i e (grow p d k r) h f g = go (isFree (d .kind)) refl g (at-left settings q i e r (h .beside) f)
   where
     go : (b : Bool) → isFree (d .kind) ≡ b → At i e (grow p d k r) → (At i e r → At i e (withoutLast r)) → At i e (withoutLast (grow p d k r))
     go true z (inl o) a = let same : e ≡ d = o .1 in let no : _≡_ {A = ℕ} 0 1 = cc in absurd (omega arith)
-    go true z (inr (inl o)) a = absurd (rw (free-kind (d .kind) d k r z (h .1) .childless) at o)
-    go true z (inr (inr o)) a = absurd (rw (free-kind (d .kind) d k r z (h .1) .last) at o)
+    go true z (inr (inl o)) a = absurd (rw (free-kind (d .kind) d k r z (h .kinded) .childless) at o)
+    go true z (inr (inr o)) a = absurd (rw (free-kind (d .kind) d k r z (h .kinded) .last) at o)
     go false z (inl o) a = rw z (inl o)
     go false z (inr (inl o)) a = rw z (inr (inl o))
     go false z (inr (inr o)) a = rw z (inr (inr (a o)))
@@ -114,13 +114,13 @@ at-row : (settings : Settings) (x : ℕ) (q : Datum) (i : ℕ) (e : Datum) → i
     → (Inside x i t → ⊥) → At i e t → At i e (cleared x t)
 at-row settings x q i e f n nil h m g = g
 at-row settings x q i e f n (grow y d k r) h m g =
-    go (same? y x) g (at-row settings x d i e f n k (h .2) (λ z. m (inr (inl z)))) (at-row settings x q i e f n r (h .3) (λ z. m (inr (inr z))))
+    go (same? y x) g (at-row settings x d i e f n k (h .below) (λ z. m (inr (inl z)))) (at-row settings x q i e f n r (h .beside) (λ z. m (inr (inr z))))
   where
     go : (y ≡ x) ⊎ (y ≡ x → ⊥) → At i e (grow y d k r) → (At i e k → At i e (cleared x k)) → (At i e r → At i e (cleared x r))
         → At i e (cleared x (grow y d k r))
     go (inl z) (inl o) a b = absurd (n (o .0 ∙ z))
     go (inl z) (inr (inl o)) a b = absurd (m (inl (sym z, at-in i e k o)))
-    go (inl z) (inr (inr o)) a b = rw (eq-eqb y x z) (at-left settings q i e r (h .3) f o)
+    go (inl z) (inr (inr o)) a b = rw (eq-eqb y x z) (at-left settings q i e r (h .beside) f o)
     go (inr z) (inl o) a b = rw (ne-eqb y x z) (inl o)
     go (inr z) (inr (inl o)) a b = rw (ne-eqb y x z) (inr (inl (a o)))
     go (inr z) (inr (inr o)) a b = rw (ne-eqb y x z) (inr (inr (b o)))

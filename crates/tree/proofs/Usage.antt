@@ -46,10 +46,10 @@ unfolding added
 row-added settings q nil h empty n m e small = let same : n ≡ m = omega arith in ap whole same
 row-added settings q (grow p d k r) h empty n m e small =
     let a = area (d .size) in
-    let below = row-added settings d k (h .2) (omega arith) 0 a in
-    let full : StructurePiece d k → 0 + rowArea k ≡ a = λ s. omega (arith, filled-area settings d k s (h .2)) in
-    let here = piece-added (d .kind) d k r (h .1) (omega arith) (omega arith) (λ s. below (full s) (omega arith)) in
-    rw (here, add-whole n a (omega arith) (omega arith)) (row-added settings q r (h .3) (omega arith) (n + a) m (omega arith) small)
+    let below = row-added settings d k (h .below) (omega arith) 0 a in
+    let full : StructurePiece d k → 0 + rowArea k ≡ a = λ s. omega (arith, filled-area settings d k s (h .below)) in
+    let here = piece-added (d .kind) d k r (h .kinded) (omega arith) (omega arith) (λ s. below (full s) (omega arith)) in
+    rw (here, add-whole n a (omega arith) (omega arith)) (row-added settings q r (h .beside) (omega arith) (n + a) m (omega arith) small)
 
 -- a structure in which no free piece has area
 pub structure-full : (settings : Settings) (d : Datum) (k : Tree) → StructurePiece d k → Children settings d k → freeArea k ≡ 0 → area (d .size) ≤ 2 ^ 53

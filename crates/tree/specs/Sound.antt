@@ -72,11 +72,16 @@ pub record Child (settings : Settings) (q d : Datum) : Type 0 where
   pub cut : d .cut ≡ other (q .cut)
   pub side : laid (d .cut) (d .size) .height ≡ laid (d .cut) (q .size) .height
 
--- a row of children of q, and so below
+-- a row of children of q: its first piece, those below that one, and those beside it
 abbrev pub Children : Settings → Datum → Tree → Type 0
 Children settings q nil = Unit {0}
 Children settings q (grow p d k r) =
-    Child settings q d × Kinded (d .kind) d k r × Children settings d k × Children settings q r
+    record {
+      child : Child settings q d;
+      kinded : Kinded (d .kind) d k r;
+      below : Children settings d k;
+      beside : Children settings q r;
+    }
 
 -- "the top is at place 0 and level 0, is no part, has the sheet's size and at least one child"
 pub record Top (settings : Settings) (p : ℕ) (d : Datum) (k r : Tree) : Type 0 where

@@ -39,7 +39,13 @@ Inside x i (grow p d k r) = ((x ≡ p) × In i k) ⊎ (Inside x i k ⊎ Inside x
 abbrev pub Distinct : {A : Type 0} → Row A → Type 0
 Distinct nil = Unit {0}
 Distinct (grow p d k r) =
-    (In p k → ⊥) × (In p r → ⊥) × ((i : ℕ) → In i k → In i r → ⊥) × Distinct k × Distinct r
+    record {
+      notBelow : In p k → ⊥;
+      notBeside : In p r → ⊥;
+      apart : (i : ℕ) → In i k → In i r → ⊥;
+      below : Distinct k;
+      beside : Distinct r;
+    }
 
 -- one row after the other
 abbrev pub after : {A : Type 0} → Row A → Row A → Row A

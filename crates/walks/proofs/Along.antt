@@ -69,7 +69,7 @@ part-ends Structure d k r h e = let z : _≡_ {A = ℕ} 0 1 = cc in let none : �
 children-end : (settings : Settings) (q : Datum) (r : Tree) → Children settings q r → PartsEnd r
 children-end settings q nil h = tt
 children-end settings q (grow p d k r) h =
-    (part-ends (d .kind) d k r (h .1), children-end settings d k (h .2), children-end settings q r (h .3))
+    (part-ends (d .kind) d k r (h .kinded), children-end settings d k (h .below), children-end settings q r (h .beside))
 
 pub sound-ends : (limit : ℕ) (settings : Settings) (w : Tree) → Sound limit settings w → PartsEnd w
 sound-ends limit settings nil s = tt

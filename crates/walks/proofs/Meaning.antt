@@ -208,15 +208,15 @@ module _ (limit : ℕ) (t : List Node) (x n : ℕ) (P : Tree → Type 0)
       (eq-eqb p x z, z)
       (each d k r (subst (λ (y : ℕ). Piece limit t y d k r) z (e .0)) (e .1) (omega arith))
   pick p d k r ds e h (inr z) (inl y) a b = absurd (z (sym y))
-  pick p d k r ds e h (inr z) (inr (inl y)) a b = rw (ne-eqb p x z, subtree-absent x r (ds .2 x y), after-nil) (a y)
-  pick p d k r ds e h (inr z) (inr (inr y)) a b = rw (ne-eqb p x z, subtree-absent x k (λ o. ds .2 x o y)) (b y)
+  pick p d k r ds e h (inr z) (inr (inl y)) a b = rw (ne-eqb p x z, subtree-absent x r (ds .apart x y), after-nil) (a y)
+  pick p d k r ds e h (inr z) (inr (inr y)) a b = rw (ne-eqb p x z, subtree-absent x k (λ o. ds .apart x o y)) (b y)
 
   at-place : (w : Tree) → Distinct w → In x w → Shown limit t w → count w ≤ n → P (subtree x w)
   at-place nil ds i e h = absurd i
   at-place (grow p d k r) ds i e h =
       pick p d k r ds e h (same? p x) i
-      (λ y. at-place k (ds .3) y (e .1) (omega arith))
-      (λ y. at-place r (ds .4) y (e .2) (omega arith))
+      (λ y. at-place k (ds .below) y (e .1) (omega arith))
+      (λ y. at-place r (ds .beside) y (e .2) (omega arith))
 
 -- The laws. `left` is the fuel: the count of nodes held is enough.
 module _ (limit : ℕ) (t : List Node) where

@@ -13,7 +13,7 @@ open-sound limit o room h =
     sound h (
       top refl refl refl refl refl
           (structure-piece (omega arith) (sided (h .wide) (h .tall)) (omega arith) refl),
-      (child refl (h .least) refl refl, free-piece refl refl refl, tt, tt),
+      record { child = child refl (h .least) refl refl; kinded = free-piece refl refl refl; below = tt; beside = tt },
     )
     room
     (λ i g. let z = numbered-in 0 i (opened o) (refl, (refl, tt, tt), tt) g in omega arith)
