@@ -7,7 +7,8 @@ use Prim.Native.Nat.{ℕ}
 use borrow.Author.Tests.{eq-eqb, ne-eqb}
 use Rattle.piece.specs.declared.node.Datum.{Datum}
 use Rattle.piece.specs.Row.{nil, grow}
-use Rattle.tree.specs.Tree.{Tree, In, Inside, Distinct, after, isFree, isNil}
+use Rattle.piece.specs.Kinds.{isFree}
+use Rattle.tree.specs.Tree.{Tree, In, Inside, Distinct, after, isNil}
 use Rattle.tree.specs.Removal.{withoutLast, settled, remove, cleared, subtree}
 use Rattle.tree.proofs.Rows.{same?, in-eq}
 use Rattle.tree.proofs.Counts.{in-cleared, in-remove}
