@@ -67,5 +67,5 @@ tried $? "chains to level 253 take ${used:-no} KiB of its stack, which has $kib"
 printf '%s\n' 'stopped' 'nothing written over' 'refused: this counter was stopped in a call: open another one' > "$room/stopped"
 writes "on a stack of $small_kib KiB the engine stops it, and nothing is written over" "$room/stopped" ask overflow "$small" $small_kib < recorded/long.in
 engine=(--stack-size=256)
-writes "the long sessions on 256 KiB of the engine's own stack" recorded/long.out ask answers "$module" < recorded/long.in
+writes "the counter's own recorded run, long sessions and all, on 256 KiB of the engine's own stack" crates/counter/stdout ask answers "$module" < crates/counter/stdin
 finished $meant
