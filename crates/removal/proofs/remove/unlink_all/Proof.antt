@@ -34,48 +34,6 @@ loop-holds : tie.Need-loop-holds Inv-loop μ-loop
 unfolding entries
 loop-holds c = (omega arith, refl)
 
-cast-xi : tie.Need-cast-xi Inv-loop μ-loop
-cast-xi c = let h = turn c in search needs
-
-mul-n : tie.Need-mul-n Inv-loop μ-loop
-mul-n c = let h = turn c in search needs
-
-array-copy-out-n : tie.Need-array-copy-out-n Inv-loop μ-loop
-array-copy-out-n c = let h = turn c in search needs
-
-cast-qi : tie.Need-cast-qi Inv-loop μ-loop
-cast-qi c = let h = turn (c .before .before) in search needs
-
-mul-up : tie.Need-mul-up Inv-loop μ-loop
-mul-up c = let h = turn (c .before .before .before) in search needs
-
-array-copy-out-up : tie.Need-array-copy-out-up Inv-loop μ-loop
-array-copy-out-up c = let h = turn (c .before .before .before) in search needs
-
-mul-t : tie.Need-mul-t Inv-loop μ-loop
-mul-t c = let h = turn (c .before .before .before .before .before) in search needs
-
-array-set-from-t : tie.Need-array-set-from-t Inv-loop μ-loop
-array-set-from-t c = let h = turn (c .before .before .before .before .before) in search needs
-
-mul-up-2 : tie.Need-mul-up-2 Inv-loop μ-loop
-mul-up-2 c = let h = turn (c .before .before .before .before) in search needs
-
-array-copy-out-up-2 : tie.Need-array-copy-out-up-2 Inv-loop μ-loop
-array-copy-out-up-2 c = let h = turn (c .before .before .before .before) in search needs
-
-mul-t-3 : tie.Need-mul-t-3 Inv-loop μ-loop
-mul-t-3 c = let h = turn (c .before .before .before .before .before .before) in search needs
-
-array-set-from-t-3 : tie.Need-array-set-from-t-3 Inv-loop μ-loop
-array-set-from-t-3 c = let h = turn (c .before .before .before .before .before .before) in search needs
-
-mul-t-5 : tie.Need-mul-t-5 Inv-loop μ-loop
-mul-t-5 c = let h = turn (c .before .before .before .before) in search needs
-
-array-set-from-t-5 : tie.Need-array-set-from-t-5 Inv-loop μ-loop
-array-set-from-t-5 c = let h = turn (c .before .before .before .before) in search needs
-
 loop-again : tie.Need-loop-again Inv-loop μ-loop
 loop-again c =
     let b = c .before .before .before .before .before in
@@ -116,34 +74,34 @@ unlink-all-spec =
     loop-holds
     (λ c. search needs)  -- mul-x
     (λ c. search needs)  -- array-read-x
-    cast-xi
-    mul-n
-    array-copy-out-n
-    cast-qi
-    mul-up
-    array-copy-out-up
+    (λ c. let h = turn c in search needs)  -- cast-xi
+    (λ c. let h = turn c in search needs)  -- mul-n
+    (λ c. let h = turn c in search needs)  -- array-copy-out-n
+    (λ c. let h = turn (c .before .before) in search needs)  -- cast-qi
+    (λ c. let h = turn (c .before .before .before) in search needs)  -- mul-up
+    (λ c. let h = turn (c .before .before .before) in search needs)  -- array-copy-out-up
     (λ c κs. search needs)  -- with-first-requires
-    mul-t
-    array-set-from-t
+    (λ c. let h = turn (c .before .before .before .before .before) in search needs)  -- mul-t
+    (λ c. let h = turn (c .before .before .before .before .before) in search needs)  -- array-set-from-t
     (λ c. search needs)  -- cast-i
     (λ c. search needs)  -- mul-before
     (λ c. search needs)  -- array-copy-out-before
     (λ c κs. search needs)  -- with-next-requires
     (λ c. search needs)  -- mul-t-2
     (λ c. search needs)  -- array-set-from-t-2
-    mul-up-2
-    array-copy-out-up-2
+    (λ c. let h = turn (c .before .before .before .before) in search needs)  -- mul-up-2
+    (λ c. let h = turn (c .before .before .before .before) in search needs)  -- array-copy-out-up-2
     (λ c κs. search needs)  -- with-last-requires
-    mul-t-3
-    array-set-from-t-3
+    (λ c. let h = turn (c .before .before .before .before .before .before) in search needs)  -- mul-t-3
+    (λ c. let h = turn (c .before .before .before .before .before .before) in search needs)  -- array-set-from-t-3
     (λ c. search needs)  -- cast-i-2
     (λ c. search needs)  -- mul-behind
     (λ c. search needs)  -- array-copy-out-behind
     (λ c κs. search needs)  -- with-prev-requires
     (λ c. search needs)  -- mul-t-4
     (λ c. search needs)  -- array-set-from-t-4
-    mul-t-5
-    array-set-from-t-5
+    (λ c. let h = turn (c .before .before .before .before) in search needs)  -- mul-t-5
+    (λ c. let h = turn (c .before .before .before .before) in search needs)  -- array-set-from-t-5
     (λ c. search needs)  -- add-k
     (λ c. search needs)  -- loop-less
     loop-again
