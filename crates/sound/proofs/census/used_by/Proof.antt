@@ -1,14 +1,8 @@
 -- Each answer is `usedBy`, computed by the test that led to it.
-use mathlib.Core.Path.{refl, sym, _∙_}
 use borrow.Author.Needs.{needs}
-use borrow.Author.Tests.{eq-eqb, ne-eqb}
+use Rattle.sound.proofs.Chain.{equals}
 use Rattle.sound.proofs.census.used_by.Statement.{statement}
 use Rattle.sound.proofs.census.used_by.Tie as tie
-
-returns : tie.Need-returns
-returns c =
-    let k = c .before .before in
-    rw (eq-eqb _ _ (sym (k .number .ensures) ∙ c .before .if1 .taken)) (c .area .ensures)
 
 pub used-by-spec : {M : Type 1} → statement M
 used-by-spec =
@@ -16,5 +10,5 @@ used-by-spec =
     (tie.spec
     (λ c κs. search needs)  -- number-requires
     (λ c κs. search needs)  -- area-requires
-    returns
-    (λ c. rw (ne-eqb _ _ (λ e. c .if1 .left (c .before .number .ensures ∙ e))) refl))  -- returns-2
+    (λ c. let part = rw (c .before .before .number .ensures) at (c .before .if1 .taken) in search equals)  -- returns
+    (λ c. let other = rw (c .before .number .ensures) at (c .if1 .left) in search equals))  -- returns-2

@@ -1,17 +1,9 @@
 -- `child_ok` meets its contract: each way out is one outcome of the tests of `childB`.
-use mathlib.Core.Path.{ap, _∙_}
 use borrow.Author.Needs.{needs}
-use Rattle.sound.specs.Rows.{childB, sameCut}
+use Rattle.sound.specs.Rows.{childB}
 use Rattle.sound.proofs.Chain.{pass-by, pass-eq, pass-le, pass-ne, tests}
 use Rattle.sound.proofs.rows.child_ok.Statement.{statement}
 use Rattle.sound.proofs.rows.child_ok.Tie as tie
-
-returns-6 : tie.Need-returns-6
-unfolding childB
-returns-6 c =
-    let a = c .before .before .before .before .before .before .before .before .before .before .before .before .before .before .before .before .before .args in
-    let cuts = c .before .same-cut .ensures ∙ ap (sameCut (a .n .datum .cut)) (c .before .before .rotate .ensures) in
-    search tests depth 9
 
 returns-7 : tie.Need-returns-7
 unfolding childB
@@ -22,8 +14,7 @@ returns-7 c =
     let c3 = c4 .before .before .before in
     let c2 = c3 .before .before in
     let c1 = c2 .before .before in
-    let a = c1 .before .before .before .before .args in
-    let cuts = c6 .before .same-cut .ensures ∙ ap (sameCut (a .n .datum .cut)) (c6 .before .before .rotate .ensures) in
+    let cuts = rw (c6 .before .before .rotate .ensures) at (c6 .before .same-cut .ensures) in
     pass-ne (c1 .if1 .left)
     (pass-eq (c2 .if2 .left)
     (pass-eq (c3 .if3 .left)
@@ -47,7 +38,7 @@ child-ok-spec =
     (λ c. search tests depth 9)  -- returns-5
     (λ c κs. search needs)  -- rotate-requires
     (λ c κs. search needs)  -- same-cut-requires
-    returns-6
+    (λ c. let cuts = rw (c .before .before .rotate .ensures) at (c .before .same-cut .ensures) in search tests depth 9)  -- returns-6
     (λ c κs. search needs)  -- laid-requires
     (λ c κs. search needs)  -- laid-requires-2
     returns-7)

@@ -5,10 +5,6 @@ use Rattle.sound.proofs.Chain.{pass-eq, tests}
 use Rattle.sound.proofs.rows.ends_ok.Statement.{statement}
 use Rattle.sound.proofs.rows.ends_ok.Tie as tie
 
-returns-3 : tie.Need-returns-3
-unfolding endB
-returns-3 c = pass-eq (c .before .before .before .if1 .left) (pass-eq (c .before .if2 .left) (cc))
-
 pub ends-ok-spec : {M : Type 1} → statement M
 unfolding endB
 ends-ok-spec =
@@ -18,4 +14,4 @@ ends-ok-spec =
     (λ c. search tests)  -- returns-2
     (λ c κs. search needs)  -- room-of-requires
     (λ c. search needs)  -- cast-result
-    returns-3)
+    (λ c. pass-eq (c .before .before .before .if1 .left) (pass-eq (c .before .if2 .left) (cc))))  -- returns-3
