@@ -22,7 +22,7 @@ use Rattle.tree.specs.ListSteps.{Names}
 use Rattle.tree.specs.Enrolment.{when, enrolled}
 use Rattle.tree.proofs.Rows.{in-eq, at-in}
 use Rattle.tree.proofs.Blocks.{block-count}
-use Rattle.register.proofs.Naming.{names-cases, names-first, names-second}
+use Rattle.tree.proofs.Leaving.{names-cases, names-first, names-second}
 
 -- ---- the places that a list names
 

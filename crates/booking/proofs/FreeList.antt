@@ -25,10 +25,10 @@ use Rattle.tree.specs.ListSteps.{cut, put, putAll}
 use Rattle.tree.specs.Pieces.{Pieces, piecesOf, FreeOf, FreeList, Serials}
 use Rattle.tree.proofs.Rows.{at-in}
 use Rattle.tree.proofs.Numbered.{Numbered}
+use Rattle.tree.proofs.BookPieces.{less-gone, less-was, less-keeps, less-one, book-pieces, book-left, book-new, book-one}
 use Rattle.register.proofs.FreeSteps.{free-same, free-cut, free-put}
 use Rattle.booking.specs.declared.new_nodes.NewNode.{NewNode}
 use Rattle.booking.specs.NewNodes.{leaves, freesOf}
-use Rattle.booking.proofs.Pieces.{less-gone, less-was, less-keeps, less-one, book-pieces, book-left, book-new, book-one}
 use Rattle.booking.proofs.Issued.{block-numbered, older}
 
 -- ---- the list of the new nodes

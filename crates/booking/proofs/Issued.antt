@@ -19,7 +19,7 @@ use Rattle.tree.specs.Booking.{Booking, planted, block, book}
 use Rattle.tree.specs.Steps.{less}
 use Rattle.tree.specs.Pieces.{maxSerial, Serials}
 use Rattle.tree.proofs.Numbered.{Numbered, numbered-in}
-use Rattle.booking.proofs.Pieces.{less-was, book-pieces}
+use Rattle.tree.proofs.BookPieces.{less-was, book-pieces}
 
 -- the nodes of a block are numbered in the order of creation
 pub block-numbered : (s : InsertionShape) (c : Orientation) (piece part : Size) → Numbered 0 (blockOf s c piece part)

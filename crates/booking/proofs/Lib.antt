@@ -6,7 +6,6 @@ pub mod Marked
 pub mod Growing
 pub mod Together
 pub mod Planted
-pub mod Pieces
 pub mod Issued
 pub mod Sums
 pub mod Enrolled

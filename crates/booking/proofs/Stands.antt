@@ -20,6 +20,7 @@ use Rattle.piece.specs.Kinds.{isPart}
 use Rattle.piece.proofs.Padded.{padded-at}
 use Rattle.piece.proofs.Blocks.{new-nodes-few}
 use Rattle.tree.specs.Tree.{Tree, In, At, count}
+use Rattle.lists.specs.Lists.{limit}
 use Rattle.tree.specs.Booking.{Booking, block, book}
 use Rattle.tree.specs.Accepted.{Fitting, Fresh}
 use Rattle.tree.specs.Steps.{less, Marked}
@@ -30,16 +31,17 @@ use Rattle.tree.specs.Enrolment.{when, enrolled, bookedList}
 use Rattle.tree.proofs.Rows.{at-in}
 use Rattle.tree.proofs.Blocks.{block-in}
 use Rattle.tree.proofs.Laws.BookingSound.{booking-sound}
+use Rattle.tree.proofs.Family.{parent-low, parent-solid, parent-left, free-below, fresh-booking}
+use Rattle.tree.proofs.BookPieces.{less-was}
 use Rattle.table.specs.declared.Node.{Node}
 use Rattle.table.specs.Table.{at, Holds, unlink}
 use Rattle.table.proofs.Links.{datum-is}
 use Rattle.table.proofs.Steps.{free-gone}
-use Rattle.lists.specs.Lists.{limit}
+use Rattle.table.proofs.Family.{parent-is, no-child, lowest-is}
 use Rattle.register.specs.declared.LayoutNodes.{LayoutNodes}
 use Rattle.register.specs.Listings.{areaIn, entriesOf}
 use Rattle.register.specs.Standing.{Stands}
 use Rattle.register.proofs.Listed.{entries-listing, kept-listing}
-use Rattle.register.proofs.Family.{parent-is, parent-low, parent-solid, parent-left, no-child, lowest-is, free-below, fresh-booking}
 use Rattle.booking.specs.declared.new_nodes.NewNode.{NewNode}
 use Rattle.booking.specs.declared.new_nodes.Site.{Site}
 use Rattle.booking.specs.NewNodes.{appendEach, bookingAt, deepest, enrolments, freesOf, heldNew, leaves, noNew, those}
@@ -47,7 +49,6 @@ use Rattle.booking.specs.Book.{lowestOf, newPlaces, noChild, siteOf, new
 use Rattle.booking.specs.Inner.{Bookable}
 use Rattle.booking.proofs.Made.{made-is, leaves-count, held-those}
 use Rattle.booking.proofs.Planted.{booked-holds}
-use Rattle.booking.proofs.Pieces.{less-was}
 use Rattle.booking.proofs.Issued.{book-serials}
 use Rattle.booking.proofs.FreeList.{booked-free}
 use Rattle.booking.proofs.RemovableList.{booked-removable}

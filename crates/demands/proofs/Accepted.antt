@@ -15,10 +15,10 @@ use Rattle.piece.specs.declared.node.Datum.{Datum}
 use Rattle.piece.specs.declared.insertion_blueprint.InsertionShape.{InsertionShape}
 use Rattle.piece.specs.Offers.{fits, turned}
 use Rattle.tree.specs.Accepted.{Fresh}
-use Rattle.register.proofs.Family.{fresh-booking}
-use Rattle.booking.proofs.Offering.{offered-says}
+use Rattle.tree.proofs.Family.{fresh-booking}
 use Rattle.answers.specs.declared.Mark.{Mark}
 use Rattle.answers.specs.declared.Refusal.the-variants.{BufferTooShort}
+use Rattle.booking.proofs.Offering.{offered-says}
 use Rattle.layout.specs.declared.layout.Layout.{Layout}
 use Rattle.layout.specs.declared.insert.Inserted.{Inserted}
 use Rattle.layout.specs.declared.remove.Removed.{Removed}

@@ -23,10 +23,10 @@ use Rattle.tree.proofs.Rows.{at-in, in-eq}
 use Rattle.tree.proofs.Counts.{count-book}
 use Rattle.tree.proofs.Laws.BookingsCommute.{bookings-commute}
 use Rattle.tree.proofs.Laws.UntouchedByBooking.{untouched-by-booking}
-use Rattle.register.proofs.Family.{less-other, new-place-absent}
-use Rattle.booking.proofs.Pieces.{less-was, book-pieces}
-use Rattle.booking.proofs.Issued.{newer}
+use Rattle.tree.proofs.Family.{less-other, new-place-absent}
+use Rattle.tree.proofs.BookPieces.{less-was, book-pieces}
 use Rattle.answers.specs.declared.Mark.{Mark}
+use Rattle.booking.proofs.Issued.{newer}
 use Rattle.layout.specs.declared.layout.Layout.{Layout}
 use Rattle.layout.specs.declared.insert.Inserted.{Inserted}
 use Rattle.layout.specs.Check.{limit, maxSerial, tree}

@@ -1,4 +1,3 @@
-pub mod Parents
 pub mod Outcomes
 pub mod Lives
 pub mod Marks

@@ -22,11 +22,12 @@ use Rattle.tree.specs.Steps.{less}
 use Rattle.tree.specs.Family.{parentOf}
 use Rattle.tree.proofs.Bookings.{at-unique}
 use Rattle.tree.proofs.Stays.{cleared-at}
+use Rattle.tree.proofs.Family.{fresh-removal}
+use Rattle.tree.proofs.BookPieces.{less-was, book-pieces}
+use Rattle.tree.proofs.Parents.{SameParent, book-parent, remove-parent}
 use Rattle.table.specs.declared.Node.{Node}
 use Rattle.table.specs.Table.{zeroDatum, zeroNode}
-use Rattle.register.proofs.Family.{fresh-removal}
 use Rattle.answers.specs.declared.Mark.{Mark}
-use Rattle.booking.proofs.Pieces.{less-was, book-pieces}
 use Rattle.booking.proofs.Issued.{newer}
 use Rattle.removal.specs.Remove.{newFree}
 use Rattle.removal.proofs.Pieces.{remove-pieces}
@@ -47,7 +48,6 @@ use Rattle.layout.proofs.Listed.{piece-is}
 use Rattle.layout.proofs.Opened.{fresh-sized, fresh-sound}
 use Rattle.layout.proofs.Restored.{greater-left, restored-sound}
 use Rattle.demands.specs.Life.{OneOf, Life, opened, inserted, removed, restored, Later}
-use Rattle.demands.proofs.Parents.{SameParent, book-parent, remove-parent}
 use Rattle.demands.proofs.Accepted.{insertable-fresh}
 use Rattle.demands.proofs.Outcomes.{opened-so, inserted-so, removed-so, restored-so}
 

@@ -23,20 +23,20 @@ use Rattle.piece.specs.declared.insertion_blueprint.InsertionShape.the-variants
 use Rattle.piece.specs.Insertion.{blockOf, table}
 use Rattle.piece.specs.Row.{nil, grow}
 use Rattle.piece.proofs.Padded.{padded-whole}
+use Rattle.lists.proofs.Scan.{clash}
 use Rattle.tree.specs.Tree.{Tree, At, isFree, isPart}
 use Rattle.tree.specs.Open.{firstFree}
 use Rattle.tree.specs.Booking.{Booking, planted, block}
 use Rattle.tree.specs.Steps.{less}
 use Rattle.tree.specs.Family.{newPlace}
-use Rattle.lists.proofs.Scan.{clash}
+use Rattle.tree.proofs.BookPieces.{book-new}
+use Rattle.answers.specs.declared.Mark.{Mark}
+use Rattle.answers.specs.declared.Refusal.{Refusal}
 use Rattle.booking.specs.declared.marks.NewMarks.{NewMarks}
 use Rattle.booking.specs.Marks.{blockMarks, headMark, marksIn, zeroMark}
-use Rattle.booking.proofs.Pieces.{book-new}
 use Rattle.removal.specs.Remove.{newFree}
 use Rattle.removal.proofs.Pieces.{new-there}
 use Rattle.removal.proofs.Serials.{new-serial, new-free}
-use Rattle.answers.specs.declared.Mark.{Mark}
-use Rattle.answers.specs.declared.Refusal.{Refusal}
 use Rattle.layout.specs.declared.layout.Layout.{Layout}
 use Rattle.layout.specs.declared.open.Opening.the-variants as opening
 use Rattle.layout.specs.declared.replies.Outcome.the-variants.{Done}

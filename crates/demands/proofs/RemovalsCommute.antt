@@ -20,7 +20,7 @@ use Rattle.tree.proofs.RemoveKept.{in-left}
 use Rattle.tree.proofs.Stays.{at-cleared, at-remove, cleared-at}
 use Rattle.tree.proofs.Laws.RemovalsCommute.{removals-commute}
 use Rattle.tree.proofs.Beside.{left-outside, subtree-beside}
-use Rattle.register.proofs.Family.{fresh-removal}
+use Rattle.tree.proofs.Family.{fresh-removal}
 use Rattle.answers.specs.declared.Mark.{Mark}
 use Rattle.removal.proofs.Pieces.{remove-pieces}
 use Rattle.removal.proofs.Serials.{new-serial}

@@ -15,6 +15,7 @@ use Rattle.tree.specs.Steps.{leaving}
 use Rattle.tree.specs.Enrolment.{removedList}
 use Rattle.tree.proofs.Rows.{at-in}
 use Rattle.tree.proofs.Goes.{subtree-is}
+use Rattle.tree.proofs.Family.{parent-cleared}
 use Rattle.table.specs.Table.{at}
 use Rattle.table.specs.Steps.{going, freeLastPlace}
 use Rattle.walks.specs.Along.{entries, numbersAlong, parts, PartsEnd}
@@ -22,7 +23,6 @@ use Rattle.walks.proofs.Meaning.{length-order}
 use Rattle.walks.proofs.Along.{each-subtree, sound-ends, length-numbers, parts-most}
 use Rattle.register.specs.Listings.{entriesOf}
 use Rattle.register.specs.Standing.{Stands}
-use Rattle.register.proofs.Family.{parent-cleared}
 use Rattle.removal.specs.declared.going.Going.{Going}
 use Rattle.removal.specs.declared.remove.Cleared.{Cleared}
 use Rattle.removal.specs.Going.{goingOf, places, areaAlong}

@@ -1,7 +1,7 @@
 -- How a loop goes through a search or a test of each number below a bound, and what the answer says. Every loop over places cites these.
 -- Assumes nothing.
 use mathlib.Core.Path.{_≡_, refl, sym, ap, _∙_}
-use mathlib.Core.Bool.{Bool, true, false, cond, _&&_}
+use mathlib.Core.Bool.{Bool, true, false, cond, _&&_, _||_}
 use mathlib.Core.Logic.{_⊎_, inl, inr}
 use Prim.Native.Nat.{ℕ, zero, suc, _+_, _-_, _<_, _≤_}
 use native.Mathlib.Nat.{not-suc-le-zero}
@@ -29,6 +29,17 @@ and-right false b e = absurd (clash e)
 pub and-false : (a b : Bool) → b ≡ false → (a && b) ≡ false
 and-false true b e = e
 and-false false b e = refl
+
+pub or-cases : (a b : Bool) → (a || b) ≡ true → (a ≡ true) ⊎ (b ≡ true)
+or-cases true b e = inl refl
+or-cases false b e = inr e
+
+-- two searches for what is the same find the same
+pub first-same : (f g : ℕ → Bool) (m n : ℕ) → ((i : ℕ) → n ≤ i → i < n + m → f i ≡ g i) → firstFrom f m n ≡ firstFrom g m n
+unfolding firstFrom
+first-same f g zero n h = refl
+first-same f g (suc m) n h =
+    rw (h n (omega arith) (omega arith), first-same f g m (n + 1) (λ i a b. h i (omega arith) (omega arith))) refl
 
 module _ (f : ℕ → Bool) where
   -- ---- a search

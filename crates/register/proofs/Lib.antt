@@ -5,4 +5,3 @@ pub mod Areas
 pub mod Naming
 pub mod Lookup
 pub mod OnePass
-pub mod Family

@@ -1,29 +1,16 @@
 -- The places that a list names: those of a list and of what comes behind it, and those of the first entries of an array. Assumes nothing.
 use mathlib.Core.Path.{_≡_, sym, ap, _∙_}
 use mathlib.Core.List.{List, [], _∷_, _++_}
-use mathlib.Core.Logic.{_⊎_, inl, inr, ⊎-elim}
+use mathlib.Core.Logic.{inl, ⊎-elim}
 use Prim.Native.Nat.{ℕ, zero, suc, _<_}
 use native.Mathlib.Omega.{arith}
 use native.Mathlib.Decide.{ℕ-discrete}
 use lib.ListN.{getD}
 use Rattle.tree.specs.ListSteps.{Names}
 use Rattle.lists.specs.Lists.{entries}
+use Rattle.tree.proofs.Leaving.{names-cases, names-first, names-second}
 
 module _ (i : ℕ) where
-  pub names-cases : (xs ys : List ℕ) → Names i (xs ++ ys) → Names i xs ⊎ Names i ys
-  names-cases [] ys h = inr h
-  names-cases (x ∷ xs) ys (inl e) = inl (inl e)
-  names-cases (x ∷ xs) ys (inr h) = ⊎-elim (λ y. inl (inr y)) inr (names-cases xs ys h)
-
-  pub names-first : (xs ys : List ℕ) → Names i xs → Names i (xs ++ ys)
-  names-first [] ys h = absurd h
-  names-first (x ∷ xs) ys (inl e) = inl e
-  names-first (x ∷ xs) ys (inr h) = inr (names-first xs ys h)
-
-  pub names-second : (xs ys : List ℕ) → Names i ys → Names i (xs ++ ys)
-  names-second [] ys h = h
-  names-second (x ∷ xs) ys h = inr (names-second xs ys h)
-
   -- the first n entries of an array name what stands among them
   module _ (l : List ℕ) where
     pub named : (n k : ℕ) → k < n → getD l k 0 ≡ i → Names i (entries n l)
@@ -32,8 +19,8 @@ module _ (i : ℕ) where
     named (suc n) k b e = go (ℕ-discrete k n) (named n k)
       where
         go : Dec (k ≡ n) → (k < n → getD l k 0 ≡ i → Names i (entries n l)) → Names i (entries n l ++ (getD l n 0 ∷ []))
-        go (yes z) ih = names-second (entries n l) (getD l n 0 ∷ []) (inl (sym e ∙ ap (λ (j : ℕ). getD l j 0) z))
-        go (no z) ih = names-first (entries n l) (getD l n 0 ∷ []) (ih (omega arith) e)
+        go (yes z) ih = names-second i (entries n l) (getD l n 0 ∷ []) (inl (sym e ∙ ap (λ (j : ℕ). getD l j 0) z))
+        go (no z) ih = names-first i (entries n l) (getD l n 0 ∷ []) (ih (omega arith) e)
 
     -- and nothing else
     pub unnamed : (n : ℕ) → ((k : ℕ) → k < n → getD l k 0 ≡ i → ⊥) → Names i (entries n l) → ⊥
@@ -41,4 +28,4 @@ module _ (i : ℕ) where
     unnamed zero none m = m
     unnamed (suc n) none m =
         ⊎-elim (unnamed n (λ k b. none k (omega arith))) (λ s. ⊎-elim (λ e. none n (omega arith) (sym e)) (λ v. v) s)
-        (names-cases (entries n l) (getD l n 0 ∷ []) m)
+        (names-cases i (entries n l) (getD l n 0 ∷ []) m)

@@ -1,8 +1,7 @@
 -- The pieces that a removal leaves: those that are none of what goes, and the free piece that comes. It rests on the row of the piece that goes
 -- (Row), and on what `table` says of a tree that has other children at one piece (put).
 use mathlib.Core.Path.{_≡_, refl, subst}
-use mathlib.Core.List.{List, [], _∷_}
-use mathlib.Core.Bool.{Bool, true, false, cond, _&&_}
+use mathlib.Core.List.{List}
 use mathlib.Core.Logic.{_⊎_, inl, inr, ⊎-elim}
 use Prim.Native.Nat.{ℕ, _+_, _<_}
 use native.Mathlib.Omega.{arith}
@@ -10,92 +9,28 @@ use Rattle.piece.specs.declared.node.Datum.{Datum}
 use Rattle.piece.specs.declared.settings.Settings.{Settings}
 use Rattle.piece.specs.Row.{nil, grow}
 use Rattle.piece.specs.Kinds.{isFree}
-use Rattle.tree.specs.Tree.{Tree, In, At, Distinct, isNil, after}
+use Rattle.tree.specs.Tree.{Tree, In, At, Distinct, after}
 use Rattle.tree.specs.Sound.{Sound}
 use Rattle.tree.specs.Removal.{freed, board, lastFree, withoutLast, settled, remove, cleared}
 use Rattle.tree.specs.Apart.{Removable}
-use Rattle.tree.specs.Steps.{Kids, leaving}
+use Rattle.tree.specs.Steps.{leaving}
 use Rattle.tree.specs.ListSteps.{Names}
-use Rattle.tree.proofs.Rows.{in?, in-eq, at-in, in-after, in-first, in-second}
+use Rattle.tree.proofs.Rows.{in?, in-eq, at-in, in-after, in-first, in-second, in-at}
 use Rattle.tree.proofs.Bookings.{at-unique}
 use Rattle.tree.proofs.RemoveKept.{in-left, remove-distinct}
 use Rattle.tree.proofs.Counts.{in-remove}
-use Rattle.tree.proofs.Stays.{at-remove, cleared-at}
-use Rattle.tree.proofs.Kids.{kids-under, kids-distinct, after-apart, after-second, put, put-in, in-put, put-new, put-kids}
+use Rattle.tree.proofs.Stays.{at-remove, cleared-at, at-second}
+use Rattle.tree.proofs.Kids.{kids-under, kids-distinct, after-apart, after-second, put, put-in, in-put, put-new, put-kids, kids-at}
+use Rattle.tree.proofs.Spots.{freeEnd}
+use Rattle.tree.proofs.Leaving.{names-cases, names-first, names-second, leaving-in, in-leaving, end-in, end-out, left-or-end}
 use Rattle.table.specs.declared.Node.{Node}
 use Rattle.table.specs.Table.{at, last, Holds}
 use Rattle.table.specs.Steps.{going}
-use Rattle.table.proofs.Links.{in-at}
 use Rattle.table.proofs.Rep.{last-cases, last-after, bound, shows}
-use Rattle.table.proofs.Removal.{freeEnd, FreeLeaves}
-use Rattle.register.proofs.Naming.{names-cases, names-first, names-second}
 use Rattle.removal.specs.Inner.{Goes}
 use Rattle.removal.specs.Remove.{newFree}
-use Rattle.removal.proofs.Row.{RowOf, whole, rest, new-is, row-of, end-alone}
+use Rattle.removal.proofs.Row.{RowOf, whole, rest, new-is, row-of}
 use Rattle.removal.proofs.Goes.{goes-all, row-parents}
-
--- ---- the places that go
-
-module _ (i : ℕ) where
-  -- a row that leaves: its places are those of the row
-  pub leaving-in : (k : Tree) → Names i (leaving k) → In i k
-  leaving-in nil h = h
-  leaving-in (grow p d k r) h =
-      ⊎-elim (λ y. inr (inl (leaving-in k y))) (λ y. ⊎-elim inl (λ v. inr (inr (leaving-in r v))) y) (names-cases i (leaving k) (p ∷ leaving r) h)
-
-  pub in-leaving : (k : Tree) → In i k → Names i (leaving k)
-  in-leaving nil h = h
-  in-leaving (grow p d k r) (inl e) = names-second i (leaving k) (p ∷ leaving r) (inl e)
-  in-leaving (grow p d k r) (inr (inl h)) = names-first i (leaving k) (p ∷ leaving r) (in-leaving k h)
-  in-leaving (grow p d k r) (inr (inr h)) = names-second i (leaving k) (p ∷ leaving r) (inr (in-leaving r h))
-
-  -- the free piece at the end of a row
-  end-in : (b : Tree) → Names i (freeEnd b) → In i b
-  end-in nil h = h
-  end-in (grow p d k r) h = go (isFree (d .kind) && isNil r) h (end-in r)
-    where
-      go : (c : Bool) → Names i (cond c (p ∷ []) (freeEnd r)) → (Names i (freeEnd r) → In i r) → In i (grow p d k r)
-      go true (inl e) ih = inl e
-      go true (inr h) ih = absurd h
-      go false h ih = inr (inr (ih h))
-
-  -- it is not left
-  end-out : (b : Tree) → Distinct b → Names i (freeEnd b) → In i (withoutLast b) → ⊥
-  end-out nil dis h g = h
-  end-out (grow p d k r) dis h g = go (isFree (d .kind) && isNil r) h g (end-out r (dis .beside))
-    where
-      go : (c : Bool) → Names i (cond c (p ∷ []) (freeEnd r)) → In i (cond c nil (grow p d k (withoutLast r)))
-          → (Names i (freeEnd r) → In i (withoutLast r) → ⊥) → ⊥
-      go true h g ih = g
-      go false h (inl e) ih = dis .notBeside (in-eq r e (end-in r h))
-      go false h (inr (inl g)) ih = dis .apart i g (end-in r h)
-      go false h (inr (inr g)) ih = ih h g
-
-  -- and all else is
-  left-or-end : (b : Tree) → FreeLeaves b → In i b → In i (withoutLast b) ⊎ Names i (freeEnd b)
-  left-or-end nil f h = inl h
-  left-or-end (grow p d k r) f h = go (isFree (d .kind) && isNil r) refl h (left-or-end r (f .1))
-    where
-      go : (c : Bool) → (isFree (d .kind) && isNil r) ≡ c → In i (grow p d k r) → (In i r → In i (withoutLast r) ⊎ Names i (freeEnd r))
-          → In i (cond c nil (grow p d k (withoutLast r))) ⊎ Names i (cond c (p ∷ []) (freeEnd r))
-      go true z (inl e) ih = inr (inl e)
-      go true z (inr (inl h)) ih = absurd (rw (end-alone p d k r f z .0) at h)
-      go true z (inr (inr h)) ih = absurd (rw (end-alone p d k r f z .1) at h)
-      go false z (inl e) ih = inl (inl e)
-      go false z (inr (inl h)) ih = inl (inr (inl h))
-      go false z (inr (inr h)) ih = ⊎-elim (λ y. inl (inr (inr y))) inr (ih h)
-
--- ---- what is in a row is in the tree
-
-at-second : (i : ℕ) (e : Datum) (a b : Tree) → At i e b → At i e (after a b)
-at-second i e nil b h = h
-at-second i e (grow p d k r) b h = inr (inr (at-second i e r b h))
-
-kids-at : (q : ℕ) (m : Tree) (i : ℕ) (e : Datum) (w : Tree) → Kids q m w → At i e m → At i e w
-kids-at q m i e nil h y = absurd h
-kids-at q m i e (grow p d l r) (inl g) y = inr (inl (rw (g .1) at y))
-kids-at q m i e (grow p d l r) (inr (inl h)) y = inr (inl (kids-at q m i e l h y))
-kids-at q m i e (grow p d l r) (inr (inr h)) y = inr (inr (kids-at q m i e r h y))
 
 -- ---- the row
 

@@ -21,16 +21,17 @@ use Rattle.tree.specs.Pieces.{Pieces, SolidOf, piecesOf, RemovableList}
 use Rattle.tree.specs.Family.{parentOf, childless}
 use Rattle.tree.specs.Enrolment.{removedList}
 use Rattle.tree.proofs.ListSteps.{Absent, strike-absent}
-use Rattle.tree.proofs.Rows.{same?, at-in}
+use Rattle.tree.proofs.Rows.{same?, at-in, in-at}
 use Rattle.tree.proofs.Bookings.{at-unique}
 use Rattle.tree.proofs.RemoveKept.{remove-distinct}
 use Rattle.tree.proofs.Stays.{at-remove}
+use Rattle.tree.proofs.Family.{parent-held, parent-solid, parent-cleared-at}
 use Rattle.table.specs.declared.Node.{Node}
 use Rattle.table.specs.Table.{at, Holds}
 use Rattle.table.specs.Steps.{freeLast, freeLastPlace, going, unlinkAll}
-use Rattle.table.proofs.Links.{in-at, datum-is}
+use Rattle.table.proofs.Links.{datum-is}
 use Rattle.table.proofs.Steps.{clear-sound}
-use Rattle.register.proofs.Family.{parent-is, parent-held, parent-solid, parent-cleared-at, no-child}
+use Rattle.table.proofs.Family.{parent-is, no-child}
 use Rattle.register.proofs.HoldingSteps.{holding-same, holding-strike, holding-strike-all, holding-push}
 use Rattle.removal.specs.Remove.{newFree, returned}
 use Rattle.removal.proofs.Pieces.{cleared-was, cleared-stays, remove-pieces}

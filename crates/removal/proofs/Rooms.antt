@@ -20,6 +20,7 @@ use Rattle.tree.specs.Family.{newPlace}
 use Rattle.tree.proofs.Rows.{at-in}
 use Rattle.tree.proofs.Read.{Small, Readable, sound-readable}
 use Rattle.tree.proofs.Laws.RemovalSound.{removal-sound}
+use Rattle.tree.proofs.Family.{cleared-count, fresh-removal}
 use Rattle.table.specs.declared.Node.{Node}
 use Rattle.table.specs.Table.{Holds}
 use Rattle.table.specs.Steps.{going, unlinkAll}
@@ -27,7 +28,6 @@ use Rattle.table.specs.Unheld.{lowestFrom}
 use Rattle.table.proofs.Steps.{clear-sound}
 use Rattle.table.proofs.Unheld.{lowest-room}
 use Rattle.register.proofs.HoldingSteps.{holding-most}
-use Rattle.register.proofs.Family.{cleared-count, fresh-removal}
 use Rattle.removal.specs.Remove.{newFree}
 use Rattle.removal.proofs.Pieces.{new-there}
 use Rattle.removal.proofs.FreeList.{cleared-free}

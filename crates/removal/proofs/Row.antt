@@ -2,35 +2,26 @@
 -- rests on what `table` says of the row of a piece that can be removed (Steps, Removal).
 use mathlib.Core.Path.{_≡_, refl}
 use mathlib.Core.List.{List, _++_}
-use mathlib.Core.Bool.{true, _&&_, false≢true}
 use Prim.Native.Nat.{ℕ, _+_}
 use Rattle.piece.specs.declared.node.Datum.{Datum}
 use Rattle.piece.specs.declared.settings.Settings.{Settings}
 use Rattle.piece.specs.Row.{nil, grow}
 use Rattle.piece.specs.Kinds.{isFree}
-use Rattle.lists.proofs.Scan.{and-left, and-right}
-use Rattle.tree.specs.Tree.{Tree, isNil, after}
+use Rattle.tree.specs.Tree.{Tree, after}
 use Rattle.tree.specs.Sound.{Sound}
 use Rattle.tree.specs.Removal.{freed, board, lastFree, withoutLast, settled, remove, cleared}
 use Rattle.tree.specs.Apart.{Removable}
 use Rattle.tree.specs.Steps.{Kids, leaving}
 use Rattle.tree.proofs.Kids.{put}
 use Rattle.tree.proofs.Goes.{cleared-put, remove-put}
+use Rattle.tree.proofs.Spots.{freeEnd, FreeLeaves}
 use Rattle.table.specs.declared.Node.{Node}
 use Rattle.table.specs.Table.{at, Holds}
 use Rattle.table.specs.Steps.{going, freeLastDatum}
 use Rattle.table.proofs.Links.{datum-is}
-use Rattle.table.proofs.Removal.{freeEnd, FreeLeaves, end-is}
+use Rattle.table.proofs.Removal.{end-is}
 use Rattle.table.proofs.Steps.{parent-is, spot, row, leaves, going-row}
 use Rattle.removal.specs.Remove.{newFree}
-
--- the free piece at the end of a row is alone there
-pub end-alone : (p : ℕ) (d : Datum) (k r : Tree) → FreeLeaves (grow p d k r) → (isFree (d .kind) && isNil r) ≡ true → (k ≡ nil) × (r ≡ nil)
-end-alone p d k r f e = (f .0 (and-left (isFree (d .kind)) (isNil r) e), none r (and-right (isFree (d .kind)) (isNil r) e))
-  where
-    none : (u : Tree) → isNil u ≡ true → u ≡ nil
-    none nil z = refl
-    none (grow i c l v) z = absurd (false≢true z)
 
 -- the piece d at x, in the tree w of the table t
 pub record RowOf (t : List Node) (x : ℕ) (d : Datum) (w : Tree) : Type 0 where

@@ -22,18 +22,19 @@ use Rattle.tree.proofs.Rows.{at-in}
 use Rattle.tree.proofs.Read.{Small}
 use Rattle.tree.proofs.Laws.RemovalSound.{removal-sound}
 use Rattle.tree.proofs.Stays.{cleared-at}
+use Rattle.tree.proofs.Family.{fresh-removal}
 use Rattle.table.specs.declared.Node.{Node}
 use Rattle.table.specs.Table.{at, Holds, append}
 use Rattle.table.specs.Steps.{going, unlinkAll}
 use Rattle.table.specs.Unheld.{lowestFrom}
 use Rattle.table.proofs.Links.{datum-is}
 use Rattle.table.proofs.Steps.{clear-sound, remove-sound}
+use Rattle.table.proofs.Family.{lowest-is}
 use Rattle.register.specs.declared.LayoutNodes.{LayoutNodes}
 use Rattle.register.specs.Listings.{areaIn, entriesOf}
 use Rattle.register.specs.Standing.{Stands}
 use Rattle.register.proofs.Listed.{entries-listing, kept-listing}
 use Rattle.register.proofs.HoldingSteps.{holding-most, holding-single}
-use Rattle.register.proofs.Family.{lowest-is, fresh-removal}
 use Rattle.removal.specs.Remove.{newFree, returned, removedFrom, removed}
 use Rattle.removal.specs.Inner.{Clearable}
 use Rattle.removal.proofs.Pieces.{goes, parent-low, last-low}

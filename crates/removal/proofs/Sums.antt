@@ -20,18 +20,18 @@ use Rattle.tree.specs.Removal.{freed, board, lastFree, withoutLast, settled, re
 use Rattle.tree.specs.Apart.{Removable}
 use Rattle.tree.specs.Steps.{Kids, leaving}
 use Rattle.tree.proofs.Kids.{put, put-here, put-left, put-right, kids-in}
+use Rattle.tree.proofs.Spots.{freeEnd, FreeLeaves, end-alone}
 use Rattle.table.specs.declared.Node.{Node}
 use Rattle.table.specs.Table.{at, last, Holds}
 use Rattle.table.specs.Steps.{freeLast, freeLastPlace, going}
 use Rattle.table.proofs.Rep.{shows, row-from}
-use Rattle.table.proofs.Removal.{freeEnd, FreeLeaves}
 use Rattle.walks.specs.Order.{childrenFirst}
 use Rattle.walks.specs.Along.{numberAt, numbersAlong}
 use Rattle.walks.proofs.Meaning.{length-order}
 use Rattle.walks.proofs.Entries.{gathered-append}
 use Rattle.walks.proofs.Along.{Shown, rep-shown, sound-ends, length-numbers, parts-most, numbers-removed}
 use Rattle.removal.specs.Going.{partArea, areaAlong}
-use Rattle.removal.proofs.Row.{RowOf, whole, row-of, end-alone}
+use Rattle.removal.proofs.Row.{RowOf, whole, row-of}
 use Rattle.removal.proofs.Goes.{leaving-is}
 
 -- A sum over the pieces of a row, φ of each, and over the places of a list, as the table shows them.

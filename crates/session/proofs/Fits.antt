@@ -4,7 +4,7 @@ use mathlib.Core.Path.{_≡_, refl, sym, ap, _∙_}
 use mathlib.Core.Bool.{Bool, true, false, cond}
 use mathlib.Core.List.{List, _∷_, _++_}
 use mathlib.Core.Logic.{inl, inr}
-use Prim.Native.Nat.{ℕ, zero, suc, _+_, _^_, _<_}
+use Prim.Native.Nat.{ℕ, zero, suc, _^_, _<_}
 use native.Mathlib.Omega.{arith}
 use lib.Dec.{eqb}
 use lib.Ieee.{binary64}
@@ -25,10 +25,10 @@ use Rattle.tree.specs.Sound.{Kinded, Children, Topped}
 use Rattle.tree.specs.Booking.{block}
 use Rattle.tree.specs.Figures.{sheetUsage}
 use Rattle.tree.specs.Removal.{subtree, numbers}
+use Rattle.tree.proofs.BookPieces.{book-new}
 use Rattle.answers.specs.declared.Mark.{Mark}
 use Rattle.answers.specs.declared.Refusal.the-variants.{OpeningOutside}
 use Rattle.booking.specs.Marks.{zeroMark, headMark, marksIn, blockMarks}
-use Rattle.booking.proofs.Pieces.{book-new}
 use Rattle.removal.specs.Remove.{newFree}
 use Rattle.removal.proofs.Pieces.{new-there}
 use Rattle.layout.specs.declared.layout.Layout.{Layout}

@@ -12,8 +12,8 @@ use lib.Dec.{eqb, ltb, leb}
 use lib.ListN.{getD}
 use borrow.Author.Tests.{eq-eqb, lt-ltb, le-ltb, le-leb, lt-leb, leb-false, eqb-true, ltb-true}
 use Rattle.lists.specs.Search.{every}
+use Rattle.lists.proofs.Scan.{and-left, and-right, every-all, every-at, every-more, or-cases}
 use Rattle.sound.specs.Listed.{wanted, agree, coversB, before, sortedB}
-use Rattle.lists.proofs.Scan.{and-left, and-right, every-all, every-at, every-more}
 
 -- two truth values agree exactly where they are equal
 pub agree-says : (a b : Bool) → agree a b ≡ true → a ≡ b
@@ -41,10 +41,6 @@ module _ (limit : ℕ) (free : Bool) (serial kind f : List ℕ) where
   covers-shown h =
       every-all (coveredAt free serial kind f) limit (λ i l. agree-shown (wanted free serial kind i) (eqb (getD f i 0) 1) (h i l))
 
-or-says : (a b : Bool) → (a || b) ≡ true → (a ≡ true) ⊎ (b ≡ true)
-or-says true b e = inl refl
-or-says false b e = inr e
-
 -- a piece of area a and serial s before one of area b and serial t: the test, and as a fact
 abbrev ahead : ℕ → ℕ → ℕ → ℕ → Bool
 ahead a s b t = ltb b a || (eqb a b && ltb s t)
@@ -57,7 +53,7 @@ ahead-says a s b t e =
     ⊎-elim
     (λ x. inl (ltb-true b a x))
     (λ x. inr (eqb-true a b (and-left (eqb a b) (ltb s t) x), ltb-true s t (and-right (eqb a b) (ltb s t) x)))
-    (or-says (ltb b a) (eqb a b && ltb s t) e)
+    (or-cases (ltb b a) (eqb a b && ltb s t) e)
 
 pub ahead-shown : (a s b t : ℕ) → Ahead a s b t → ahead a s b t ≡ true
 ahead-shown a s b t (inl h) = rw (lt-ltb b a h) refl

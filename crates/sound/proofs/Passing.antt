@@ -12,8 +12,8 @@ use Rattle.piece.specs.Sides.{other}
 use Rattle.piece.specs.Row.{nil, grow}
 use Rattle.tree.specs.Tree.{Tree, In, At, count}
 use Rattle.tree.specs.Sound.{extent, StructurePiece, Kinded, Children, Topped}
-use Rattle.tree.specs.Steps.{Deep}
 use Rattle.tree.proofs.Rows.{in?}
+use Rattle.tree.proofs.Spots.{children-deep}
 use Rattle.table.specs.declared.Node.{Node}
 use Rattle.table.specs.Table.{mk, zeroNode, at, Held, head, last, Rep, Holds}
 use Rattle.table.proofs.Linkage.{Linkage}
@@ -24,15 +24,6 @@ use Rattle.sound.specs.Rows.{step, room}
 use Rattle.sound.proofs.PlacesSay.{KindNode, Place, places-says, TopNode, top-says}
 use Rattle.sound.proofs.RowsSay.{ChildNode, Siblings, step-is, RowOf, rows-says}
 use Rattle.sound.proofs.Means.{Passes}
-
--- the rows of a sound tree are one level deeper each
-children-deep : (settings : Settings) (q : Datum) (r : Tree) → Children settings q r → Deep (q .level + 1) r
-children-deep settings q nil h = tt
-children-deep settings q (grow p d k r) h = (
-  h .child .level,
-  subst (λ (l : ℕ). Deep (l + 1) k) (h .child .level) (children-deep settings d k (h .below)),
-  children-deep settings q r (h .beside),
-)
 
 -- the top of a sound tree is at place 0, and alone
 top-shape : (settings : Settings) (w : Tree) → Topped settings w → (d : Datum) × (k : Tree) × (w ≡ grow 0 d k nil)

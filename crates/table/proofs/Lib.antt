@@ -15,3 +15,4 @@ pub mod Booking
 pub mod Removal
 pub mod Steps
 pub mod Unheld
+pub mod Family

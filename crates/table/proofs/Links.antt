@@ -9,20 +9,13 @@ use Rattle.piece.specs.declared.node.Datum.{Datum}
 use Rattle.piece.specs.Row.{nil, grow}
 use Rattle.tree.specs.Tree.{Tree, In, At, after, count}
 use Rattle.tree.specs.Steps.{Rooted, Kids, Deep, Marked}
-use Rattle.tree.proofs.Rows.{in?, count-after}
+use Rattle.tree.proofs.Rows.{in?, count-after, in-at}
 use Rattle.tree.proofs.Kids.{kids-of, kids-in, kids-under, kids-count, spot-in}
 use Rattle.table.specs.declared.Node.{Node}
 use Rattle.table.specs.Table.{mk, zeroNode, at, Held, head, last, Rep, Holds}
 use Rattle.table.proofs.Linkage.{Linked, Among, Local, Linkage}
 use Rattle.table.proofs.Rep.{Shows, shows, piece-at}
 use Rattle.table.proofs.Unique.{holds-room}
-
--- some datum is at each place of a row
-pub in-at : (i : ℕ) (w : Tree) → In i w → (e : Datum) × At i e w
-in-at i nil h = absurd h
-in-at i (grow p d k r) (inl e) = (d, inl (e, refl))
-in-at i (grow p d k r) (inr (inl h)) = let g = in-at i k h in (g .0, inr (inl (g .1)))
-in-at i (grow p d k r) (inr (inr h)) = let g = in-at i r h in (g .0, inr (inr (g .1)))
 
 module _ (limit : ℕ) (t : List Node) where
   -- what the table shows at a place of the tree is what the tree says

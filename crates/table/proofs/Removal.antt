@@ -9,7 +9,7 @@ use Prim.Native.Nat.{ℕ, _<_}
 use borrow.Author.Tests.{eq-eqb, ne-eqb}
 use Rattle.piece.specs.declared.node.Datum.{Datum}
 use Rattle.piece.specs.Row.{nil, grow}
-use Rattle.tree.specs.Tree.{Tree, In, Distinct, isNil, after}
+use Rattle.tree.specs.Tree.{Tree, In, Distinct, after}
 use Rattle.tree.specs.Removal.{freed, board, lastFree, withoutLast, settled, remove, cleared}
 use Rattle.piece.specs.Kinds.{isFree}
 use Rattle.tree.specs.Steps.{app, less, Kids, leaving}
@@ -17,22 +17,13 @@ use Rattle.tree.proofs.Rows.{after-nil, after-assoc}
 use Rattle.tree.proofs.Kids.{kids-in, kids-kids, kids-row, put, put-kids, put-put, put-same, pass-piece}
 use Rattle.tree.proofs.Hangs.{hang-of-put}
 use Rattle.tree.proofs.Goes.{less-put, less-kids, cleared-put, remove-put}
+use Rattle.tree.proofs.Spots.{freeEnd, FreeLeaves}
 use Rattle.table.specs.declared.Node.{Node}
 use Rattle.table.specs.Table.{at, last, Rep, Holds, append, unlink}
 use Rattle.table.specs.Steps.{freeLastPlace, freeLastDatum, unlinkAll}
 use Rattle.table.proofs.Rep.{shows, last-after, row-from}
 use Rattle.table.proofs.Append.{append-holds}
 use Rattle.table.proofs.Unlink.{unlink-holds}
-
--- the place of the free piece at the end of a row, if there is one
-abbrev pub freeEnd : Tree → List ℕ
-freeEnd nil = []
-freeEnd (grow p d k r) = cond (isFree (d .kind) && isNil r) (p ∷ []) (freeEnd r)
-
--- no free piece of the row has children
-abbrev pub FreeLeaves : Tree → Type 0
-FreeLeaves nil = Unit {0}
-FreeLeaves (grow p d k r) = (isFree (d .kind) ≡ true → k ≡ nil) × FreeLeaves r
 
 unlink-more : (limit : ℕ) (t : List Node) (xs ys : List ℕ) → unlinkAll limit t (xs ++ ys) ≡ unlinkAll limit (unlinkAll limit t xs) ys
 unlink-more limit t [] ys = refl

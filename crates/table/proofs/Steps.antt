@@ -1,25 +1,26 @@
 -- The table of a sound tree: the tree is the one that is read from it, and a booking and a removal, made on it step by step, leave
 -- a table that holds the tree that document 01's rule gives. This is what the layout's calls rest on.
-use mathlib.Core.Path.{_≡_, refl, sym, ap, _∙_, subst}
+use mathlib.Core.Path.{_≡_, refl, sym, ap}
 use mathlib.Core.List.{List, _++_}
-use mathlib.Core.Logic.{inl, inr}
 use Prim.Native.Nat.{ℕ, _<_}
 use Rattle.piece.specs.declared.node.Datum.{Datum}
 use Rattle.piece.specs.declared.node.Kind.the-variants.{Free}
 use Rattle.piece.specs.declared.settings.Settings.{Settings}
 use Rattle.piece.specs.Row.{nil, grow}
 use Rattle.tree.specs.Tree.{Tree, In, At, Distinct, after}
-use Rattle.tree.specs.Sound.{Children, Topped, Sound}
+use Rattle.tree.specs.Sound.{Sound}
 use Rattle.tree.specs.Booking.{Booking, block, book}
 use Rattle.tree.specs.Removal.{freed, board, remove, cleared}
 use Rattle.tree.specs.Accepted.{Fresh}
 use Rattle.tree.specs.Apart.{Removable}
 use Rattle.tree.specs.Steps.{less, Rooted, Kids, leaving}
 use Rattle.tree.proofs.Rows.{at-in}
-use Rattle.tree.proofs.Kept.{Where, This, Alone, only, not-top, free-kind, free-alone}
+use Rattle.tree.proofs.Kept.{This, Alone, only, not-top, free-alone}
 use Rattle.tree.proofs.Blocks.{block-in, block-distinct}
 use Rattle.tree.proofs.Kids.{Spot, spot-in}
-use Rattle.tree.proofs.Goes.{less-in, subtree-is}
+use Rattle.tree.proofs.Goes.{subtree-is}
+use Rattle.tree.proofs.Spots.{freeEnd, FreeLeaves, topped-rooted, topped-deep, where-spot, topped-leaves, leaves-from}
+use Rattle.tree.proofs.BookPieces.{block-apart}
 use Rattle.table.specs.declared.Node.{Node}
 use Rattle.table.specs.Table.{at, Holds, append, unlink}
 use Rattle.table.specs.Build.{treeOf}
@@ -28,50 +29,7 @@ use Rattle.table.proofs.Rep.{shows, piece-at}
 use Rattle.table.proofs.Unlink.{unlink-holds}
 use Rattle.table.proofs.Unique.{tree-is}
 use Rattle.table.proofs.Booking.{book-holds}
-use Rattle.table.proofs.Removal.{freeEnd, FreeLeaves, end-is, clear-holds, remove-holds}
-
--- What a sound tree is to the table.
-module _ (settings : Settings) where
-  pub topped-rooted : (w : Tree) → Topped settings w → Rooted w
-  topped-rooted nil h = h
-  topped-rooted (grow p d k r) h = (h .0 .place, h .0 .alone)
-
-  children-leaves : (q : Datum) (k : Tree) → Children settings q k → FreeLeaves k
-  children-leaves q nil h = tt
-  children-leaves q (grow p d k r) h = ((λ e. free-kind (d .kind) d k r e (h .kinded) .childless), children-leaves q r (h .beside))
-
-  kids-leaves : (q : Datum) (x : ℕ) (k w : Tree) → Children settings q w → Kids x k w → FreeLeaves k
-  kids-leaves q x k nil h g = absurd g
-  kids-leaves q x k (grow p d l r) h (inl e) = rw (e .1) (children-leaves d l (h .below))
-  kids-leaves q x k (grow p d l r) h (inr (inl g)) = kids-leaves d x k l (h .below) g
-  kids-leaves q x k (grow p d l r) h (inr (inr g)) = kids-leaves q x k r (h .beside) g
-
-  topped-leaves : (x : ℕ) (k w : Tree) → Topped settings w → Kids x k w → FreeLeaves k
-  topped-leaves x k nil h g = absurd g
-  topped-leaves x k (grow p d l r) h (inl e) = rw (e .1) (children-leaves d l (h .1))
-  topped-leaves x k (grow p d l r) h (inr (inl g)) = kids-leaves d x k l (h .1) g
-  topped-leaves x k (grow p d l r) h (inr (inr g)) = absurd (subst (λ (z : Tree). Kids x k z) (h .0 .alone) g)
-
-leaves-from : (a b : Tree) → FreeLeaves (after a b) → FreeLeaves b
-leaves-from nil b f = f
-leaves-from (grow p d k r) b f = leaves-from r b (f .1)
-
--- what holds of the pieces at a place holds of the one that stands there
-module _ (x : ℕ) (P : Datum → Tree → Tree → Type 0) where
-  where-row : (a : Tree) (d : Datum) (l b : Tree) → Where x P (after a (grow x d l b)) → P d l b
-  where-row nil d l b h = h .0 refl
-  where-row (grow p e k r) d l b h = where-row r d l b (h .2)
-
-  where-kids : (q : ℕ) (m w : Tree) → Where x P w → Kids q m w → Where x P m
-  where-kids q m nil h g = absurd g
-  where-kids q m (grow p e k r) h (inl z) = rw (z .1) (h .1)
-  where-kids q m (grow p e k r) h (inr (inl g)) = where-kids q m k (h .1) g
-  where-kids q m (grow p e k r) h (inr (inr g)) = where-kids q m r (h .2) g
-
-  pub where-spot : (w : Tree) (s : Spot x w) → Where x P w → P (s .datum) (s .below) (s .behind)
-  where-spot w s h =
-      where-row (s .before) (s .datum) (s .below) (s .behind)
-      (where-kids (s .parent) (after (s .before) (grow x (s .datum) (s .below) (s .behind))) w h (s .kids))
+use Rattle.table.proofs.Removal.{end-is, clear-holds, remove-holds}
 
 module _ (limit : ℕ) (settings : Settings) (t : List Node) (w : Tree) (sound : Sound limit settings w) (h : Holds limit t w) where
   rooted : Rooted w
@@ -111,17 +69,12 @@ module _ (limit : ℕ) (settings : Settings) (t : List Node) (w : Tree) (sound :
       low : (j : ℕ) → In j (block b d) → j < limit
       low j y = let g = block-in b d j y in rw (g .2) (new .placed (g .0) (g .1))
 
-      unheld : (j : ℕ) → In j (block b d) → In j (less x w) → ⊥
-      unheld j y v =
-          let g = block-in b d j y in
-          let o = less-in x w (h .distinct) j v in
-          o .1 (g .2 ∙ new .unheld (g .0) (g .1) (rw (g .2) at (o .0)))
-
       apart : Distinct (block b d)
       apart = block-distinct b d (new .apart)
 
       pub book-sound : Holds limit (plant limit (unlink limit t x) (at t x .parent) (block b d)) (book x b w)
-      book-sound = rw (parent-is x at-x) (book-holds limit t q x a d w b h last-leaf apart low unheld)
+      book-sound = rw (parent-is x at-x) (book-holds limit t q x a d w b h last-leaf apart low
+          (block-apart limit stages sheet w sound x d i free b new))
 
   -- a removal of the piece z at x
   module _ (x : ℕ) (z : Removable x w) where

@@ -9,7 +9,7 @@ use lib.Dec.{eqb}
 use borrow.Author.Tests.{eq-eqb, ne-eqb}
 use Rattle.piece.specs.declared.node.Datum.{Datum}
 use Rattle.piece.specs.Row.{nil, grow}
-use Rattle.tree.specs.Tree.{Tree, In, Distinct, after, count, change}
+use Rattle.tree.specs.Tree.{Tree, In, At, Distinct, after, count, change}
 use Rattle.tree.specs.Steps.{Rooted, Kids}
 use Rattle.tree.proofs.Rows.{in-eq, in-first, in-second}
 use Rattle.tree.proofs.Changes.{pass-absent, pass-after, change-pass}
@@ -62,6 +62,13 @@ module _ (q : ℕ) (k : Tree) where
 pub kids-row : (x : ℕ) (a : Tree) (d : Datum) (l b : Tree) → Kids x l (after a (grow x d l b))
 kids-row x nil d l b = inl (refl, refl)
 kids-row x (grow p e k r) d l b = inr (inr (kids-row x r d l b))
+
+-- what is at a place of the children is there in the tree
+pub kids-at : (q : ℕ) (m : Tree) (i : ℕ) (e : Datum) (w : Tree) → Kids q m w → At i e m → At i e w
+kids-at q m i e nil h y = absurd h
+kids-at q m i e (grow p d l r) (inl g) y = inr (inl (rw (g .1) at y))
+kids-at q m i e (grow p d l r) (inr (inl h)) y = inr (inl (kids-at q m i e l h y))
+kids-at q m i e (grow p d l r) (inr (inr h)) y = inr (inr (kids-at q m i e r h y))
 
 -- no place of a row is in another that comes after it
 pub after-apart : (a b : Tree) → Distinct (after a b) → (i : ℕ) → In i a → In i b → ⊥

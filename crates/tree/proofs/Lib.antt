@@ -20,8 +20,13 @@ pub mod Counts
 pub mod Stays
 pub mod ListSteps
 pub mod Kids
+pub mod Spots
 pub mod Hangs
 pub mod Goes
 pub mod Beside
+pub mod Leaving
+pub mod BookPieces
 pub mod Pigeon
+pub mod Family
+pub mod Parents
 pub mod Laws

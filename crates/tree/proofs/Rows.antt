@@ -1,15 +1,14 @@
 -- Rows: places, appends and counts. What every other file of proofs/ leans on. Assumes nothing.
-use mathlib.Core.Path.{_≡_, refl, sym, ap, _∙_, subst}
-use mathlib.Core.Bool.{Bool, true, false, cond}
+use mathlib.Core.Path.{_≡_, refl, ap, subst}
+use mathlib.Core.Bool.{Bool, true, false}
 use mathlib.Core.Logic.{_⊎_, inl, inr, ⊎-elim}
 use Prim.Native.Nat.{ℕ, _+_}
-use native.Mathlib.Nat.{add-assoc}
 use native.Mathlib.Omega.{arith}
 use lib.Dec.{eqb}
 use borrow.Author.Tests.{eqb-true, eqb-false}
 use Rattle.piece.specs.declared.node.Datum.{Datum}
 use Rattle.piece.specs.Row.{Row, nil, grow}
-use Rattle.tree.specs.Tree.{Tree, In, At, Inside, Distinct, after, count}
+use Rattle.tree.specs.Tree.{Tree, In, At, Distinct, after, count}
 
 -- two places are the same or not
 pub same? : (x y : ℕ) → (x ≡ y) ⊎ (x ≡ y → ⊥)
@@ -38,6 +37,13 @@ at-in i e nil h = h
 at-in i e (grow p d k r) (inl h) = inl (h .0)
 at-in i e (grow p d k r) (inr (inl h)) = inr (inl (at-in i e k h))
 at-in i e (grow p d k r) (inr (inr h)) = inr (inr (at-in i e r h))
+
+-- some datum is at each place of a row
+pub in-at : (i : ℕ) (w : Tree) → In i w → (e : Datum) × At i e w
+in-at i nil h = absurd h
+in-at i (grow p d k r) (inl e) = (d, inl (e, refl))
+in-at i (grow p d k r) (inr (inl h)) = let g = in-at i k h in (g .0, inr (inl (g .1)))
+in-at i (grow p d k r) (inr (inr h)) = let g = in-at i r h in (g .0, inr (inr (g .1)))
 
 -- a place that is in no row below is where a piece goes through unchanged
 pub after-nil : {A : Type 0} (a : Row A) → after a nil ≡ a

@@ -24,7 +24,7 @@ at-first i e (grow p d k r) b (inl z) = inl z
 at-first i e (grow p d k r) b (inr (inl h)) = inr (inl h)
 at-first i e (grow p d k r) b (inr (inr h)) = inr (inr (at-first i e r b h))
 
-at-second : (i : ℕ) (e : Datum) (a b : Tree) → At i e b → At i e (after a b)
+pub at-second : (i : ℕ) (e : Datum) (a b : Tree) → At i e b → At i e (after a b)
 at-second i e nil b h = h
 at-second i e (grow p d k r) b h = inr (inr (at-second i e r b h))
 
@@ -71,7 +71,7 @@ pub cleared-at : (i : ℕ) (e : Datum) (x : ℕ) (w : Tree) → At i e (cleared 
 cleared-at i e x w h = at-less x left i e (λ d r. without-at i e r) w h
 
 -- where a piece without children gives way to a row that has its later siblings, all others stay
-at-others : (x : ℕ) (f : Datum → Tree → Tree) (P : Datum → Tree → Tree → Type 0) (i : ℕ) (e : Datum)
+pub at-others : (x : ℕ) (f : Datum → Tree → Tree) (P : Datum → Tree → Tree → Type 0) (i : ℕ) (e : Datum)
     → ((d : Datum) (k r : Tree) → P d k r → k ≡ nil) → ((d : Datum) (r : Tree) → At i e r → At i e (f d r)) → (i ≡ x → ⊥)
     → (t : Tree) → Where x P t → At i e t → At i e (change x f t)
 at-others x f P i e bare more n nil w h = h

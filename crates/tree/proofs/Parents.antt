@@ -1,5 +1,5 @@
 -- A piece that a booking or a removal leaves keeps its parent, and the parent stays as it is. Both are steps in which the pieces at one place
--- give way to another row (tree's Kept and Places), so the parents are followed once, over that step. Assumes nothing.
+-- give way to another row (Kept and Places), so the parents are followed once, over that step. Assumes nothing.
 use mathlib.Core.Path.{_≡_, refl, sym, _∙_}
 use mathlib.Core.Bool.{Bool, true, false, cond, _&&_}
 use mathlib.Core.Logic.{_⊎_, inl, inr, ⊎-elim}
@@ -11,22 +11,21 @@ use Rattle.piece.specs.declared.node.Datum.{Datum}
 use Rattle.piece.specs.declared.node.Kind.the-variants.{Free}
 use Rattle.piece.specs.Row.{nil, grow}
 use Rattle.lists.proofs.Scan.{clash}
 use Rattle.tree.specs.Tree.{Tree, In, At, Distinct, after, change, rest, isFree, isNil}
 use Rattle.tree.specs.Sound.{Sound}
 use Rattle.tree.specs.Booking.{Booking, block, booked, book}
 use Rattle.tree.specs.Removal.{withoutLast, settled, remove, left, cleared}
 use Rattle.tree.specs.Accepted.{Fresh}
 use Rattle.tree.specs.Steps.{less}
 use Rattle.tree.specs.Family.{holds, parentIn, parentOf}
-use Rattle.tree.proofs.Rows.{same?, in-eq, at-in, in-first, in-second}
+use Rattle.tree.proofs.Rows.{same?, in-eq, at-in, in-first, in-second, in-at}
 use Rattle.tree.proofs.Places.{in-less}
 use Rattle.tree.proofs.BookKept.{book-distinct}
 use Rattle.tree.proofs.RemoveKept.{in-left, remove-distinct}
 use Rattle.tree.proofs.Stays.{at-remove, cleared-at}
 use Rattle.tree.proofs.Kids.{after-apart}
-use Rattle.table.proofs.Links.{in-at}
-use Rattle.register.proofs.Family.{holds-in, in-holds, absent-holds}
-use Rattle.booking.proofs.Pieces.{less-was, book-left}
+use Rattle.tree.proofs.Family.{holds-in, in-holds, absent-holds}
+use Rattle.tree.proofs.BookPieces.{less-was, book-left}
 
 -- the piece at i has the same parent in both trees; it is no place, or the same piece stands there in both
 pub record SameParent (limit i : ℕ) (w v : Tree) : Type 0 where

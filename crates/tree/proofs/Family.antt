@@ -1,16 +1,14 @@
--- The parent of a piece, whether it has children, and the places of new nodes: what the definitions of specs/Family.antt say of a sound tree, and
--- what the table that holds the tree shows of them. It rests on table's Kids, Steps, Unlink and Removal, for what a step leaves of a tree, and on
--- its Pigeon. Assumes nothing.
+-- The parent of a piece, whether it has children, and the places of new nodes: what the definitions of specs/Family.antt say of a sound tree. It
+-- rests on Kids, Spots and Goes, for what a step leaves of a tree, and on Pigeon. Assumes nothing.
 use mathlib.Core.Path.{_≡_, refl, sym, ap, _∙_}
-use mathlib.Core.List.{List}
 use mathlib.Core.Bool.{Bool, true, false, not, _||_}
 use mathlib.Core.Logic.{_⊎_, inl, inr, ⊎-elim}
 use Prim.Native.Nat.{ℕ, zero, suc, _+_, _-_, _<_, _≤_}
 use native.Mathlib.Numerals.{add-one}
 use native.Mathlib.Omega.{arith}
 use native.Mathlib.Decide.{decLt}
-use lib.Dec.{eqb, leb}
-use borrow.Author.Tests.{eq-eqb, ne-eqb, eqb-true, le-leb, lt-leb}
+use lib.Dec.{eqb}
+use borrow.Author.Tests.{eq-eqb, ne-eqb, eqb-true}
 use Rattle.piece.specs.declared.node.Datum.{Datum}
 use Rattle.piece.specs.declared.node.Kind.{Kind}
 use Rattle.piece.specs.declared.node.Kind.the-variants.{Free, Part, Structure}
@@ -18,36 +16,27 @@ use Rattle.piece.specs.declared.settings.Settings.{Settings}
 use Rattle.piece.specs.Row.{Row, nil, grow}
 use Rattle.piece.specs.Insertion.{newNodes}
 use Rattle.lists.specs.Search.{firstFrom}
-use Rattle.lists.proofs.Scan.{test, clash, first-from, first-holds, first-before}
+use Rattle.lists.proofs.Scan.{test, clash, first-from, first-holds, first-before, or-cases}
 use Rattle.tree.specs.Tree.{Tree, In, At, Distinct, after, count, isNil}
 use Rattle.tree.specs.Sound.{Kinded, Children, Topped, Sound}
 use Rattle.tree.specs.Booking.{Booking}
 use Rattle.tree.specs.Removal.{withoutLast, settled, cleared}
 use Rattle.tree.specs.Accepted.{Fresh}
 use Rattle.tree.specs.Apart.{Removable}
-use Rattle.tree.specs.Steps.{less, Kids, Marked}
+use Rattle.tree.specs.Steps.{less, Kids}
 use Rattle.tree.specs.Family.{holds, parentIn, parentOf, childless, unheldFrom, newPlace}
-use Rattle.tree.proofs.Rows.{same?, in-eq, in?, at-in, in-after, in-first, in-second, count-after}
+use Rattle.tree.proofs.Rows.{same?, in-eq, in?, at-in, in-after, in-first, in-second, count-after, in-at}
 use Rattle.tree.proofs.Kept.{Alone, only, not-top, free-alone}
 use Rattle.tree.proofs.RemoveKept.{settled-count}
 use Rattle.tree.proofs.Bookings.{at-unique}
-use Rattle.tree.proofs.Kids.{kids-of, kids-in, kids-under, kids-distinct, kids-self, after-apart, Spot, spot-in}
+use Rattle.tree.proofs.Kids.{kids-in, kids-under, kids-distinct, kids-self, after-apart, Spot, spot-in}
 use Rattle.tree.proofs.Kids.{put, put-new, in-put, put-kids, put-count}
 use Rattle.tree.proofs.Pigeon.{low, low-most, low-more, low-filled}
 use Rattle.tree.proofs.Goes.{less-put, less-kids, cleared-put}
 use Rattle.tree.proofs.Stays.{less-at, cleared-at}
-use Rattle.table.specs.declared.Node.{Node}
-use Rattle.table.specs.Table.{at, head, Rep, Holds}
-use Rattle.table.specs.Unheld.{isUnheld, lowestFrom}
-use Rattle.table.proofs.Rep.{shows}
-use Rattle.table.proofs.Links.{in-at, holds-held}
-use Rattle.table.proofs.Steps as steps
+use Rattle.tree.proofs.Spots.{topped-rooted, where-spot}
 
 -- ---- the places of a row
-
-or-cases : (a b : Bool) → (a || b) ≡ true → (a ≡ true) ⊎ (b ≡ true)
-or-cases true b e = inl refl
-or-cases false b e = inr e
 
 or-second : (a b : Bool) → b ≡ true → (a || b) ≡ true
 or-second true b e = refl
@@ -127,7 +116,7 @@ module _ (settings : Settings) (q : ℕ) (m : Tree) (n : m ≡ nil → ⊥) wher
 module _ (limit : ℕ) (settings : Settings) (w : Tree) (sound : Sound limit settings w) (x : ℕ) (i : In x w) (n : x ≡ 0 → ⊥) where
   -- where x stands: under the parent q, after the siblings a and before b
   abbrev s : Spot x w
-  s = spot-in x w (steps.topped-rooted settings w (sound .topped)) i n
+  s = spot-in x w (topped-rooted settings w (sound .topped)) i n
 
   abbrev q : ℕ
   q = parentOf limit x w
@@ -143,10 +132,6 @@ module _ (limit : ℕ) (settings : Settings) (w : Tree) (sound : Sound limit set
 
   under : Kids q row w
   under = rw (parent-spot limit x w (sound .distinct) s) (s .kids)
-
-  -- the table shows it
-  pub parent-is : (t : List Node) → Holds limit t w → at t x .parent ≡ parentOf limit x w
-  parent-is t h = steps.parent-is limit settings t w sound h x s ∙ sym (parent-spot limit x w (sound .distinct) s)
 
   pub parent-held : In (parentOf limit x w) w
   parent-held = kids-in q row w under
@@ -241,37 +226,7 @@ childless-is q k (grow p d l r) dis (inr (inr h)) =
     let i = kids-in q k r h in
     rw (ne-eqb p q (λ e. dis .notBeside (in-eq r (sym e) i)), childless-absent q l (λ y. dis .apart q y i)) (childless-is q k r (dis .beside) h)
 
--- the table shows it
-no-first : (limit : ℕ) (t : List Node) (q : ℕ) (k : Tree) → Rep limit t q limit k → leb limit (head limit k) ≡ isNil k
-no-first limit t q nil rep = le-leb limit limit (omega arith)
-no-first limit t q (grow p d k r) rep = lt-leb limit p (rep .0)
-
-pub no-child : (limit : ℕ) (t : List Node) (q : ℕ) (v : Tree) → Holds limit t v → In q v → leb limit (at t q .first) ≡ childless q v
-no-child limit t q v h i =
-    let g = kids-of q v i in
-    let o = shows limit t limit limit q (g .0) v (h .rep) (g .1) in
-    rw (o .first) (no-first limit t q (g .0) (o .rep) ∙ sym (childless-is q (g .0) v (h .distinct) (g .1)))
-
 -- ---- the places of new nodes
-
--- two searches for what is the same find the same
-first-same : (f g : ℕ → Bool) (m n : ℕ) → ((i : ℕ) → n ≤ i → i < n + m → f i ≡ g i) → firstFrom f m n ≡ firstFrom g m n
-unfolding firstFrom
-first-same f g zero n h = refl
-first-same f g (suc m) n h =
-    rw (h n (omega arith) (omega arith), first-same f g m (n + 1) (λ i a b. h i (omega arith) (omega arith))) refl
-
--- the lowest unheld place of the table is the lowest that the tree does not hold
-pub lowest-is : (limit : ℕ) (t : List Node) (v : Tree) → Holds limit t v → Marked v → (n : ℕ) → lowestFrom limit t n ≡ unheldFrom limit v n
-unfolding lowestFrom unheldFrom
-lowest-is limit t v h marked n =
-    first-same (isUnheld t) (λ (p : ℕ). not (holds p v)) (limit - n) n (λ i a b. go i (omega arith) (in? i v))
-  where
-    go : (i : ℕ) → i < limit → In i v ⊎ (In i v → ⊥) → isUnheld t i ≡ not (holds i v)
-    go i b (inl y) =
-        let z = holds-held limit t v h marked i y in
-        rw (in-holds i v y) (ne-eqb (at t i .datum .serial) 0 (λ e. omega arith))
-    go i b (inr o) = rw (absent-holds i v o, h .rest i b o) refl
 
 module _ (limit : ℕ) (v : Tree) where
   abbrev unheld : ℕ → Bool
@@ -350,7 +305,7 @@ module _ (limit : ℕ) (settings : Settings) (w : Tree) (sound : Sound limit set
     here = s limit settings w sound x (at-in x d w i) free-below
 
     leaf : here .below ≡ nil
-    leaf = steps.where-spot x (Alone d) w here (free-alone settings x d w (sound .topped) (sound .distinct) i free) .1
+    leaf = where-spot x (Alone d) w here (free-alone settings x d w (sound .topped) (sound .distinct) i free) .1
 
     pub less-count : count (less x w) + 1 ≡ count w
     less-count = leaf-count limit settings w sound x (at-in x d w i) free-below leaf

@@ -1,6 +1,6 @@
 -- The pieces of a booked tree: those of the tree without the free piece, and those of the block; no place is in both. A free piece has no
--- children, so nothing else goes with it. It rests on tree's laws of what stays (Kept, Stays).
-use mathlib.Core.Path.{_≡_, sym, _∙_}
+-- children, so nothing else goes with it. It rests on the laws of what stays (Kept, Stays).
+use mathlib.Core.Path.{_≡_, refl, sym, _∙_}
 use mathlib.Core.Logic.{_⊎_, inl, inr, ⊎-elim}
 use Prim.Native.Nat.{ℕ}
 use borrow.Author.Tests.{eq-eqb, ne-eqb}
@@ -8,36 +8,21 @@ use Rattle.piece.specs.declared.node.Datum.{Datum}
 use Rattle.piece.specs.declared.node.Kind.the-variants.{Free}
 use Rattle.piece.specs.declared.settings.Settings.{Settings}
 use Rattle.piece.specs.Row.{nil, grow}
 use Rattle.tree.specs.Tree.{Tree, In, At, rest}
 use Rattle.tree.specs.Sound.{Sound}
 use Rattle.tree.specs.Booking.{Booking, block, book}
 use Rattle.tree.specs.Accepted.{Fresh}
 use Rattle.tree.specs.Steps.{less}
 use Rattle.tree.proofs.Rows.{same?, in-eq, at-in, after-nil}
 use Rattle.tree.proofs.Kept.{Where, Alone, free-alone}
-use Rattle.tree.proofs.Places.{in-less, gone}
-use Rattle.tree.proofs.Stays.{at-book, less-at}
-use Rattle.tree.proofs.Blocks.{block-in}
+use Rattle.tree.proofs.Stays.{at-book, at-others, less-at}
+use Rattle.tree.proofs.Goes.{less-in}
+use Rattle.tree.proofs.Blocks.{block-in, block-distinct}
 use Rattle.tree.proofs.BookKept.{book-distinct}
 use Rattle.tree.proofs.Bookings.{at-unique}
 
--- what is left of the tree is what a change to nothing leaves
 -- d stands at x, without children and last of its row
 module _ (x : ℕ) (d : Datum) (i : ℕ) (e : Datum) where
-  -- every other piece is left
-  kept : (i ≡ x → ⊥) → (w : Tree) → Where x (Alone d) w → At i e w → At i e (less x w)
-  kept n nil a h = h
-  kept n (grow y c k r) a h = go (same? y x) h (kept n k (a .1)) (kept n r (a .2))
-    where
-      go : (y ≡ x) ⊎ (y ≡ x → ⊥) → At i e (grow y c k r) → (At i e k → At i e (less x k)) → (At i e r → At i e (less x r))
-          → At i e (less x (grow y c k r))
-      go (inl z) (inl o) f g = absurd (n (o .0 ∙ z))
-      go (inl z) (inr (inl o)) f g = absurd (rw (a .0 z .1) at o)
-      go (inl z) (inr (inr o)) f g = rw (eq-eqb y x z) o
-      go (inr m) (inl o) f g = rw (ne-eqb y x m) (inl o)
-      go (inr m) (inr (inl o)) f g = rw (ne-eqb y x m) (inr (inl (f o)))
-      go (inr m) (inr (inr o)) f g = rw (ne-eqb y x m) (inr (inr (g o)))
-
   -- a piece of the booked tree is left, or is of the block
   parted : (b : Booking) (w : Tree) → Where x (Alone d) w → At i e (book x b w) → At i e (less x w) ⊎ At i e (block b d)
   parted b nil a h = inl h
@@ -73,16 +58,13 @@ module _ (limit : ℕ) (settings : Settings) (w : Tree) (sound : Sound limit set
 
   -- the place x is not left
   pub less-gone : In x (less x w) → ⊥
-  less-gone h = gone x rest (λ j e r o. o) w (sound .distinct) h
-
-  pub less-in : (i : ℕ) → In i (less x w) → In i w
-  less-in i h = in-less x rest (λ j e r o. o) i w h
+  less-gone h = less-in x w (sound .distinct) x h .1 refl
 
   pub less-was : (i : ℕ) (e : Datum) → At i e (less x w) → At i e w × (i ≡ x → ⊥)
   less-was i e h = (less-at i e x w h, λ z. less-gone (in-eq (less x w) z (at-in i e (less x w) h)))
 
   pub less-keeps : (i : ℕ) (e : Datum) → At i e w → (i ≡ x → ⊥) → At i e (less x w)
-  less-keeps i e h n = kept x d i e n w alone h
+  less-keeps i e h n = at-others x rest (Alone d) i e (λ c k r z. z .1) (λ c r z. z) n w alone h
 
   pub less-one : (i : ℕ) (e f : Datum) → At i e (less x w) → At i f (less x w) → e ≡ f
   less-one i e f g h = sym (at-unique i e f w (sound .distinct) (less-was i e g .0) (less-was i f h .0))
@@ -102,7 +84,8 @@ module _ (limit : ℕ) (settings : Settings) (w : Tree) (sound : Sound limit set
       pub block-apart : (i : ℕ) → In i (block b d) → In i (less x w) → ⊥
       block-apart i h g =
           let z = block-in b d i h in
-          less-gone (in-eq (less x w) (z .2 ∙ new .unheld (z .0) (z .1) (in-eq w (z .2) (less-in i g))) g)
+          let o = less-in x w (sound .distinct) i g in
+          o .1 (z .2 ∙ new .unheld (z .0) (z .1) (in-eq w (z .2) (o .0)))
 
       pub book-one : (i : ℕ) (e f : Datum) → At i e (book x b w) → At i f (book x b w) → e ≡ f
       book-one i e f g h = sym (at-unique i e f (book x b w) (book-distinct limit x b w (sound .distinct) new) g h)
