@@ -13,7 +13,7 @@ use Rattle.tree.specs.Steps.{Marked}
 use Rattle.table.specs.Table.{zeroNode, Holds}
 use Rattle.sound.specs.Columns.{columnsOf, firstsOf, nextsOf, serialsOf}
 use Rattle.sound.specs.Hung.{hungB}
-use Rattle.sound.proofs.Says.{Says, clash, worded, and-says}
+use Rattle.sound.proofs.Says.{Says, clash, worded, and-says, then-says, itself-says}
 use Rattle.sound.proofs.Means.{Passes, passes-holds, passes-sound, passes-serials}
 use Rattle.sound.proofs.Passing.{sound-passes}
 use Rattle.sound.proofs.Marks.{hung-says, hung-shown}
@@ -21,7 +21,7 @@ use Rattle.layout.specs.declared.layout.Layout.{Layout}
 use Rattle.layout.specs.Check.{limit, tree, tableB, sumsB, serialsB, freeB, removableB, columnsB, soundB}
 use Rattle.layout.specs.SoundLayout.{FreeList, RemovableList, Counted, SoundLayout, Sized}
 use Rattle.layout.specs.Zero.{zeroLayout}
-use Rattle.layout.proofs.Listed.{then-says, itself-says, free-says, removable-says, covered-says, free-list-says}
+use Rattle.layout.proofs.Listed.{free-says, removable-says, covered-says, free-list-says}
 use Rattle.layout.proofs.Summed.{domain-says, sums-says, serials-says}
 pub use Rattle.layout.proofs.Unique.{free-list-unique, unique-layout, determined-layout}
 

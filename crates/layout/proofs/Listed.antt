@@ -27,7 +27,7 @@ use Rattle.lists.proofs.Named.{ok-count, ok-below, ok-differ, ok-all, flag-name
 use Rattle.lists.proofs.Padded.{zero-tail-drop, drop-zero-tail}
 use Rattle.sound.specs.Columns.{areasOf, serialsOf, kindsOf}
 use Rattle.sound.specs.Listed.{wanted, coversB, sortedB}
-use Rattle.sound.proofs.Says.{Says, clash, worded, eq-says, some-says, true-says, false-says, and-says}
+use Rattle.sound.proofs.Says.{Says, clash, worded, eq-says, some-says, true-says, false-says, and-says, then-says, itself-says, same-says}
 use Rattle.sound.proofs.Worth.{serial-at, kind-at, area-at}
 use Rattle.sound.proofs.Serials.{shown-at}
 use Rattle.sound.proofs.Lists.{covers-says, covers-shown, sorted-all, sorted-shown}
@@ -36,20 +36,6 @@ use Rattle.layout.specs.Check.{limit, coveredB}
 use Rattle.layout.specs.SoundLayout.{piecesOf, Before, Holding, FreeList, Counted}
 
 -- ---- tests
-
--- a test that is made once another has passed
-pub then-says : {a b : Bool} {P Q : Type 0} → Says a P → (P → Says b Q) → Says (a && b) (P × Q)
-then-says {a = true} s r = record { says = λ e. let p = s .says refl in (p, r p .says e); passes = λ h. r (h .0) .passes (h .1) }
-then-says {a = false} s r = record { says = λ e. absurd (clash e); passes = λ h. absurd (clash (s .passes (h .0))) }
-
-pub itself-says : (b : Bool) → Says b (b ≡ true)
-itself-says b = record { says = λ e. e; passes = λ e. e }
-
--- two tests of one statement agree
-pub same-says : {a b : Bool} {P : Type 0} → Says a P → Says b P → a ≡ b
-same-says {a = true} s r = sym (r .passes (s .says refl))
-same-says {a = false} {b = true} s r = s .passes (r .says refl)
-same-says {a = false} {b = false} s r = refl
 
 -- the kind that a list holds, as its test reads it
 abbrev pub ofKind : Bool → Kind → Bool

@@ -1,5 +1,5 @@
 -- What a test says: yes exactly when a statement holds. A test made of tests says what is made of their statements.
-use mathlib.Core.Path.{_≡_, refl, ap}
+use mathlib.Core.Path.{_≡_, refl, sym, ap}
 use mathlib.Core.Bool.{Bool, true, false, cond, not, _&&_}
 use Prim.Native.Nat.{ℕ, zero, suc, _<_, _≤_}
 use native.Mathlib.Numerals.{add-one}
@@ -61,6 +61,20 @@ if-says {a = false} s p q =
       says = λ e. ((λ x. absurd (clash (s .passes x))), λ m. q .says e);
       passes = λ h. q .passes (h .1 (λ x. clash (s .passes x)));
     }
+
+-- a test that is made once another has passed
+pub then-says : {a b : Bool} {P Q : Type 0} → Says a P → (P → Says b Q) → Says (a && b) (P × Q)
+then-says {a = true} s r = record { says = λ e. let p = s .says refl in (p, r p .says e); passes = λ h. r (h .0) .passes (h .1) }
+then-says {a = false} s r = record { says = λ e. absurd (clash e); passes = λ h. absurd (clash (s .passes (h .0))) }
+
+pub itself-says : (b : Bool) → Says b (b ≡ true)
+itself-says b = record { says = λ e. e; passes = λ e. e }
+
+-- two tests of one statement agree
+pub same-says : {a b : Bool} {P : Type 0} → Says a P → Says b P → a ≡ b
+same-says {a = true} s r = sym (r .passes (s .says refl))
+same-says {a = false} {b = true} s r = s .passes (r .says refl)
+same-says {a = false} {b = false} s r = refl
 
 pub every-says : {f : ℕ → Bool} {P : ℕ → Type 0} → ((i : ℕ) → Says (f i) (P i)) → (n : ℕ) → Says (every f n) ((i : ℕ) → i < n → P i)
 every-says {f} {P} s n = record { says = λ e i h. s i .says (every-at f n i e h); passes = all n }
