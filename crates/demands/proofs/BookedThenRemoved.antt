@@ -15,6 +15,7 @@ use Rattle.tree.specs.Removal.{remove}
 use Rattle.tree.proofs.Laws.BookThenRemove.{book-then-remove}
 use Rattle.booking.specs.declared.marks.NewMarks.{NewMarks}
 use Rattle.booking.specs.Marks.{blockMarks}
+use Rattle.booking.proofs.BlockMarks.{block-first-is}
 use Rattle.answers.specs.declared.Mark.{Mark}
 use Rattle.layout.specs.declared.layout.Layout.{Layout}
 use Rattle.layout.specs.declared.insert.Inserted.{Inserted}
@@ -26,7 +27,6 @@ use Rattle.layout.specs.Remove.{placeFor}
 use Rattle.looks.specs.Written.{snapshotBytes}
 use Rattle.demands.specs.Calls.{InsertAccepted, RemoveAccepted, SameTree}
 use Rattle.demands.proofs.Accepted.{InsertMeans, RemoveMeans, accepted-insert, accepted-remove}
-use Rattle.demands.proofs.MarksNamed.{block-first-is}
 
 -- every shape makes at least two nodes
 pub new-some : (s : InsertionShape) → 2 ≤ newNodes s

@@ -1,15 +1,13 @@
 -- Demand 1, every mark that a call answers names a piece of the layout that it hands back, and of the kind that is meant: the opening's free
--- piece; a booking's first node, part and free pieces; a removal's free piece; and what a position of a list gives. It rests on the block of a
--- booking (tree), the new piece of a removal (removal) and looks' laws of marks. Assumes nothing.
+-- piece; a booking's first node, part and free pieces; a removal's free piece; and what a position of a list gives. It rests on the marks of a
+-- block (booking), the new piece of a removal (removal) and looks' laws of marks. Assumes nothing.
 use mathlib.Core.Path.{_≡_, refl, sym, ap, _∙_}
 use mathlib.Core.Bool.{Bool, true, false, cond}
-use mathlib.Core.List.{_∷_, _++_, List·Memᴰ, List·Memᴰ·head, List·Memᴰ·not-nil, List·Memᴰ·cases-cons, List·Memᴰ·append-cases}
-use mathlib.Core.Logic.{_⊎_, inl, inr, ⊎-elim}
-use Prim.Native.Nat.{ℕ, _+_, _≤_}
-use native.Mathlib.Nat.{add-zero}
-use native.Mathlib.Omega.{arith}
+use mathlib.Core.List.{List·Memᴰ}
+use mathlib.Core.Logic.{inl, inr}
+use Prim.Native.Nat.{ℕ, _+_}
 use lib.Dec.{ltb}
-use lib.ListN.{length, take}
+use lib.ListN.{take}
 use borrow.Author.Tests.{ltb-true}
 use Rattle.piece.specs.declared.size.Size.{Size}
 use Rattle.piece.specs.declared.orientation.Orientation.{Orientation}
@@ -19,21 +17,16 @@ use Rattle.piece.specs.declared.node.Datum.{Datum}
 use Rattle.piece.specs.declared.node.Kind.{Kind}
 use Rattle.piece.specs.declared.node.Kind.the-variants.{Free, Part, Structure}
 use Rattle.piece.specs.declared.insertion_blueprint.InsertionShape.{InsertionShape}
-use Rattle.piece.specs.declared.insertion_blueprint.InsertionShape.the-variants.{AlongCurrentCut, AcrossCurrentCut, AlongThenAcross, AcrossThenAlong}
-use Rattle.piece.specs.Insertion.{blockOf, table}
-use Rattle.piece.specs.Row.{nil, grow}
-use Rattle.piece.proofs.Padded.{padded-whole}
 use Rattle.lists.proofs.Scan.{clash}
 use Rattle.tree.specs.Tree.{Tree, At, isFree, isPart}
 use Rattle.tree.specs.Open.{firstFree}
-use Rattle.tree.specs.Booking.{Booking, planted, block}
+use Rattle.tree.specs.Booking.{Booking, block}
 use Rattle.tree.specs.Steps.{less}
 use Rattle.tree.specs.Family.{newPlace}
 use Rattle.tree.proofs.BookPieces.{book-new}
 use Rattle.answers.specs.declared.Mark.{Mark}
 use Rattle.answers.specs.declared.Refusal.{Refusal}
-use Rattle.booking.specs.declared.marks.NewMarks.{NewMarks}
-use Rattle.booking.specs.Marks.{blockMarks, headMark, marksIn, zeroMark}
+use Rattle.booking.proofs.BlockMarks.{Of, every, block-first-is, block-first, block-part, block-frees}
 use Rattle.removal.specs.Remove.{newFree}
 use Rattle.removal.proofs.Pieces.{new-there}
 use Rattle.removal.proofs.Serials.{new-serial, new-free}
@@ -88,101 +81,6 @@ open-mark-names number size cut stages m h =
     rw (o .1, o .2)
     (kind-named l (fresh-sound size cut number stages (o .0)) (record { layout = number; place = 1; serial = 2 }) (firstFree cut size) refl
     there refl Free refl)
-
--- ---- the marks of a block are those of its pieces
-
--- the mark is that of a piece of the row that passes the test
-record Of (number : ℕ) (test : Kind → Bool) (w : Tree) (k : Mark) : Type 0 where
-  piece : Datum
-  layout : k .layout ≡ number
-  there : At (k .place) piece w
-  serial : piece .serial ≡ k .serial
-  kind : test (piece .kind) ≡ true
-
-module _ (number : ℕ) (test : Kind → Bool) where
-  of-more : {v w : Tree} {k : Mark} → ((d : Datum) → At (k .place) d v → At (k .place) d w) → Of number test v k → Of number test w k
-  of-more f o = record { piece = o .piece; layout = o .layout; there = f (o .piece) (o .there); serial = o .serial; kind = o .kind }
-
-  marks-of : (w : Tree) (k : Mark) → List·Memᴰ k (marksIn number test w) → Of number test w k
-  marks-of nil k h = absurd (List·Memᴰ·not-nil h)
-  marks-of (grow p d l r) k h = go (test (d .kind)) refl h (marks-of l k) (marks-of r k)
-    where
-      later : (List·Memᴰ k (marksIn number test l) → Of number test l k) → (List·Memᴰ k (marksIn number test r) → Of number test r k)
-          → List·Memᴰ k (marksIn number test l ++ marksIn number test r) → Of number test (grow p d l r) k
-      later il ir m =
-          ⊎-elim (λ z. of-more (λ e y. inr (inl y)) (il z)) (λ z. of-more (λ e y. inr (inr y)) (ir z))
-          (List·Memᴰ·append-cases (marksIn number test l) m)
-
-      own : test (d .kind) ≡ true → k ≡ record { layout = number; place = p; serial = d .serial } → Of number test (grow p d l r) k
-      own t e = rw e (record { piece = d; layout = refl; there = inl (refl, refl); serial = refl; kind = t })
-
-      go : (c : Bool) → test (d .kind) ≡ c
-          → List·Memᴰ k
-          (cond c (record { layout = number; place = p; serial = d .serial } ∷ (marksIn number test l ++ marksIn number test r))
-          (marksIn number test l ++ marksIn number test r))
-          → (List·Memᴰ k (marksIn number test l) → Of number test l k) → (List·Memᴰ k (marksIn number test r) → Of number test r k)
-          → Of number test (grow p d l r) k
-      go true t m il ir = ⊎-elim (own t) (later il ir) (List·Memᴰ·cases-cons m)
-      go false t m il ir = later il ir m
-
--- any kind
-abbrev every : Kind → Bool
-every k = true
-
--- a block has a first node, one part, and at most two free pieces
-module _ (number : ℕ) (b : Booking) (level : ℕ) (c : Orientation) (piece part : Size) where
-  abbrev row : InsertionShape → Tree
-  row s = planted b level c (blockOf s c piece part)
-
-  first-is : (s : InsertionShape) → headMark (marksIn number every (row s)) ≡ record { layout = number; place = b .place 0; serial = b .serial + 0 }
-  unfolding blockOf table
-  first-is AlongCurrentCut = refl
-  first-is AcrossCurrentCut = refl
-  first-is AlongThenAcross = refl
-  first-is AcrossThenAlong = refl
-
-  first-in : (s : InsertionShape) → List·Memᴰ (headMark (marksIn number every (row s))) (marksIn number every (row s))
-  unfolding blockOf table
-  first-in AlongCurrentCut = List·Memᴰ·head refl
-  first-in AcrossCurrentCut = List·Memᴰ·head refl
-  first-in AlongThenAcross = List·Memᴰ·head refl
-  first-in AcrossThenAlong = List·Memᴰ·head refl
-
-  part-in : (s : InsertionShape) → List·Memᴰ (headMark (marksIn number isPart (row s))) (marksIn number isPart (row s))
-  unfolding blockOf table
-  part-in AlongCurrentCut = List·Memᴰ·head refl
-  part-in AcrossCurrentCut = List·Memᴰ·head refl
-  part-in AlongThenAcross = List·Memᴰ·head refl
-  part-in AcrossThenAlong = List·Memᴰ·head refl
-
-  frees-few : (s : InsertionShape) → length (marksIn number isFree (row s)) ≤ 2
-  unfolding blockOf table
-  frees-few AlongCurrentCut = omega arith
-  frees-few AcrossCurrentCut = omega arith
-  frees-few AlongThenAcross = omega arith
-  frees-few AcrossThenAlong = omega arith
-
-module _ (number : ℕ) (b : Booking) (d : Datum) where
-  abbrev marks : NewMarks
-  marks = blockMarks number (block b d)
-
-  pub block-first-is : blockMarks number (block b d) .first ≡ record { layout = number; place = b .place 0; serial = b .serial }
-  unfolding blockMarks block
-  block-first-is = first-is number b (d .level) (d .cut) (d .size) (b .size) (b .shape) ∙ rw (add-zero (b .serial)) refl
-
-  block-first : Of number every (block b d) (marks .first)
-  unfolding blockMarks block
-  block-first = marks-of number every (block b d) _ (first-in number b (d .level) (d .cut) (d .size) (b .size) (b .shape))
-
-  block-part : Of number isPart (block b d) (marks .part)
-  unfolding blockMarks block
-  block-part = marks-of number isPart (block b d) _ (part-in number b (d .level) (d .cut) (d .size) (b .size) (b .shape))
-
-  block-frees : (k : Mark) → List·Memᴰ k (take (marks .count) (marks .frees)) → Of number isFree (block b d) k
-  unfolding blockMarks block
-  block-frees k m =
-      let few = frees-few number b (d .level) (d .cut) (d .size) (b .size) (b .shape) in
-      marks-of number isFree (block b d) k (rw (padded-whole zeroMark 2 2 (marksIn number isFree (block b d)) few) at m)
 
 -- ---- insert
 

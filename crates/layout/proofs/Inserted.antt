@@ -9,16 +9,13 @@ use Rattle.piece.specs.declared.parttype.PartType.{PartType}
 use Rattle.piece.specs.declared.node.Datum.{Datum}
 use Rattle.piece.specs.declared.insertion_blueprint.InsertionShape.{InsertionShape}
 use Rattle.tree.specs.Tree.{At}
-use Rattle.tree.specs.Booking.{Booking, block}
+use Rattle.tree.specs.Booking.{Booking}
 use Rattle.tree.proofs.Laws.UntouchedByBooking.{untouched-by-booking}
 use Rattle.sound.proofs.Says.{clash}
 use Rattle.answers.specs.declared.Mark.{Mark}
 use Rattle.answers.specs.declared.Refusal.{Refusal}
-use Rattle.booking.specs.NewNodes.{leaves}
-use Rattle.booking.specs.Marks.{blockMarks, newMarks}
-use Rattle.booking.proofs.Made.{frees-few}
-use Rattle.booking.proofs.Marked.{free-marks-count}
-use Rattle.booking.proofs.BlockMarks.{marks-are}
+use Rattle.booking.specs.Marks.{blockMarks}
+use Rattle.booking.proofs.BlockMarks.{block-marks-few}
 use Rattle.layout.specs.declared.layout.Layout.{Layout}
 use Rattle.layout.specs.declared.insert.Inserted.{Inserted}
 use Rattle.layout.specs.declared.replies.Outcome.the-variants.{Done, Refused}
@@ -26,12 +23,6 @@ use Rattle.layout.specs.Check.{limit, tree}
 use Rattle.layout.specs.SoundLayout.{SoundLayout, Sized}
 use Rattle.layout.specs.Insert.{InsertDone, InsertSays, bookingFor, insertIs, insertNo, pieceAt, refusedInsert}
 use Rattle.layout.proofs.Admitted.{insertable}
-
--- "count; free marks in creation order": no shape makes more than two free pieces
-block-marks-few : (number : ℕ) (b : Booking) (d : Datum) → blockMarks number (block b d) .count ≤ 2
-unfolding newMarks
-block-marks-few number b d =
-    rw (sym (marks-are number (block b d) 0 true), free-marks-count number (leaves 0 true (block b d))) (frees-few b d 0 true)
 
 -- an answer is Done only where nothing refuses, and a refusal only what refuses
 done-is : (o : Option Refusal) (l : Layout) (x : ℕ) (b : Booking) (a : Inserted) → insertIs o l x b a → a .outcome ≡ Done
@@ -64,6 +55,7 @@ module _ (l : Layout) (m : Mark) (p : PartType) (r : Rotation) (s : InsertionSha
 
   -- for the crate that keeps the marks
   pub insert-says : a .outcome ≡ Done → a .marks .count ≤ 2
+  unfolding blockMarks
   insert-says h =
       rw (insert-accepted h .1 .marks) (block-marks-few (l .number) (bookingFor l (m .place) p r s) (pieceAt l (m .place)))
 

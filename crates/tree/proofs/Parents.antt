@@ -8,6 +8,7 @@ use lib.Dec.{eqb}
 use borrow.Author.Tests.{eq-eqb, ne-eqb, eqb-false}
 use Rattle.piece.specs.declared.size.Size.{Size}
 use Rattle.piece.specs.declared.node.Datum.{Datum}
+use Rattle.piece.specs.declared.settings.Settings.{Settings}
 use Rattle.piece.specs.declared.node.Kind.the-variants.{Free}
 use Rattle.piece.specs.Row.{nil, grow}
 use Rattle.lists.proofs.Scan.{clash}
@@ -172,7 +173,7 @@ module _ (x : ℕ) (g f : Datum → Tree → Tree) (less-row : (j : ℕ) (d : Da
 -- ---- a booking
 
 -- b is booked in the free piece d at x: a piece that is left keeps its parent
-module _ (limit stages : ℕ) (sheet : Size) (w : Tree) (sound : Sound limit stages sheet w) (x : ℕ) (d : Datum) (there : At x d w)
+module _ (limit : ℕ) (settings : Settings) (w : Tree) (sound : Sound limit settings w) (x : ℕ) (d : Datum) (there : At x d w)
     (free : d .kind ≡ Free) (b : Booking) (new : Fresh limit x b w) where
   pub book-parent : (i : ℕ) (e : Datum) → At i e (less x w) → SameParent limit i w (book x b w)
   book-parent i e h = record { same = same; there = ⊎-elim inl (λ z. inr (held (in-at q (less x w) z))) stays }
@@ -199,8 +200,8 @@ module _ (limit stages : ℕ) (sheet : Size) (w : Tree) (sound : Sound limit sta
       held : (f : Datum) × At q f (less x w) → (f : Datum) × At q f w × At q f (book x b w)
       held o = (
         o .0,
-        less-was limit stages sheet w sound x d there free q (o .0) (o .1) .0,
-        book-left limit stages sheet w sound x d there free b q (o .0) (o .1),
+        less-was limit settings w sound x d there free q (o .0) (o .1) .0,
+        book-left limit settings w sound x d there free b q (o .0) (o .1),
       )
 
 -- ---- a removal

@@ -5,8 +5,8 @@ use mathlib.Core.Bool.{true, cond, _&&_}
 use mathlib.Core.List.{List, [], _∷_}
 use mathlib.Core.Logic.{inl, inr}
 use Prim.Native.Nat.{ℕ, _+_}
-use Rattle.piece.specs.declared.size.Size.{Size}
 use Rattle.piece.specs.declared.node.Datum.{Datum}
+use Rattle.piece.specs.declared.settings.Settings.{Settings}
 use Rattle.piece.specs.Row.{nil, grow}
 use Rattle.lists.proofs.Scan.{clash, and-left, and-right}
 use Rattle.tree.specs.Tree.{Tree, after, isFree, isNil}
@@ -34,35 +34,36 @@ end-alone p d k r f e = (f .0 (and-left (isFree (d .kind)) (isNil r) e), none r 
     none (grow i c l v) z = absurd (clash z)
 
 -- a sound tree has its one top at place 0, each row is one level deeper than the row above, and what is free has no children
-module _ (stages : ℕ) where
-  pub topped-rooted : (sheet : Size) (w : Tree) → Topped stages sheet w → Rooted w
-  topped-rooted sheet nil h = h
-  topped-rooted sheet (grow p d k r) h = (h .0 .place, h .0 .alone)
+module _ (settings : Settings) where
+  pub topped-rooted : (w : Tree) → Topped settings w → Rooted w
+  topped-rooted nil h = h
+  topped-rooted (grow p d k r) h = (h .0 .place, h .0 .alone)
 
-  pub children-deep : (q : Datum) (k : Tree) → Children stages q k → Deep (q .level + 1) k
+  pub children-deep : (q : Datum) (k : Tree) → Children settings q k → Deep (q .level + 1) k
   children-deep q nil h = tt
-  children-deep q (grow p d k r) h = (h .0 .level, rw (h .0 .level) at (children-deep d k (h .2)), children-deep q r (h .3))
+  children-deep q (grow p d k r) h =
+      (h .child .level, rw (h .child .level) at (children-deep d k (h .below)), children-deep q r (h .beside))
 
-  pub topped-deep : (sheet : Size) (w : Tree) → Topped stages sheet w → Deep 0 w
-  topped-deep sheet nil h = tt
-  topped-deep sheet (grow p d k r) h =
+  pub topped-deep : (w : Tree) → Topped settings w → Deep 0 w
+  topped-deep nil h = tt
+  topped-deep (grow p d k r) h =
       (h .0 .level, rw (h .0 .level) at (children-deep d k (h .1)), rw (h .0 .alone) tt)
 
-  children-leaves : (q : Datum) (k : Tree) → Children stages q k → FreeLeaves k
+  children-leaves : (q : Datum) (k : Tree) → Children settings q k → FreeLeaves k
   children-leaves q nil h = tt
-  children-leaves q (grow p d k r) h = ((λ e. free-kind (d .kind) d k r e (h .1) .childless), children-leaves q r (h .3))
+  children-leaves q (grow p d k r) h = ((λ e. free-kind (d .kind) d k r e (h .kinded) .childless), children-leaves q r (h .beside))
 
-  kids-leaves : (q : Datum) (x : ℕ) (k w : Tree) → Children stages q w → Kids x k w → FreeLeaves k
+  kids-leaves : (q : Datum) (x : ℕ) (k w : Tree) → Children settings q w → Kids x k w → FreeLeaves k
   kids-leaves q x k nil h g = absurd g
-  kids-leaves q x k (grow p d l r) h (inl e) = rw (e .1) (children-leaves d l (h .2))
-  kids-leaves q x k (grow p d l r) h (inr (inl g)) = kids-leaves d x k l (h .2) g
-  kids-leaves q x k (grow p d l r) h (inr (inr g)) = kids-leaves q x k r (h .3) g
+  kids-leaves q x k (grow p d l r) h (inl e) = rw (e .1) (children-leaves d l (h .below))
+  kids-leaves q x k (grow p d l r) h (inr (inl g)) = kids-leaves d x k l (h .below) g
+  kids-leaves q x k (grow p d l r) h (inr (inr g)) = kids-leaves q x k r (h .beside) g
 
-  pub topped-leaves : (sheet : Size) (x : ℕ) (k w : Tree) → Topped stages sheet w → Kids x k w → FreeLeaves k
-  topped-leaves sheet x k nil h g = absurd g
-  topped-leaves sheet x k (grow p d l r) h (inl e) = rw (e .1) (children-leaves d l (h .1))
-  topped-leaves sheet x k (grow p d l r) h (inr (inl g)) = kids-leaves d x k l (h .1) g
-  topped-leaves sheet x k (grow p d l r) h (inr (inr g)) = absurd (subst (λ (z : Tree). Kids x k z) (h .0 .alone) g)
+  pub topped-leaves : (x : ℕ) (k w : Tree) → Topped settings w → Kids x k w → FreeLeaves k
+  topped-leaves x k nil h g = absurd g
+  topped-leaves x k (grow p d l r) h (inl e) = rw (e .1) (children-leaves d l (h .1))
+  topped-leaves x k (grow p d l r) h (inr (inl g)) = kids-leaves d x k l (h .1) g
+  topped-leaves x k (grow p d l r) h (inr (inr g)) = absurd (subst (λ (z : Tree). Kids x k z) (h .0 .alone) g)
 
 pub leaves-from : (a b : Tree) → FreeLeaves (after a b) → FreeLeaves b
 leaves-from nil b f = f
