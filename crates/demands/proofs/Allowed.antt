@@ -1,4 +1,4 @@
--- The other direction of Accepted: a call whose mark names a piece that it may take is not refused, so that every answer that meets its contract
+-- The other direction of Outcomes: a call whose mark names a piece that it may take is not refused, so that every answer that meets its contract
 -- is an accepted one. It rests on layout's laws of marks (Marks), of the check (Exactly) and of the ways that `remove` ends (RemoveEnds). Assumes nothing.
 use mathlib.Core.Path.{_≡_, refl, ap, _∙_}
 use mathlib.Core.Bool.{false}

@@ -26,7 +26,7 @@ use Rattle.layout.specs.Insert.{bookingFor, pieceAt}
 use Rattle.layout.specs.Remove.{placeFor}
 use Rattle.looks.specs.Written.{snapshotBytes}
 use Rattle.demands.specs.Calls.{InsertAccepted, RemoveAccepted, SameTree}
-use Rattle.demands.proofs.Accepted.{InsertMeans, RemoveMeans, accepted-insert, accepted-remove}
+use Rattle.demands.proofs.Outcomes.{InsertMeans, RemoveMeans, accepted-insert, accepted-remove}
 
 -- every shape makes at least two nodes
 pub new-some : (s : InsertionShape) → 2 ≤ newNodes s

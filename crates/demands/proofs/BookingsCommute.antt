@@ -1,9 +1,8 @@
 -- Demand 3: "two bookings in different free pieces .. commute". Over the calls: where one order is accepted, and the second mark names a piece
--- before it, the other order is accepted too and gives the same tree. What the second call asks for was there before the first: the same piece (tree's
--- `untouched-by-booking`), and room for fewer nodes and serials. The trees are the same by tree's law `bookings-commute`, and by register's Family: no
+-- before it, the other order is accepted too and gives the same tree. What the second call asks for was there before the first: the same piece
+-- (Leaves), and room for fewer nodes and serials. The trees are the same by tree's law `bookings-commute`, and by tree's Family: no
 -- new node gets the place of the other free piece, which is held then.
 use mathlib.Core.Path.{_≡_, refl, sym, ap, _∙_}
-use mathlib.Core.Logic.{⊎-elim}
 use Prim.Native.Nat.{ℕ, _+_, _-_, _≤_, _<_}
 use native.Mathlib.Omega.{arith}
 use native.Mathlib.Decide.{decLt}
@@ -22,22 +21,21 @@ use Rattle.tree.specs.Family.{newPlace}
 use Rattle.tree.proofs.Rows.{at-in, in-eq}
 use Rattle.tree.proofs.Counts.{count-book}
 use Rattle.tree.proofs.Laws.BookingsCommute.{bookings-commute}
-use Rattle.tree.proofs.Laws.UntouchedByBooking.{untouched-by-booking}
-use Rattle.tree.proofs.Family.{less-other, new-place-absent}
-use Rattle.tree.proofs.BookPieces.{less-was, book-pieces}
+use Rattle.tree.proofs.Family.{new-place-absent}
+use Rattle.tree.proofs.BookPieces.{less-gone, less-keeps}
+use Rattle.tree.proofs.Stays.{less-at}
 use Rattle.answers.specs.declared.Mark.{Mark}
-use Rattle.booking.proofs.Issued.{newer}
 use Rattle.layout.specs.declared.layout.Layout.{Layout}
 use Rattle.layout.specs.declared.insert.Inserted.{Inserted}
 use Rattle.layout.specs.Check.{limit, maxSerial, tree}
 use Rattle.layout.specs.SoundLayout.{SoundLayout, Sized}
 use Rattle.layout.specs.Insert.{InsertDone, InsertSays, bookingFor, pieceAt}
 use Rattle.layout.specs.Inner.{Insertable}
-use Rattle.layout.proofs.Listed.{piece-is}
 use Rattle.looks.specs.Written.{snapshotBytes}
 use Rattle.demands.specs.Life.{Names}
 use Rattle.demands.specs.Calls.{InsertAccepted, SameTree}
-use Rattle.demands.proofs.Accepted.{InsertMeans, accepted-insert}
+use Rattle.demands.proofs.Outcomes.{InsertMeans, accepted-insert, insert-names}
+use Rattle.demands.proofs.Leaves.{Leaves, piece-now, names-left, names-stay, insert-leaves}
 use Rattle.demands.proofs.Allowed.{insert-allowed}
 use Rattle.demands.proofs.BookedThenRemoved.{new-some}
 
@@ -62,47 +60,21 @@ module _ (l : Layout) (x : ℕ) (p : PartType) (r : Rotation) (s : InsertionShap
         can .sound .held,
       )
 
-  -- another piece stays as it was, and no new node gets its place
-  module _ (y : ℕ) (there : At y (pieceAt l y) (tree l)) (apart : x ≡ y → ⊥) where
-    untouched : At y (pieceAt l y) (tree (a .layout))
-    untouched =
-        rw (done .next .tree)
-        (untouched-by-booking limit (l .stages) (l .sheet) (tree l) x (pieceAt l x) booking y (pieceAt l y) sound (can .there) (can .free) there
-        (λ e. apart (sym e)))
+  -- a piece that is left is not the free one, and no new node gets its place
+  module _ (y : ℕ) (e : Datum) (stays : At y e (less x (tree l))) where
+    is-left : In y (less x (tree l))
+    is-left = at-in y e (less x (tree l)) stays
 
-    same-piece : pieceAt (a .layout) y ≡ pieceAt l y
-    same-piece = piece-is (a .layout .nodes) (tree (a .layout)) (done .next .sound .holds) y (pieceAt l y) untouched
-
-    still-there : At y (pieceAt (a .layout) y) (tree (a .layout))
-    still-there = rw same-piece untouched
+    another : x ≡ y → ⊥
+    another z =
+        less-gone limit (l .stages) (l .sheet) (tree l) sound x (pieceAt l x) (can .there) (can .free) (in-eq (less x (tree l)) (sym z) is-left)
 
     place-kept : Clear y booking
-    place-kept j few e = go (decLt (newPlace limit (less x (tree l)) j) limit)
+    place-kept j few z = go (decLt (newPlace limit (less x (tree l)) j) limit)
       where
-        held : In y (tree l)
-        held = at-in y (pieceAt l y) (tree l) there
-
-        stays : In y (less x (tree l))
-        stays =
-            less-other limit (l .stages) (l .sheet) (tree l) sound x (pieceAt l x) (can .there) (can .free) y held (λ z. apart (omega arith))
-
         go : Dec (newPlace limit (less x (tree l)) j < limit) → ⊥
-        go (yes low) = new-place-absent limit (less x (tree l)) j low (in-eq (less x (tree l)) (sym e) stays)
-        go (no high) = let low = sound .placed y held in high (omega arith)
-
-  -- the free piece is gone: a mark that names a piece before and after names another one
-  names-other : (m : Mark) → Names l m → Names (a .layout) m → x ≡ m .place → ⊥
-  names-other m before after same =
-      let y = m .place in
-      let d = pieceAt l x in
-      let e = pieceAt (a .layout) y in
-      let old = can .sound .serials .most y (pieceAt l y) (before .there) in
-      let serial = after .serial ∙ sym (before .serial) in
-      ⊎-elim (λ z. less-was limit (l .stages) (l .sheet) (tree l) sound x d (can .there) (can .free) y e z .1 (sym same))
-      (λ z.
-      let new = newer limit (l .stages) (l .sheet) (tree l) sound x d (can .there) (can .free) booking (l .serial) (can .sound .serials) refl y e z in
-      omega arith)
-      (book-pieces limit (l .stages) (l .sheet) (tree l) sound x d (can .there) (can .free) booking y e (rw (done .next .tree) at (after .there)))
+        go (yes low) = new-place-absent limit (less x (tree l)) j low (in-eq (less x (tree l)) (sym z) is-left)
+        go (no high) = let low = sound .placed y (at-in y e (tree l) (less-at y e x (tree l) stays)) in high (omega arith)
 
 -- what may be booked in a piece may be booked there in another layout where the same piece stands, with room for the nodes and the serials
 same-insertable : (l k : Layout) (x : ℕ) (p : PartType) (r : Rotation) (s : InsertionShape) → Insertable l x p r s → Sized k → SoundLayout k
@@ -140,10 +112,14 @@ module _ (l : Layout) (sized : Sized l)
   j : InsertMeans (a .layout) m′ p′ r′ s′ b
   j = accepted-insert (a .layout) m′ p′ r′ s′ b (i .done .next .sized) then
 
+  leaves : Leaves l (a .layout) (less x (tree l))
+  leaves = insert-leaves l x p r s (i .insertable) a (i .done)
+
+  second-left : At y (pieceAt l y) (less x (tree l))
+  second-left = names-left leaves m′ named (insert-names j)
+
   apart : x ≡ y → ⊥
-  apart =
-      names-other l x p r s (i .insertable) a (i .done) m′ named
-      (record { number = j .number; there = j .insertable .there; serial = j .serial })
+  apart = another l x p r s (i .insertable) a (i .done) y (pieceAt l y) second-left
 
   more : a .layout .held + 1 ≡ l .held + newNodes s
   more = held-after l x p r s (i .insertable) a (i .done)
@@ -152,7 +128,7 @@ module _ (l : Layout) (sized : Sized l)
   other-first : Insertable l y p′ r′ s′
   other-first =
       same-insertable (a .layout) l y p′ r′ s′ (j .insertable) sized (i .insertable .sound) (named .there)
-      (sym (same-piece l x p r s (i .insertable) a (i .done) y (named .there) apart)) (sym (i .done .next .stages))
+      (sym (piece-now leaves y (pieceAt l y) second-left)) (sym (i .done .next .stages))
       (omega (arith, j .insertable .room, more, new-some s)) (omega (arith, j .insertable .spent, i .done .next .serial))
 
   -- it was, and gave c
@@ -160,21 +136,23 @@ module _ (l : Layout) (sized : Sized l)
     k : InsertMeans l m′ p′ r′ s′ c
     k = accepted-insert l m′ p′ r′ s′ c sized other
 
-    there : At x (pieceAt (c .layout) x) (tree (c .layout))
-    there = still-there l y p′ r′ s′ (k .insertable) c (k .done) x (i .insertable .there) (λ e. apart (sym e))
+    leaves′ : Leaves l (c .layout) (less y (tree l))
+    leaves′ = insert-leaves l y p′ r′ s′ (k .insertable) c (k .done)
 
-    piece : pieceAt (c .layout) x ≡ pieceAt l x
-    piece = same-piece l y p′ r′ s′ (k .insertable) c (k .done) x (i .insertable .there) (λ e. apart (sym e))
+    first-left : At x (pieceAt l x) (less y (tree l))
+    first-left =
+        less-keeps limit (l .stages) (l .sheet) (tree l) (k .insertable .sound .sound) y (pieceAt l y) (k .insertable .there) (k .insertable .free)
+        x (pieceAt l x) (i .insertable .there) apart
 
     names : Names (c .layout) m
-    names =
-        record { number = i .number ∙ sym (k .done .next .number); there = there; serial = ap (λ (e : Datum). e .serial) piece ∙ i .serial }
+    names = names-stay leaves′ m (insert-names i) first-left
 
     -- then the first may be made
     then-first : Insertable (c .layout) x p r s
     then-first =
         let n = k .done .next in
-        same-insertable l (c .layout) x p r s (i .insertable) (n .sized) (n .sound) there piece (n .stages)
+        same-insertable l (c .layout) x p r s (i .insertable) (n .sized) (n .sound) (names .there) (piece-now leaves′ x (pieceAt l x) first-left)
+        (n .stages)
         (omega (arith, j .insertable .room, more, new-some s, held-after l y p′ r′ s′ (k .insertable) c (k .done), new-some s′))
         (omega (arith, j .insertable .spent, i .done .next .serial, n .serial))
 
@@ -189,8 +167,8 @@ module _ (l : Layout) (sized : Sized l)
         rw (u, v)
         (bookings-commute (tree l) x y (bookingFor l x p r s) (bookingFor (a .layout) y p′ r′ s′) (bookingFor (c .layout) x p r s)
         (bookingFor l y p′ r′ s′) apart
-        (place-kept l x p r s (i .insertable) a (i .done) y (named .there) apart)
-        (place-kept l y p′ r′ s′ (k .insertable) c (k .done) x (i .insertable .there) (λ e. apart (sym e)))
+        (place-kept l x p r s (i .insertable) a (i .done) y (pieceAt l y) second-left)
+        (place-kept l y p′ r′ s′ (k .insertable) c (k .done) x (pieceAt l x) first-left)
         (record { shape = refl; size = refl; number = refl })
         (record { shape = refl; size = refl; number = refl }))
 

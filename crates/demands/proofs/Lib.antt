@@ -1,9 +1,9 @@
 pub mod Outcomes
+pub mod Leaves
 pub mod Lives
 pub mod Marks
 pub mod MarksNamed
 pub mod Examined
-pub mod Accepted
 pub mod Allowed
 pub mod BookedThenRemoved
 pub mod BookingsCommute

@@ -1,11 +1,10 @@
 -- Demand 1, the life of one layout: every state is sound and has the same number, the last serial issued never falls, and no serial is
--- issued twice. Each call's step is looked at once (`Step`), and what holds of all of them goes along the states (`Run`). It rests on the pieces
--- of a booking and of a removal (crates booking and removal), on their parents (Parents) and on what a call has done (Outcomes, Accepted).
--- Assumes nothing.
+-- issued twice. Each call's step is looked at once (`Step`), and what holds of all of them goes along the states (`Run`). It rests on what a call
+-- has done (Outcomes) and on what an accepted one leaves (Leaves). Assumes nothing.
 use mathlib.Core.Path.{_≡_, refl, sym, ap, _∙_}
 use mathlib.Core.List.{List, [], _∷_}
 use mathlib.Core.Logic.{_⊎_, inl, inr, ⊎-elim}
-use Prim.Native.Nat.{ℕ, _+_, _≤_, _<_}
+use Prim.Native.Nat.{ℕ, _≤_, _<_}
 use native.Mathlib.Omega.{arith}
 use lib.ListN.{List·getD-eq-default}
 use Rattle.piece.specs.declared.size.Size.{Size}
@@ -14,24 +13,13 @@ use Rattle.piece.specs.declared.rotation.Rotation.{Rotation}
 use Rattle.piece.specs.declared.parttype.PartType.{PartType}
 use Rattle.piece.specs.declared.node.Datum.{Datum}
 use Rattle.piece.specs.declared.insertion_blueprint.InsertionShape.{InsertionShape}
-use Rattle.tree.specs.Tree.{Tree, In, At}
-use Rattle.tree.specs.Booking.{Booking}
-use Rattle.tree.specs.Removal.{cleared}
-use Rattle.tree.specs.Accepted.{Fresh}
-use Rattle.tree.specs.Steps.{less}
+use Rattle.tree.specs.Tree.{Tree, At}
 use Rattle.tree.specs.Family.{parentOf}
 use Rattle.tree.proofs.Bookings.{at-unique}
-use Rattle.tree.proofs.Stays.{cleared-at}
-use Rattle.tree.proofs.Family.{fresh-removal}
-use Rattle.tree.proofs.BookPieces.{less-was, book-pieces}
-use Rattle.tree.proofs.Parents.{SameParent, book-parent, remove-parent}
+use Rattle.tree.proofs.Parents.{SameParent}
 use Rattle.table.specs.declared.Node.{Node}
 use Rattle.table.specs.Table.{zeroDatum, zeroNode}
 use Rattle.answers.specs.declared.Mark.{Mark}
-use Rattle.booking.proofs.Issued.{newer}
-use Rattle.removal.specs.Remove.{newFree}
-use Rattle.removal.proofs.Pieces.{remove-pieces}
-use Rattle.removal.proofs.Serials.{new-serial}
 use Rattle.layout.specs.declared.layout.Layout.{Layout}
 use Rattle.layout.specs.declared.open.Opening.the-variants as opening
 use Rattle.layout.specs.declared.insert.Inserted.{Inserted}
@@ -40,16 +28,16 @@ use Rattle.layout.specs.Check.{limit, tree}
 use Rattle.layout.specs.SoundLayout.{SoundLayout, Sized}
 use Rattle.layout.specs.Next.{Next}
 use Rattle.layout.specs.Open.{openOf}
-use Rattle.layout.specs.Insert.{bookingFor, pieceAt, InsertDone, InsertSays}
+use Rattle.layout.specs.Insert.{pieceAt, InsertSays}
 use Rattle.layout.specs.Inner.{Insertable, Takeable}
-use Rattle.layout.specs.Remove.{placeFor, RemoveDone, RemoveSays}
+use Rattle.layout.specs.Remove.{RemoveSays}
 use Rattle.layout.specs.Restore.{greater, withSerial, restoreOf}
 use Rattle.layout.proofs.Listed.{piece-is}
 use Rattle.layout.proofs.Opened.{fresh-sized, fresh-sound}
 use Rattle.layout.proofs.Restored.{greater-left, restored-sound}
 use Rattle.demands.specs.Life.{OneOf, Life, opened, inserted, removed, restored, Later}
-use Rattle.demands.proofs.Accepted.{insertable-fresh}
 use Rattle.demands.proofs.Outcomes.{opened-so, inserted-so, removed-so, restored-so}
+use Rattle.demands.proofs.Leaves.{Leaves, insert-leaves, remove-leaves}
 
 -- ---- a piece in two layouts
 
@@ -104,72 +92,16 @@ module _ (l : Layout) (ls : List Layout) (h : Right l) (among : OneOf l ls) wher
         pieces = λ i f y. inl (l, among, record { there = y; parent = refl; parentPiece = refl });
       })
 
-  -- accepted, each piece was there or is new
-  module _ {w : Tree} {ys : List ℕ} {last : ℕ} {n : Layout} (next : Next l w ys last n) where
-    next-right : Right n
-    next-right = record { sound = next .sound; sized = next .sized }
-
-    next-step : l .serial ≤ last → ((i : ℕ) (e : Datum) → At i e (tree n) → Kept l n i e ⊎ (l .serial < e .serial)) → Step l ls n
-    next-step rises pieces =
-        record {
-          right = next-right;
-          number = next .number;
-          rises = let z = next .serial in omega arith;
-          pieces = λ i e y. ⊎-elim (λ z. inl (l, among, z)) inr (pieces i e y);
-        }
-
-  -- a booking in the free piece at x
-  module _ (x : ℕ) (p : PartType) (r : Rotation) (s : InsertionShape) (can : Insertable l x p r s) (a : Inserted)
-      (done : InsertDone l x (bookingFor l x p r s) a) where
-    abbrev b : Booking
-    b = bookingFor l x p r s
-
-    abbrev d : Datum
-    d = pieceAt l x
-
-    fresh : Fresh limit x b (tree l)
-    fresh = insertable-fresh l x p r s can
-
-    booked-pieces : (i : ℕ) (e : Datum) → At i e (tree (a .layout)) → Kept l (a .layout) i e ⊎ (l .serial < e .serial)
-    booked-pieces i e y =
-        ⊎-elim (λ z. inl (left z))
-        (λ z. inr
-        (newer limit (l .stages) (l .sheet) (tree l) (h .sound .sound) x d (can .there) (can .free) b (l .serial) (h .sound .serials) refl
-        i e z))
-        (book-pieces limit (l .stages) (l .sheet) (tree l) (h .sound .sound) x d (can .there) (can .free) b i e
-        (rw (done .next .tree) at y))
-      where
-        left : At i e (less x (tree l)) → Kept l (a .layout) i e
-        left z =
-            kept-so l (a .layout) h (next-right (done .next)) i e
-            (less-was limit (l .stages) (l .sheet) (tree l) (h .sound .sound) x d (can .there) (can .free) i e z .0)
-            (rw (done .next .tree)
-            (book-parent limit (l .stages) (l .sheet) (tree l) (h .sound .sound) x d (can .there) (can .free) b fresh i e z))
-
-    insert-step : Step l ls (a .layout)
-    insert-step = next-step (done .next) (omega arith) booked-pieces
-
-  -- a removal of the piece at x
-  module _ (x : ℕ) (can : Takeable l x) (a : Removed) (done : RemoveDone l x a) where
-    unheld : In (placeFor l x) (cleared x (tree l)) → ⊥
-    unheld = fresh-removal limit (l .stages) (l .sheet) (tree l) (h .sound .sound) x (can .removable) .1
-
-    removed-pieces : (i : ℕ) (e : Datum) → At i e (tree (a .layout)) → Kept l (a .layout) i e ⊎ (l .serial < e .serial)
-    removed-pieces i e y =
-        ⊎-elim (λ z. inl (left z)) (λ z. inr (new (z .1)))
-        (remove-pieces limit (l .stages) (l .sheet) (l .nodes) (tree l) (h .sound .sound) (h .sound .holds) x (can .removable)
-        (placeFor l x) (l .serial) unheld i e (rw (done .next .tree) at y))
-      where
-        left : At i e (cleared x (tree l)) → Kept l (a .layout) i e
-        left z =
-            kept-so l (a .layout) h (next-right (done .next)) i e (cleared-at i e x (tree l) z)
-            (rw (done .next .tree) (remove-parent limit x (placeFor l x) (l .serial + 1) (tree l) (h .sound .sound .distinct) unheld i e z))
-
-        new : e ≡ newFree (l .nodes) x (l .serial) → l .serial < e .serial
-        new z = let s = ap (λ (f : Datum). f .serial) z ∙ new-serial (l .nodes) x (l .serial) in omega arith
-
-    remove-step : Step l ls (a .layout)
-    remove-step = next-step (done .next) (omega arith) removed-pieces
+  -- accepted, each piece was left or is new
+  leaves-step : {n : Layout} {w : Tree} → Leaves l n w → Sized n → l .serial ≤ n .serial → Step l ls n
+  leaves-step {n} c sized rises =
+      let right : Right n = record { sound = c .after; sized = sized } in
+      record {
+        right = right;
+        number = c .number;
+        rises = rises;
+        pieces = λ i e y. ⊎-elim (λ z. inl (l, among, kept-so l n h right i e (c .was i e z) (c .parent i e z))) inr (c .pieces i e y);
+      }
 
   -- an earlier state is put back: its pieces are all there, and no other
   restore-step : (s : Layout) → Right s → OneOf s ls → s .number ≡ l .number → Step l ls (withSerial s (greater (l .serial) (s .serial)))
@@ -288,21 +220,24 @@ module _ {l : Layout} {ls : List Layout} (run : Run (l ∷ ls)) where
   right : Right l
   right = run-right run l (inl refl)
 
+  accepted : {n : Layout} {v w : Tree} {ys : List ℕ} {serial : ℕ} → Leaves l n v → Next l w ys serial n → l .serial ≤ serial → Step l (l ∷ ls) n
+  accepted c n rises = leaves-step l (l ∷ ls) right (inl refl) c (n .sized) (omega (arith, n .serial))
+
   inserts : (m : Mark) (p : PartType) (r : Rotation) (s : InsertionShape) (a : Inserted) → InsertSays l m p r s a
       → Step l (l ∷ ls) (a .layout)
   inserts m p r s a says =
       ⊎-elim (same-step l (l ∷ ls) right (inl refl) (a .layout))
-      (λ z. insert-step l (l ∷ ls) right (inl refl) (m .place) p r s (z .0) a (z .1)) (inserted-so l m p r s a (right .sized) says)
+      (λ z. accepted (insert-leaves l (m .place) p r s (z .0) a (z .1)) (z .1 .next) (omega arith)) (inserted-so l m p r s a (right .sized) says)
 
   removes : (m : Mark) (room : ℕ) (a : Removed) → RemoveSays l m room a → Step l (l ∷ ls) (a .layout)
   removes m room a says =
       ⊎-elim (same-step l (l ∷ ls) right (inl refl) (a .layout))
-      (λ z. remove-step l (l ∷ ls) right (inl refl) (m .place) (z .0) a (z .1)) (removed-so l m room a (right .sized) says)
+      (λ z. accepted (remove-leaves l (m .place) (z .0) a (z .1)) (z .1 .next) (omega arith)) (removed-so l m room a (right .sized) says)
 
   restores : (s : Layout) → OneOf s (l ∷ ls) → Step l (l ∷ ls) (restoreOf l s .layout)
   restores s o =
-      ⊎-elim (same-step l (l ∷ ls) right (inl refl) (restoreOf l s .layout))
-      (λ z. rw z (restore-step l (l ∷ ls) right (inl refl) s (run-right run s o) o (run-number run s l o (inl refl)))) (restored-so l s)
+      ⊎-elim (λ z. same-step l (l ∷ ls) right (inl refl) (restoreOf l s .layout) (z .1))
+      (λ z. rw (z .is) (restore-step l (l ∷ ls) right (inl refl) s (run-right run s o) o (run-number run s l o (inl refl)))) (restored-so l s)
 
 life-run : {ls : List Layout} → Life ls → Run ls
 life-run (opened number size cut stages m e) = start (open-right number size cut stages m e)

@@ -49,7 +49,7 @@ use Rattle.looks.specs.declared.replies.MarkAnswer.the-variants as answer
 use Rattle.looks.specs.Answers.{freeMarkOf, removableMarkOf}
 use Rattle.looks.proofs.ListMarks.{free-mark-names, removable-mark-names}
 use Rattle.demands.specs.Life.{Names}
-use Rattle.demands.proofs.Outcomes.{opened-so, insert-done, remove-done}
+use Rattle.demands.proofs.Outcomes.{opened-so, accepted-insert, accepted-remove}
 
 -- the mark names a piece of this kind
 pub record NamesKind (k : Kind) (l : Layout) (m : Mark) : Type 0 where
@@ -143,16 +143,16 @@ module _ (l : Layout) (x : ℕ) (p : PartType) (r : Rotation) (s : InsertionShap
 pub insert-marks-name : (l : Layout) (m : Mark) (p : PartType) (r : Rotation) (s : InsertionShape) (a : Inserted) → Sized l
     → InsertSays l m p r s a → a .outcome ≡ Done → BookedMarks l (m .place) p r s a
 insert-marks-name l m p r s a sized says answer =
-    let z = insert-done l m p r s a sized says answer in booked-marks l (m .place) p r s (z .0) a (z .1)
+    let z = accepted-insert l m p r s a sized (record { says = says; done = answer }) in booked-marks l (m .place) p r s (z .insertable) a (z .done)
 
 -- ---- remove
 
 pub remove-mark-names : (l : Layout) (m : Mark) (room : ℕ) (a : Removed) → Sized l → RemoveSays l m room a → a .outcome ≡ Done
     → NamesKind Free (a .layout) (a .free)
 remove-mark-names l m room a sized says answer =
-    let z = remove-done l m room a sized says answer in
-    let can = z .0 in
-    let done = z .1 in
+    let z = accepted-remove l m room a sized (record { says = says; done = answer }) in
+    let can = z .takeable in
+    let done = z .done in
     let n = placeFor l (m .place) in
     let e = newFree (l .nodes) (m .place) (l .serial) in
     let there : At n e (tree (a .layout)) =

@@ -47,7 +47,7 @@ stock-stays (removed k ks life m room a says) l (inl e) =
 stock-stays (removed k ks life m room a says) l (inr o) = stock-stays life l o
 stock-stays (restored k ks life s o) l (inl e) =
     ap stock e
-    ∙ ⊎-elim (λ z. ap stock z ∙ stock-stays life k (inl refl)) (λ z. ap stock z ∙ stock-stays life s o) (restored-so k s)
+    ∙ ⊎-elim (λ z. ap stock (z .1) ∙ stock-stays life k (inl refl)) (λ z. ap stock (z .is) ∙ stock-stays life s o) (restored-so k s)
 stock-stays (restored k ks life s o) l (inr q) = stock-stays life l q
 
 pub throughout : {ls : List Layout} (life : Life ls) (l : Layout) → OneOf l ls
