@@ -4,12 +4,40 @@ mod block_record;
 mod offer_record;
 mod record;
 
+ghost use Prim.Native.Nat.{_≤_};
 use record::Record;
 use record::decoded;
 
-const OFFER_LINE: usize = 59;
+// The characters of the longest line: two for each of 74 bytes, and a newline.
+const LINE: usize = 149;
 
-const BLOCK_LINE: usize = 149;
+// What the records of a file ask.
+enum Asked {
+    Offers,
+    Blocks,
+}
+
+// The bytes of a record.
+fn length(asked: Asked) -> usize
+    ensures { λ r. ⌜ r ≤ 74 ⌝ }
+{
+    match asked {
+        Asked::Offers => 29,
+        Asked::Blocks => 74,
+    }
+}
+
+// Whether our answer is the recorded one.
+fn agrees(asked: Asked, record: Record) -> bool {
+    if record.ok {} else {
+        return false;
+    }
+    let bytes = record.bytes;
+    match asked {
+        Asked::Offers => offer_record::agrees(bytes),
+        Asked::Blocks => block_record::agrees(bytes),
+    }
+}
 
 // How many records were the same and how many were not.
 struct Tally {
@@ -38,33 +66,17 @@ fn tallied(t: Tally, agrees: bool) -> Tally {
     }
 }
 
-fn replay_offers(file: i32) -> Tally {
+fn replay(file: i32, asked: Asked) -> Tally {
+    let bytes = length(asked);
     let mut tally = Tally { same: 0, differ: 0 };
     let mut left: u64 = 1000000;
     while 0 < left {
-        let mut line = [0u8; BLOCK_LINE];
-        let n = io::read_full(file, &mut line[..OFFER_LINE]);
+        let mut line = [0u8; LINE];
+        let n = io::read_full(file, &mut line[..2 * bytes + 1]);
         if n == 0 {
             break;
         }
-        let record = decoded(&line, 29);
-        tally = tallied(tally, record.ok && offer_record::agrees(record.bytes));
-        left -= 1;
-    }
-    tally
-}
-
-fn replay_blocks(file: i32) -> Tally {
-    let mut tally = Tally { same: 0, differ: 0 };
-    let mut left: u64 = 1000000;
-    while 0 < left {
-        let mut line = [0u8; BLOCK_LINE];
-        let n = io::read_full(file, &mut line);
-        if n == 0 {
-            break;
-        }
-        let record = decoded(&line, 74);
-        tally = tallied(tally, record.ok && block_record::agrees(record.bytes));
+        tally = tallied(tally, agrees(asked, decoded(&line, bytes)));
         left -= 1;
     }
     tally
@@ -80,7 +92,7 @@ fn report(tally: Tally, what: &[u8]) {
 
 fn main() {
     let offers = os::open_read(b"offers.txt");
-    report(replay_offers(offers), b" offers");
+    report(replay(offers, Asked::Offers), b" offers");
     let blocks = os::open_read(b"blocks.txt");
-    report(replay_blocks(blocks), b" blocks");
+    report(replay(blocks, Asked::Blocks), b" blocks");
 }
