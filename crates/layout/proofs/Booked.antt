@@ -41,7 +41,7 @@ use Rattle.booking.specs.NewNodes.{deepest, freesOf, heldNew, leaves, those}
 use Rattle.booking.specs.Marks.{blockMarks, newMarks}
 use Rattle.booking.specs.Book.{booked}
 use Rattle.booking.specs.Inner.{Bookable}
-use Rattle.booking.proofs.Offering.{Offers, offered-says}
+use Rattle.piece.proofs.Offering.{Offers, offered-says}
 use Rattle.booking.proofs.Made.{frees-few, held-those, leaves-count}
 use Rattle.booking.proofs.Sums.{book-count, book-part-area}
 use Rattle.booking.proofs.BlockMarks.{marks-are}

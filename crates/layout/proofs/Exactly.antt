@@ -7,7 +7,7 @@ use native.Mathlib.Omega.{arith}
 use lib.ListN.{length, take, length-replicate}
 use Rattle.piece.specs.declared.node.Datum.{Datum}
 use Rattle.piece.specs.declared.node.Kind.the-variants.{Free}
-use Rattle.tree.specs.Tree.{isFree}
+use Rattle.piece.specs.Kinds.{isFree}
 use Rattle.tree.specs.Sound.{Domain, Sound}
 use Rattle.tree.specs.Steps.{Marked}
 use Rattle.table.specs.Table.{zeroNode, Holds}

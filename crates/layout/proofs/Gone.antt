@@ -8,7 +8,8 @@ use Prim.Native.Nat.{ℕ, _+_, _≤_}
 use lib.ListN.{length}
 use lib.Seq.{sets}
 use Rattle.piece.specs.declared.node.Datum.{Datum}
-use Rattle.tree.specs.Tree.{At, Inside, isFree}
+use Rattle.piece.specs.Kinds.{isFree}
+use Rattle.tree.specs.Tree.{At, Inside}
 use Rattle.tree.specs.Removal.{cleared}
 use Rattle.tree.proofs.Laws.UntouchedByRemoval.{untouched-by-removal}
 use Rattle.tree.proofs.Laws.SolidUntouched.{solid-untouched-by-removal}

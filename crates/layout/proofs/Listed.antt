@@ -13,8 +13,9 @@ use Rattle.piece.specs.declared.node.Datum.{Datum}
 use Rattle.piece.specs.declared.node.Kind.{Kind}
 use Rattle.piece.specs.declared.node.Kind.the-variants.{Free, Part, Structure}
 use Rattle.piece.specs.Sides.{area}
-use Rattle.tree.specs.Tree.{Tree, At, isFree}
-use Rattle.tree.specs.Snapshot.{kindNo}
+use Rattle.piece.specs.Kinds.{isFree}
+use Rattle.piece.specs.Numbers.{kindNo}
+use Rattle.tree.specs.Tree.{Tree, At}
 use Rattle.tree.specs.Steps.{Marked}
 use Rattle.tree.proofs.Rows.{in?, at-in}
 use Rattle.table.specs.declared.Node.{Node}

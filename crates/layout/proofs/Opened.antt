@@ -9,7 +9,8 @@ use lib.ListN.{getD}
 use Rattle.piece.specs.declared.settings.Opening.{Opening}
 use Rattle.piece.specs.declared.node.Datum.{Datum}
 use Rattle.piece.specs.declared.node.Kind.the-variants.{Free, Structure}
-use Rattle.tree.specs.Tree.{At, isFree}
+use Rattle.tree.specs.Tree.{At}
+use Rattle.piece.specs.Kinds.{isFree}
 use Rattle.tree.specs.Open.{topDatum, firstFree, opened}
 use Rattle.tree.proofs.Laws.OpenSound.{open-sound}
 use Rattle.table.specs.Table.{Holds}

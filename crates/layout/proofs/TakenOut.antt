@@ -9,7 +9,8 @@ use lib.ListN.{length, getD, length-append}
 use Rattle.piece.specs.declared.node.Kind.{Kind}
 use Rattle.piece.specs.declared.node.Kind.the-variants.{Free, Part, Structure}
 use Rattle.piece.specs.Row.{nil, grow}
-use Rattle.tree.specs.Tree.{Tree, In, count, isPart}
+use Rattle.piece.specs.Kinds.{isPart}
+use Rattle.tree.specs.Tree.{Tree, In, count}
 use Rattle.tree.specs.Removal.{cleared, remove, subtree}
 use Rattle.tree.specs.Steps.{leaving}
 use Rattle.tree.specs.Enrolment.{removedList}
@@ -18,7 +19,8 @@ use Rattle.tree.proofs.Goes.{subtree-is}
 use Rattle.tree.proofs.Family.{parent-cleared}
 use Rattle.table.specs.Table.{at}
 use Rattle.table.specs.Steps.{going, freeLastPlace}
-use Rattle.walks.specs.Along.{entries, numbersAlong, parts, PartsEnd}
+use Rattle.walks.specs.Along.{numbersAlong, parts, PartsEnd}
+use Rattle.lists.specs.Lists.{entries}
 use Rattle.walks.proofs.Meaning.{length-order}
 use Rattle.walks.proofs.Along.{each-subtree, sound-ends, length-numbers, parts-most}
 use Rattle.register.specs.Listings.{entriesOf}

@@ -3,7 +3,7 @@
 use mathlib.Core.Bool.{Bool, cond, not, _&&_, _||_}
 use lib.Dec.{eqb, leb}
 use Rattle.piece.specs.declared.parttype.PartType.{PartType}
-use Rattle.tree.specs.Tree.{isFree}
+use Rattle.piece.specs.Kinds.{isFree}
 use Rattle.table.specs.Table.{at}
 use Rattle.answers.specs.declared.Mark.{Mark}
 use Rattle.answers.specs.declared.Refusal.the-variants.{NotSound, PartOutside, OtherLayout, Gone, NotFree}

@@ -13,8 +13,7 @@ use Rattle.table.specs.Build.{treeOf}
 pub use Rattle.lists.specs.Lists.{limit}
 use Rattle.lists.specs.Search.{differ, zeroTail}
 use Rattle.lists.specs.Flags.{okB, flagsOf}
-use Rattle.sound.specs.declared.columns.Columns.{Columns}
-use Rattle.sound.specs.Columns.{columnsOf}
+use Rattle.sound.specs.Columns.{Columns, columnsOf}
 use Rattle.sound.specs.Places.{placesB, topB}
 use Rattle.sound.specs.Rows.{rowsB}
 use Rattle.sound.specs.Hung.{hungB}

@@ -18,7 +18,7 @@ use Rattle.tree.specs.Family.{newPlace}
 use Rattle.tree.specs.Enrolment.{bookedList}
 use Rattle.table.specs.Table.{at}
 use Rattle.booking.specs.Marks.{blockMarks, zeroMarks}
-use Rattle.booking.specs.Offered.{offeredB}
+use Rattle.piece.specs.Offered.{offeredB}
 use Rattle.answers.specs.declared.Mark.{Mark}
 use Rattle.answers.specs.declared.Refusal.{Refusal}
 use Rattle.answers.specs.declared.Refusal.the-variants.{NotOffered, TooManyNodes, SerialsSpent}

@@ -9,7 +9,7 @@ use lib.Dec.{eqb, leb}
 use lib.ListN.{length}
 use lib.Seq.{sets}
 use Rattle.piece.specs.declared.node.Datum.{Datum}
-use Rattle.tree.specs.Tree.{isFree}
+use Rattle.piece.specs.Kinds.{isFree}
 use Rattle.tree.specs.Removal.{cleared, remove, removed}
 use Rattle.tree.specs.Pieces.{maxSerial}
 use Rattle.tree.specs.Family.{newPlace}

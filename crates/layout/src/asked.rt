@@ -8,7 +8,6 @@ use crate::replies::Sought;
 use answers::Mark;
 use answers::Refusal;
 use piece::parttype::PartType;
-use sound::places::is_free;
 use table::NONE;
 
 // Whether the part's sides are in the domain.
@@ -61,7 +60,7 @@ impl Layout {
             Sought::Refused(refusal) => Sought::Refused(refusal),
             Sought::Piece(d) => {
                 let kind = d.kind;
-                if is_free(kind) {
+                if kind.is_free() {
                     Sought::Piece(d)
                 } else {
                     Sought::Refused(Refusal::NotFree)

@@ -16,9 +16,8 @@ use booking::book::book;
 use booking::marks::NewMarks;
 use booking::marks::marks_of;
 use booking::marks::no_marks;
-use booking::offered::is_offered;
-use booking::offered::new_count;
 use piece::insertion_blueprint::InsertionShape;
+use piece::insertion_option::is_offered;
 use piece::node::Datum;
 use piece::parttype::PartType;
 use piece::rotation::Rotation;
@@ -56,7 +55,7 @@ impl Layout {
         if is_offered(piece, part, self.settings, rotation, shape) {} else {
             return Outcome::Refused(Refusal::NotOffered);
         }
-        let new = new_count(shape);
+        let new = shape.new_count();
         if LIMIT < (self.held - 1 + new) as usize {
             return Outcome::Refused(Refusal::TooManyNodes);
         }
@@ -78,7 +77,7 @@ impl Layout {
         ensures { λ r. ⌜ InsertDone self place (bookingFor self place part rotation shape) r ⌝ }
     {
         let size = part.size_in(rotation);
-        let new = new_count(shape);
+        let new = shape.new_count();
         let b = book(
             self.layout_nodes(),
             place,

@@ -1,6 +1,5 @@
 // The opening. Rust: Layout::new and LayoutNodes::new of core/entities/layout.rs, Node::new of core/entities/node.rs. Document 01, "Open".
 ghost use mathlib.Core.Path.{_≡_};
-ghost use Rattle.table.specs.Table.{zeroNode};
 ghost use Rattle.layout.specs.Zero.{zeroLayout};
 ghost use Rattle.layout.specs.Open.{freshLayout, freshNodes, openOf};
 use crate::assertions::domain_ok;
@@ -16,6 +15,7 @@ use piece::size::Size;
 use table::LIMIT;
 use table::NONE;
 use table::Node;
+use table::nodes::empty_table;
 
 // The mark of the free piece, or why there is none.
 pub enum OpenOutcome {
@@ -29,39 +29,14 @@ pub struct Opened {
     pub layout: Layout,
 }
 
-// What an unheld place holds.
-fn zero_node() -> Node
-    ensures { λ r. ⌜ r ≡ zeroNode ⌝ }
-{
-    Node {
-        datum: Datum {
-            serial: 0,
-            size: Size {
-                width: 0,
-                height: 0,
-            },
-            number: 0,
-            level: 0,
-            kind: Kind::Free,
-            cut: Orientation::Horizontal,
-        },
-        parent: 0,
-        first: 0,
-        last: 0,
-        prev: 0,
-        next: 0,
-    }
-}
-
 // The table with the top at place 0 and its only child, the free piece, at place 1.
 fn fresh_nodes(opening: Opening) -> [Node; LIMIT]
     ensures { λ r. ⌜ r ≡ freshNodes opening ⌝ }
 {
     let size = opening.settings.sheet;
     let cut = opening.cut;
-    let zero = zero_node();
     let other = cut.rotate();
-    let mut nodes = [zero; LIMIT];
+    let mut nodes = empty_table();
     nodes[0] = Node {
         datum: Datum {
             serial: 1,
@@ -100,9 +75,8 @@ impl Layout {
     pub fn zero() -> Layout
         ensures { λ r. ⌜ r ≡ zeroLayout ⌝ }
     {
-        let zero = zero_node();
         Layout {
-            nodes: [zero; LIMIT],
+            nodes: empty_table(),
             free: [0u16; LIMIT],
             removable: [0u16; LIMIT],
             held: 0,

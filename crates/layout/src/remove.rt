@@ -17,7 +17,6 @@ use removal::going::Going;
 use removal::going::going_with;
 use removal::remove::area_along;
 use removal::remove::remove;
-use sound::places::is_free;
 use walks::numbers::count_numbers;
 use walks::numbers::put_numbers;
 
@@ -53,7 +52,7 @@ impl Layout {
             return Outcome::Refused(Refusal::TheTop);
         }
         let kind = piece.kind;
-        if is_free(kind) {
+        if kind.is_free() {
             return Outcome::Refused(Refusal::FreePiece);
         }
         if MAX_SERIAL <= self.serial {

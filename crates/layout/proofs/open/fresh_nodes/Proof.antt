@@ -9,14 +9,14 @@ use Rattle.layout.proofs.open.fresh_nodes.Tie as tie
 
 returns : tie.Need-returns
 unfolding freshNodes append topOnly
-returns c = rw (← c .rotate .ensures, c .before .zero-node .ensures) refl
+returns c = rw (← c .before .rotate .ensures, c .empty-table .ensures) refl
 
 pub fresh-nodes-spec : {M : Type 1} → statement M
 fresh-nodes-spec =
     tie.close
     (tie.spec
-    (λ c κs. search needs)  -- zero-node-requires
     (λ c κs. search needs)  -- rotate-requires
+    (λ c κs. search needs)  -- empty-table-requires
     (λ c. search needs)  -- array-set-from-nodes
     (λ c. search needs)  -- array-set-from-nodes-2
     returns)

@@ -1,10 +1,12 @@
 -- `sound` meets its contract: `sound-is` says what the answers of the passes make of the tests behind them.
-use mathlib.Core.Path.{_≡_, sym, ap, _∙_}
+use mathlib.Core.Path.{_≡_, refl, sym, ap, _∙_}
 use mathlib.Core.Bool.{_&&_}
 use borrow.Author.Needs.{needs}
 use Rattle.lists.specs.declared.flags.Flags.{Flags}
+use Rattle.lists.specs.Lists.{limit, zeros}
+use Rattle.lists.proofs.Fill.{fill-over}
+use Rattle.table.specs.Columns.{areaOf, serialOf}
 use Rattle.sound.proofs.Chain.{pass, stop}
-use Rattle.sound.proofs.Filled.{areaOf, serialOf, fill-zeros}
 use Rattle.layout.specs.Check.{soundB}
 use Rattle.layout.proofs.Typed.{typed-sized}
 use Rattle.layout.proofs.Passes.{restB, serials-low, some-of, sound-is}
@@ -36,8 +38,8 @@ passed c =
     (r .rows-ok .ensures .0)
     (r .rows-ok .ensures .1)
     (n .census-ok .ensures .0)
-    (n .census-ok .ensures .1 .0 ∙ fill-zeros serialOf (l .nodes) len)
-    (n .census-ok .ensures .1 .1 ∙ fill-zeros areaOf (l .nodes) len)
+    (n .census-ok .ensures .1 .0 ∙ fill-over serialOf (l .nodes) len (zeros limit) refl)
+    (n .census-ok .ensures .1 .1 ∙ fill-over areaOf (l .nodes) len (zeros limit) refl)
     (c .frame-ok .ensures)
 
 rest-ok-requires : tie.Need-rest-ok-requires
@@ -54,7 +56,7 @@ rest-ok-requires c κs =
     (t .if1 .taken) in (
       sym (ap (λ (x : Flags). x .ok) (f .flags-of .ensures)) ∙ on .0,
       serials-low l _ _ _ (n .census-ok .ensures .0)
-          (n .census-ok .ensures .1 .0 ∙ fill-zeros serialOf (l .nodes) (typed-sized l _ (s .good .0) .nodes))
+          (n .census-ok .ensures .1 .0 ∙ fill-over serialOf (l .nodes) (typed-sized l _ (s .good .0) .nodes) (zeros limit) refl)
           (w .frame-ok .ensures) (on .1) (on .2),
     )
 
