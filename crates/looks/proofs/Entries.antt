@@ -8,8 +8,9 @@ use lib.ListN.{getD, length, take}
 use lib.Seq.{getD-take}
 use Rattle.piece.specs.declared.node.Datum.{Datum}
 use Rattle.piece.specs.declared.node.Kind.the-variants.{Free}
-use Rattle.tree.specs.Tree.{At, isFree}
+use Rattle.tree.specs.Tree.{At}
 use Rattle.walks.specs.Inner.{Placed}
+use Rattle.piece.specs.Kinds.{isFree}
 use Rattle.layout.specs.declared.layout.Layout.{Layout}
 use Rattle.layout.specs.Check.{limit, tree, soundB}
 use Rattle.layout.specs.SoundLayout.{Pieces, Holding, SoundLayout, Sized}

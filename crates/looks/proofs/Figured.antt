@@ -26,10 +26,9 @@ use Rattle.table.specs.declared.Node.{Node}
 use Rattle.table.specs.Table.{zeroNode, at, Holds}
 use Rattle.walks.specs.Usage.{usageOf}
 use Rattle.walks.specs.Inner.{Small}
-use Rattle.walks.specs.Columns.{usageIn}
+use Rattle.walks.specs.Columns.{usageIn, columnsOf}
+use Rattle.walks.specs.declared.columns.Columns.{Columns}
 use Rattle.walks.proofs.Meaning.{usage-top, small}
-use Rattle.sound.specs.declared.columns.Columns.{Columns}
-use Rattle.sound.specs.Columns.{columnsOf}
 use Rattle.sound.specs.Listed.{areaIn}
 use Rattle.sound.proofs.Worth.{holds-free-area}
 use Rattle.sound.proofs.Serials.{shown-at}

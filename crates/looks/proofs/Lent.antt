@@ -15,9 +15,10 @@ use Rattle.tree.specs.Tree.{Tree, In}
 use Rattle.tree.specs.Sound.{Sound}
 use Rattle.tree.specs.Removal.{subtree}
 use Rattle.tree.specs.Snapshot.{snapshot}
+use Rattle.lists.specs.Lists.{entries}
 use Rattle.walks.specs.declared.columns.Columns.{Columns}
 use Rattle.walks.specs.Columns.{columnsOf, snapshotIn}
-use Rattle.walks.specs.Along.{below, entries, numbersAlong}
+use Rattle.walks.specs.Along.{below, numbersAlong}
 use Rattle.walks.specs.Inner.{Placed}
 use Rattle.walks.proofs.Meaning.{snapshot-subtree}
 use Rattle.walks.proofs.Entries.{entries-below, placed-below}

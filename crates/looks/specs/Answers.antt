@@ -11,7 +11,8 @@ use Rattle.piece.specs.declared.rotation.Rotation.the-variants.{Default, Rotate
 use Rattle.piece.specs.Sides.{area}
 use Rattle.piece.specs.Offers.{allowed, fits, held, noOffers, offersOf, turned}
 use Rattle.piece.specs.Row.{nil, grow}
-use Rattle.tree.specs.Tree.{Tree, count, isFree}
+use Rattle.piece.specs.Kinds.{isFree}
+use Rattle.tree.specs.Tree.{Tree, count}
 use Rattle.tree.specs.Figures.{partArea, freeArea, sheetUsage, treeUsage}
 use Rattle.table.specs.Table.{at}
 use Rattle.answers.specs.declared.Mark.{Mark}

@@ -7,8 +7,8 @@ use crate::replies::LightAnswer;
 use crate::replies::UsageAnswer;
 use answers::Refusal;
 use layout::layout::Layout;
-use sound::columns::columns_of;
 use sound::listed::free_sum;
+use walks::columns::columns_of;
 use walks::usage::usage_of;
 
 pub fn used_area(layout: Layout) -> AreaAnswer
