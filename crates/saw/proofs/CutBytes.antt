@@ -5,7 +5,8 @@ use Prim.Native.Nat.{ℕ, suc, _+_, _*_}
 use native.Mathlib.Omega.{arith}
 use lib.ListN.{length, set}
 use lib.Seq.{sets}
-use Rattle.tree.specs.Snapshot.{cutNo, two, four}
+use Rattle.piece.specs.Numbers.{cutNo}
+use Rattle.tree.specs.Snapshot.{two, four}
 use Rattle.lists.proofs.Fill.{sets-append}
 use Rattle.saw.specs.declared.cut.Cut.{Cut}
 use Rattle.saw.specs.Cuts.{cutBytes, bytesOf}

@@ -16,7 +16,8 @@ use Rattle.piece.specs.declared.node.Kind.{Kind}
 use Rattle.piece.specs.declared.node.Kind.the-variants.{Free, Part, Structure}
 use Rattle.piece.specs.Sides.{area, laid, other}
 use Rattle.piece.specs.Row.{nil, grow}
-use Rattle.tree.specs.Tree.{Tree, isFree, count}
+use Rattle.piece.specs.Kinds.{isFree}
+use Rattle.tree.specs.Tree.{Tree, count}
 use Rattle.tree.specs.Sound.{Sided, extent, StructurePiece, Kinded, Children}
 use Rattle.tree.proofs.Read.{Readable}
 use Rattle.lists.proofs.Scan.{test, clash, and-false}

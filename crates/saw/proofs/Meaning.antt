@@ -20,8 +20,9 @@ use Rattle.piece.specs.declared.node.Kind.{Kind}
 use Rattle.piece.specs.declared.node.Kind.the-variants.{Free, Part, Structure}
 use Rattle.piece.specs.Sides.{area, laid, other}
 use Rattle.piece.specs.Row.{nil, grow}
-use Rattle.tree.specs.Tree.{Tree, isFree, count}
-use Rattle.tree.specs.Snapshot.{kindNo}
+use Rattle.piece.specs.Kinds.{isFree}
+use Rattle.piece.specs.Numbers.{kindNo}
+use Rattle.tree.specs.Tree.{Tree, count}
 use Rattle.tree.specs.Sound.{Sided, extent, StructurePiece, Kinded, Child, Children, Sound}
 use Rattle.tree.proofs.Areas.{area-laid}
 use Rattle.tree.proofs.Laying.{laid-sided}

@@ -13,7 +13,8 @@ use Rattle.piece.specs.declared.node.Kind.{Kind}
 use Rattle.piece.specs.declared.node.Kind.the-variants.{Free, Part, Structure}
 use Rattle.piece.specs.Sides.{area}
 use Rattle.piece.specs.Row.{nil, grow}
-use Rattle.tree.specs.Tree.{Tree, isFree, isPart}
+use Rattle.piece.specs.Kinds.{isFree, isPart}
+use Rattle.tree.specs.Tree.{Tree}
 use Rattle.tree.specs.Sound.{Sound}
 use Rattle.tree.specs.Figures.{partArea, freeArea}
 use Rattle.tree.proofs.Laws.AreaConserved.{area-conserved}

@@ -12,8 +12,8 @@ use Rattle.piece.specs.declared.size.Size.{Size}
 use Rattle.piece.specs.declared.node.Datum.{Datum}
 use Rattle.piece.specs.Sides.{other}
 use Rattle.piece.specs.Row.{nil, grow}
+use Rattle.piece.specs.Numbers.{cutNo}
 use Rattle.tree.specs.Tree.{Tree, count}
-use Rattle.tree.specs.Snapshot.{cutNo}
 use Rattle.tree.specs.Sound.{maxSide, Sound}
 use Rattle.tree.proofs.Read.{Readable, sound-readable}
 use Rattle.saw.specs.declared.cut.Cut.{Cut}

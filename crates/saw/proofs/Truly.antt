@@ -17,9 +17,10 @@ use Rattle.piece.specs.declared.node.Kind.{Kind}
 use Rattle.piece.specs.declared.node.Kind.the-variants.{Free, Part, Structure}
 use Rattle.piece.specs.Sides.{other}
 use Rattle.piece.specs.Row.{nil, grow}
+use Rattle.piece.specs.Kinds.{isStructure}
+use Rattle.piece.specs.Numbers.{kindNo, cutNo}
 use Rattle.piece.proofs.Sizes.{other-twice}
-use Rattle.tree.specs.Tree.{Tree, isStructure}
-use Rattle.tree.specs.Snapshot.{kindNo, cutNo}
+use Rattle.tree.specs.Tree.{Tree}
 use Rattle.tree.specs.Sound.{Sided, Sound}
 use Rattle.saw.specs.declared.cut.Cut.{Cut}
 use Rattle.saw.specs.Saw.{side, withArea, cutsB, onward}

@@ -12,8 +12,10 @@ use Rattle.piece.specs.declared.node.Kind.{Kind}
 use Rattle.piece.specs.declared.node.Kind.the-variants.{Free, Part, Structure}
 use Rattle.piece.specs.Sides.{area, other}
 use Rattle.piece.specs.Row.{nil, grow}
-use Rattle.tree.specs.Tree.{Tree, isFree}
-use Rattle.tree.specs.Snapshot.{kindNo, cutNo, two, four}
+use Rattle.piece.specs.Kinds.{isFree}
+use Rattle.piece.specs.Numbers.{kindNo, cutNo}
+use Rattle.tree.specs.Tree.{Tree}
+use Rattle.tree.specs.Snapshot.{two, four}
 use Rattle.saw.specs.declared.cut.Cut.{Cut}
 use Rattle.saw.specs.Saw.{side, withArea}
 

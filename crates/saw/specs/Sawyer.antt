@@ -13,8 +13,9 @@ use Rattle.piece.specs.declared.node.Kind.{Kind}
 use Rattle.piece.specs.declared.node.Kind.the-variants.{Structure}
 use Rattle.piece.specs.Sides.{other}
 use Rattle.piece.specs.Row.{nil, grow}
-use Rattle.tree.specs.Tree.{Tree, isNil, isStructure}
-use Rattle.tree.specs.Snapshot.{kindNo, cutNo}
+use Rattle.piece.specs.Kinds.{isStructure}
+use Rattle.piece.specs.Numbers.{kindNo, cutNo}
+use Rattle.tree.specs.Tree.{Tree, isNil}
 use Rattle.saw.specs.declared.cut.Cut.{Cut}
 use Rattle.saw.specs.Saw.{side, slice, withArea, cutsB, onward}
 use Rattle.saw.specs.Cuts.{withoutEmpty, ownBoard}

@@ -6,7 +6,6 @@ ghost use lib.ListN.{length};
 ghost use lib.Seq.{sets};
 ghost use Rattle.saw.specs.Cuts.{cutBytes};
 use piece::orientation::Orientation;
-use walks::snapshot::cut_no;
 use walks::snapshot::put_four;
 use walks::snapshot::put_two;
 
@@ -29,7 +28,7 @@ pub fn put_cut(cut: Cut, out: &mut [u8], at: usize)
 {
     let way = cut.way;
     put_two(cut.place, out, at);
-    out[at + 2] = cut_no(way);
+    out[at + 2] = way.number();
     put_four(cut.distance, out, at + 3);
     out[at + 7] = cut.piece;
     out[at + 8] = cut.left;

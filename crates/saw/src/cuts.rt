@@ -56,11 +56,7 @@ fn copy_first(from: &[u8], n: usize, out: &mut [u8])
     requires { ⌜ (n ≤ length (now from)) × (n ≤ length (now out)) ⌝ }
     ensures { λ _. ⌜ now (out .exit) ≡ sets (now (out .entry)) 0 (take n (now (from .entry))) ⌝ }
 {
-    let mut i: usize = 0;
-    while i < n {
-        out[i] = from[i];
-        i += 1;
-    }
+    bytes::copy(&from[..n], out);
 }
 
 // The cuts, 9 bytes each, and how many bytes they have.

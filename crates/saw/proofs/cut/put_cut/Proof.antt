@@ -30,7 +30,7 @@ returns c =
     let a = c .before .before .before .before .before .before .before .before .before .before .args in
     cut-stored (a .out .now) (a .at) (a .cut) _ _ _
     (c .before .before .before .before .before .before .before .put-two .ensures)
-    (c .before .before .before .before .cut-no .ensures)
+    (c .before .before .before .before .number .ensures)
     (c .before .before .put-four .ensures)
 
 same-length : tie.Need-same-length
@@ -41,7 +41,7 @@ put-cut-spec =
     tie.close
     (tie.spec
     (λ c κs. search needs)  -- put-two-requires
-    (λ c κs. search needs)  -- cut-no-requires
+    (λ c κs. search needs)  -- number-requires
     (λ c. search needs)  -- add-out
     (λ c. search needs)  -- slice-write-out
     (λ c. search needs)  -- add-put-four
