@@ -20,7 +20,8 @@ use Rattle.piece.specs.declared.node.Datum.{Datum}
 use Rattle.piece.specs.declared.node.Kind.{Kind}
 use Rattle.piece.specs.declared.node.Kind.the-variants.{Free, Part, Structure}
 use Rattle.piece.specs.Row.{nil, grow}
-use Rattle.tree.specs.Tree.{Tree, At, isFree, isPart, after}
+use Rattle.piece.specs.Kinds.{isFree, isPart}
+use Rattle.tree.specs.Tree.{Tree, At, after}
 use Rattle.tree.specs.Sound.{Kinded, Children, Topped}
 use Rattle.tree.specs.Booking.{block}
 use Rattle.tree.specs.Figures.{sheetUsage}
