@@ -8,6 +8,7 @@ use looks::replies::UsageAnswer;
 use piece::node::Datum;
 use piece::node::Kind;
 use piece::orientation::Orientation;
+use piece::settings::Settings;
 use piece::size::Size;
 use table::NONE;
 use table::Node;
@@ -137,16 +138,20 @@ fn full(deep: bool) -> Layout {
 fn chain() -> Layout {
     let mut l = full(true);
     l.used = 35;
-    l.stages = 254;
-    l.sheet = sheet();
+    l.settings = Settings {
+        stages: 254,
+        sheet: sheet(),
+    };
     l
 }
 
 fn row() -> Layout {
     let mut l = full(false);
     l.used = 1270;
-    l.stages = 1;
-    l.sheet = strip();
+    l.settings = Settings {
+        stages: 1,
+        sheet: strip(),
+    };
     l
 }
 

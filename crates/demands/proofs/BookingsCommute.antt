@@ -46,7 +46,7 @@ module _ (l : Layout) (x : ℕ) (p : PartType) (r : Rotation) (s : InsertionShap
   abbrev booking : Booking
   booking = bookingFor l x p r s
 
-  sound : Sound limit (l .stages) (l .sheet) (tree l)
+  sound : Sound limit (l .settings) (tree l)
   sound = can .sound .sound
 
   -- the free piece goes, and the nodes of the shape come
@@ -56,7 +56,7 @@ module _ (l : Layout) (x : ℕ) (p : PartType) (r : Rotation) (s : InsertionShap
         arith,
         done .next .sound .held,
         ap count (done .next .tree),
-        count-book limit (l .stages) (l .sheet) (tree l) x (pieceAt l x) booking sound (can .there) (can .free),
+        count-book limit (l .settings) (tree l) x (pieceAt l x) booking sound (can .there) (can .free),
         can .sound .held,
       )
 
@@ -78,16 +78,16 @@ module _ (l : Layout) (x : ℕ) (p : PartType) (r : Rotation) (s : InsertionShap
 
 -- what may be booked in a piece may be booked there in another layout where the same piece stands, with room for the nodes and the serials
 same-insertable : (l k : Layout) (x : ℕ) (p : PartType) (r : Rotation) (s : InsertionShape) → Insertable l x p r s → Sized k → SoundLayout k
-    → At x (pieceAt k x) (tree k) → pieceAt k x ≡ pieceAt l x → k .stages ≡ l .stages → k .held - 1 + newNodes s ≤ limit
+    → At x (pieceAt k x) (tree k) → pieceAt k x ≡ pieceAt l x → k .settings ≡ l .settings → k .held - 1 + newNodes s ≤ limit
     → k .serial + newNodes s ≤ maxSerial → Insertable k x p r s
-same-insertable l k x p r s can sized sound there piece stages room spent =
+same-insertable l k x p r s can sized sound there piece settings room spent =
     record {
       sized = sized;
       sound = sound;
       there = there;
       free = rw piece (can .free);
       part = can .part;
-      offered = rw (piece, stages) (can .offered);
+      offered = rw (piece, settings) (can .offered);
       room = room;
       spent = spent;
     }
@@ -128,7 +128,7 @@ module _ (l : Layout) (sized : Sized l)
   other-first : Insertable l y p′ r′ s′
   other-first =
       same-insertable (a .layout) l y p′ r′ s′ (j .insertable) sized (i .insertable .sound) (named .there)
-      (sym (piece-now leaves y (pieceAt l y) second-left)) (sym (i .done .next .stages))
+      (sym (piece-now leaves y (pieceAt l y) second-left)) (sym (i .done .next .settings))
       (omega (arith, j .insertable .room, more, new-some s)) (omega (arith, j .insertable .spent, i .done .next .serial))
 
   -- it was, and gave c
@@ -152,7 +152,7 @@ module _ (l : Layout) (sized : Sized l)
     then-first =
         let n = k .done .next in
         same-insertable l (c .layout) x p r s (i .insertable) (n .sized) (n .sound) (names .there) (piece-now leaves′ x (pieceAt l x) first-left)
-        (n .stages)
+        (n .settings)
         (omega (arith, j .insertable .room, more, new-some s, held-after l y p′ r′ s′ (k .insertable) c (k .done), new-some s′))
         (omega (arith, j .insertable .spent, i .done .next .serial, n .serial))
 

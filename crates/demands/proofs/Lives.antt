@@ -7,13 +7,12 @@ use mathlib.Core.Logic.{_⊎_, inl, inr, ⊎-elim}
 use Prim.Native.Nat.{ℕ, _≤_, _<_}
 use native.Mathlib.Omega.{arith}
 use lib.ListN.{List·getD-eq-default}
-use Rattle.piece.specs.declared.size.Size.{Size}
-use Rattle.piece.specs.declared.orientation.Orientation.{Orientation}
 use Rattle.piece.specs.declared.rotation.Rotation.{Rotation}
 use Rattle.piece.specs.declared.parttype.PartType.{PartType}
 use Rattle.piece.specs.declared.node.Datum.{Datum}
 use Rattle.piece.specs.declared.insertion_blueprint.InsertionShape.{InsertionShape}
 use Rattle.tree.specs.Tree.{Tree, At}
+use Rattle.piece.specs.declared.settings.Opening.{Opening}
 use Rattle.tree.specs.Family.{parentOf}
 use Rattle.tree.proofs.Bookings.{at-unique}
 use Rattle.tree.proofs.Parents.{SameParent}
@@ -21,7 +20,7 @@ use Rattle.table.specs.declared.Node.{Node}
 use Rattle.table.specs.Table.{zeroDatum, zeroNode}
 use Rattle.answers.specs.declared.Mark.{Mark}
 use Rattle.layout.specs.declared.layout.Layout.{Layout}
-use Rattle.layout.specs.declared.open.Opening.the-variants as opening
+use Rattle.layout.specs.declared.open.OpenOutcome.the-variants as opening
 use Rattle.layout.specs.declared.insert.Inserted.{Inserted}
 use Rattle.layout.specs.declared.remove.Removed.{Removed}
 use Rattle.layout.specs.Check.{limit, tree}
@@ -208,12 +207,12 @@ run-one (next {n} {l = m} {ls} run step) k l a b i j d e y z s = go (run-one run
 
 -- ---- every life is such a run
 
-open-right : (number : ℕ) (size : Size) (cut : Orientation) (stages : ℕ) (m : Mark)
-    → openOf number size cut stages .outcome ≡ opening.Free m
-    → Right (openOf number size cut stages .layout)
-open-right number size cut stages m e =
-    let o = opened-so number size cut stages m e in
-    rw (o .1) (record { sound = fresh-sound size cut number stages (o .0); sized = fresh-sized size cut number stages })
+open-right : (o : Opening) (m : Mark)
+    → openOf o .outcome ≡ opening.Free m
+    → Right (openOf o .layout)
+open-right o m e =
+    let z = opened-so o m e in
+    rw (z .1) (record { sound = fresh-sound o (z .0); sized = fresh-sized o })
 
 -- l is the newest of the states l ∷ ls
 module _ {l : Layout} {ls : List Layout} (run : Run (l ∷ ls)) where
@@ -240,7 +239,7 @@ module _ {l : Layout} {ls : List Layout} (run : Run (l ∷ ls)) where
       (λ z. rw (z .is) (restore-step l (l ∷ ls) right (inl refl) s (run-right run s o) o (run-number run s l o (inl refl)))) (restored-so l s)
 
 life-run : {ls : List Layout} → Life ls → Run ls
-life-run (opened number size cut stages m e) = start (open-right number size cut stages m e)
+life-run (opened o m e) = start (open-right o m e)
 life-run (inserted l ls life m p r s a says) = let run = life-run life in next run (inserts run m p r s a says)
 life-run (removed l ls life m room a says) = let run = life-run life in next run (removes run m room a says)
 life-run (restored l ls life s o) = let run = life-run life in next run (restores run s o)

@@ -10,7 +10,7 @@ use Rattle.demands.proofs.Marks.{later-both}
 use Rattle.demands.proofs.MarksNamed.{open-mark-names, insert-marks-name, remove-mark-names, free-position-names, removable-position-names}
 
 pub named : {k : Layout} {m : Mark} → Sized k → SoundLayout k → Given k m → Names k m
-named sized sound (byOpen number size cut stages m h) = open-mark-names number size cut stages m h .names
+named sized sound (byOpen o m h) = open-mark-names o m h .names
 named sized sound (byInsertFirst l n p r s a w h d) = insert-marks-name l n p r s a w h d .first
 named sized sound (byInsertPart l n p r s a w h d) = insert-marks-name l n p r s a w h d .part .names
 named sized sound (byInsertFree l n p r s a w h d m i) = insert-marks-name l n p r s a w h d .frees m i .names

@@ -18,6 +18,7 @@ use Rattle.piece.specs.declared.node.Kind.{Kind}
 use Rattle.piece.specs.declared.node.Kind.the-variants.{Free, Part, Structure}
 use Rattle.piece.specs.declared.insertion_blueprint.InsertionShape.{InsertionShape}
 use Rattle.lists.proofs.Scan.{clash}
+use Rattle.piece.specs.declared.settings.Opening.{Opening}
 use Rattle.tree.specs.Tree.{Tree, At, isFree, isPart}
 use Rattle.tree.specs.Open.{firstFree}
 use Rattle.tree.specs.Booking.{Booking, block}
@@ -31,7 +32,7 @@ use Rattle.removal.specs.Remove.{newFree}
 use Rattle.removal.proofs.Pieces.{new-there}
 use Rattle.removal.proofs.Serials.{new-serial, new-free}
 use Rattle.layout.specs.declared.layout.Layout.{Layout}
-use Rattle.layout.specs.declared.open.Opening.the-variants as opening
+use Rattle.layout.specs.declared.open.OpenOutcome.the-variants as opening
 use Rattle.layout.specs.declared.replies.Outcome.the-variants.{Done}
 use Rattle.layout.specs.declared.insert.Inserted.{Inserted}
 use Rattle.layout.specs.declared.remove.Removed.{Removed}
@@ -71,15 +72,15 @@ module _ (l : Layout) (sound : SoundLayout l) (m : Mark) (d : Datum) (number : m
 
 -- ---- the opening
 
-pub open-mark-names : (number : ℕ) (size : Size) (cut : Orientation) (stages : ℕ) (m : Mark)
-    → openOf number size cut stages .outcome ≡ opening.Free m → NamesKind Free (openOf number size cut stages .layout) m
+pub open-mark-names : (o : Opening) (m : Mark)
+    → openOf o .outcome ≡ opening.Free m → NamesKind Free (openOf o .layout) m
 unfolding freshLayout
-open-mark-names number size cut stages m h =
-    let o = opened-so number size cut stages m h in
-    let l = freshLayout number size cut stages in
-    let there : At 1 (firstFree cut size) (tree l) = rw (fresh-tree size cut number stages) (inr (inl (inl (refl, refl)))) in
-    rw (o .1, o .2)
-    (kind-named l (fresh-sound size cut number stages (o .0)) (record { layout = number; place = 1; serial = 2 }) (firstFree cut size) refl
+open-mark-names o m h =
+    let z = opened-so o m h in
+    let l = freshLayout o in
+    let there : At 1 (firstFree o) (tree l) = rw (fresh-tree o) (inr (inl (inl (refl, refl)))) in
+    rw (z .1, z .2)
+    (kind-named l (fresh-sound o (z .0)) (record { layout = o .number; place = 1; serial = 2 }) (firstFree o) refl
     there refl Free refl)
 
 -- ---- insert
@@ -110,7 +111,7 @@ module _ (l : Layout) (x : ℕ) (p : PartType) (r : Rotation) (s : InsertionShap
     here : At (k .place) (o .piece) (tree (a .layout))
     here =
         rw (done .next .tree)
-        (book-new limit (l .stages) (l .sheet) (tree l) (can .sound .sound) x (pieceAt l x) (can .there) (can .free) b (k .place)
+        (book-new limit (l .settings) (tree l) (can .sound .sound) x (pieceAt l x) (can .there) (can .free) b (k .place)
         (o .piece) (o .there))
 
     number : k .layout ≡ a .layout .number
@@ -157,7 +158,7 @@ remove-mark-names l m room a sized says answer =
     let e = newFree (l .nodes) (m .place) (l .serial) in
     let there : At n e (tree (a .layout)) =
     rw (done .next .tree)
-    (new-there limit (l .stages) (l .sheet) (l .nodes) (tree l) (can .sound .sound) (can .sound .holds) (m .place)
+    (new-there limit (l .settings) (l .nodes) (tree l) (can .sound .sound) (can .sound .holds) (m .place)
     (can .removable) n (l .serial))
     in
     rw (done .free)

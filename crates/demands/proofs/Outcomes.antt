@@ -11,13 +11,12 @@ use native.Mathlib.Omega.{arith}
 use lib.Dec.{eqb, leb}
 use lib.ListN.{length}
 use borrow.Author.Tests.{eqb-true, leb-true}
-use Rattle.piece.specs.declared.size.Size.{Size}
-use Rattle.piece.specs.declared.orientation.Orientation.{Orientation}
 use Rattle.piece.specs.declared.rotation.Rotation.{Rotation}
 use Rattle.piece.specs.declared.parttype.PartType.{PartType}
 use Rattle.piece.specs.declared.node.Datum.{Datum}
 use Rattle.piece.specs.declared.insertion_blueprint.InsertionShape.{InsertionShape}
 use Rattle.piece.specs.Offers.{fits, turned}
+use Rattle.piece.specs.declared.settings.Opening.{Opening}
 use Rattle.lists.proofs.Scan.{clash}
 use Rattle.tree.specs.Accepted.{Fresh}
 use Rattle.tree.proofs.Family.{fresh-booking}
@@ -26,7 +25,7 @@ use Rattle.answers.specs.declared.Refusal.{Refusal}
 use Rattle.answers.specs.declared.Refusal.the-variants.{BufferTooShort}
 use Rattle.booking.proofs.Offering.{offered-says}
 use Rattle.layout.specs.declared.layout.Layout.{Layout}
-use Rattle.layout.specs.declared.open.Opening.the-variants as opening
+use Rattle.layout.specs.declared.open.OpenOutcome.the-variants as opening
 use Rattle.layout.specs.declared.replies.Outcome.the-variants.{Done}
 use Rattle.layout.specs.declared.insert.Inserted.{Inserted}
 use Rattle.layout.specs.declared.remove.Removed.{Removed}
@@ -48,16 +47,16 @@ use Rattle.demands.specs.Calls.{InsertAccepted, RemoveAccepted}
 -- ---- the opening
 
 -- it was accepted: the layout is the fresh one, and the mark that of its free piece
-pub opened-so : (number : ℕ) (size : Size) (cut : Orientation) (stages : ℕ) (m : Mark)
-    → openOf number size cut stages .outcome ≡ opening.Free m
-    → (domainB stages size ≡ true) × (openOf number size cut stages .layout ≡ freshLayout number size cut stages)
-    × (m ≡ record { layout = number; place = 1; serial = 2 })
+pub opened-so : (o : Opening) (m : Mark)
+    → openOf o .outcome ≡ opening.Free m
+    → (domainB (o .settings) ≡ true) × (openOf o .layout ≡ freshLayout o)
+    × (m ≡ record { layout = o .number; place = 1; serial = 2 })
 unfolding openOf
-opened-so number size cut stages m h = go (domainB stages size) refl
+opened-so o m h = go (domainB (o .settings)) refl
   where
-    go : (b : Bool) → domainB stages size ≡ b
-        → (domainB stages size ≡ true) × (openOf number size cut stages .layout ≡ freshLayout number size cut stages)
-        × (m ≡ record { layout = number; place = 1; serial = 2 })
+    go : (b : Bool) → domainB (o .settings) ≡ b
+        → (domainB (o .settings) ≡ true) × (openOf o .layout ≡ freshLayout o)
+        × (m ≡ record { layout = o .number; place = 1; serial = 2 })
     go true e = let z = rw e at h in (e, rw e refl, cc)
     go false e = let z = rw e at h in absurd (clash (cc))
 

@@ -120,7 +120,7 @@ module _ (l : Layout) (sized : Sized l)
   first-left : At x (pieceAt l x) (cleared y (tree l))
   first-left =
       rw first-is
-      (at-cleared (l .stages) (l .sheet) y x (o .piece) (tree l) (i .takeable .sound .sound .topped) (q .below) (o .solid) apart outside (o .there))
+      (at-cleared (l .settings) y x (o .piece) (tree l) (i .takeable .sound .sound .topped) (q .below) (o .solid) apart outside (o .there))
 
   -- it was, and gave c
   module _ (other : RemoveAccepted l m′ room′ c) where

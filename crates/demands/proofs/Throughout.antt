@@ -5,8 +5,7 @@ use mathlib.Core.Path.{_≡_, refl, ap, _∙_}
 use mathlib.Core.List.{List, _∷_}
 use mathlib.Core.Logic.{inl, inr, ⊎-elim}
 use Prim.Native.Nat.{ℕ}
-use Rattle.piece.specs.declared.size.Size.{Size}
-use Rattle.piece.specs.declared.orientation.Orientation.{Orientation}
+use Rattle.piece.specs.declared.settings.Opening.{Opening}
 use Rattle.tree.specs.Tree.{Tree}
 use Rattle.layout.specs.declared.layout.Layout.{Layout}
 use Rattle.layout.specs.SoundLayout.{Sized}
@@ -18,23 +17,22 @@ use Rattle.demands.proofs.Lives.{states-sound}
 use Rattle.demands.proofs.Outcomes.{opened-so, inserted-so, removed-so, restored-so}
 use Rattle.demands.proofs.Areas.{sound-covers}
 
-fresh-stock : (number : ℕ) (size : Size) (cut : Orientation) (stages : ℕ)
-    → stock (freshLayout number size cut stages) ≡ record { number = number; sheet = size; stages = stages }
+fresh-stock : (o : Opening) → stock (freshLayout o) ≡ record { number = o .number; settings = o .settings }
 unfolding freshLayout
-fresh-stock number size cut stages = refl
+fresh-stock o = refl
 
--- an accepted call leaves the three as they were
+-- an accepted call leaves the two as they were
 next-stock : {l n : Layout} {w : Tree} {ys : List ℕ} {last : ℕ} → Next l w ys last n → stock n ≡ stock l
-next-stock h i = record { number = h .number i; sheet = h .sheet i; stages = h .stages i }
+next-stock h i = record { number = h .number i; settings = h .settings i }
 
 -- the newest state's arrays are as long as their type says
 newest-sized : {l : Layout} {ls : List Layout} → Life (l ∷ ls) → Sized l
 newest-sized {l} life = states-sound life l (inl refl) .1
 
 pub stock-stays : {ls : List Layout} (life : Life ls) (l : Layout) → OneOf l ls → stock l ≡ openedOn life
-stock-stays (opened number size cut stages m h) l (inl e) =
-    ap stock (e ∙ opened-so number size cut stages m h .1) ∙ fresh-stock number size cut stages
-stock-stays (opened number size cut stages m h) l (inr o) = absurd o
+stock-stays (opened o m h) l (inl e) =
+    ap stock (e ∙ opened-so o m h .1) ∙ fresh-stock o
+stock-stays (opened o m h) l (inr z) = absurd z
 stock-stays (inserted k ks life m p r s a says) l (inl e) =
     ap stock e
     ∙ ⊎-elim (ap stock) (λ z. next-stock (z .1 .next)) (inserted-so k m p r s a (newest-sized life) says)
@@ -51,8 +49,8 @@ stock-stays (restored k ks life s o) l (inl e) =
 stock-stays (restored k ks life s o) l (inr q) = stock-stays life l q
 
 pub throughout : {ls : List Layout} (life : Life ls) (l : Layout) → OneOf l ls
-    → (stock l ≡ openedOn life) × AreasCover l (openedOn life .sheet)
+    → (stock l ≡ openedOn life) × AreasCover l (openedOn life .settings .sheet)
 throughout life l o =
     let h = states-sound life l o in
     let same = stock-stays life l o in
-    (same, sound-covers l (openedOn life .sheet) (h .1) (h .0) (ap (λ (x : Stock). x .sheet) same))
+    (same, sound-covers l (openedOn life .settings .sheet) (h .1) (h .0) (ap (λ (x : Stock). x .settings .sheet) same))

@@ -6,8 +6,8 @@
 use mathlib.Core.Path.{_≡_}
 use mathlib.Core.Bool.{Bool}
 use Prim.Native.Nat.{ℕ}
-use Rattle.piece.specs.declared.size.Size.{Size}
 use Rattle.piece.specs.declared.parttype.PartType.{PartType}
+use Rattle.piece.specs.declared.settings.Settings.{Settings}
 use Rattle.layout.specs.Check.{domainB, sideB}
 use Rattle.layout.specs.Asked.{partB}
 pub use Rattle.layout.proofs.Determined.{open-is-one, insert-is-one, remove-is-one, remove-leaves-one, restore-is-one, zero-is-one}
@@ -23,8 +23,8 @@ pub use Rattle.session.proofs.Decided.{replies-once, keeps-once, restores-once,
 pub side-ok-is-one : (side : ℕ) (a b : Bool) → a ≡ sideB side → b ≡ sideB side → a ≡ b
 side-ok-is-one side = only
 
-pub domain-ok-is-one : (stages : ℕ) (sheet : Size) (a b : Bool) → a ≡ domainB stages sheet → b ≡ domainB stages sheet → a ≡ b
-domain-ok-is-one stages sheet = only
+pub domain-ok-is-one : (settings : Settings) (a b : Bool) → a ≡ domainB settings → b ≡ domainB settings → a ≡ b
+domain-ok-is-one settings = only
 
 pub part-ok-is-one : (p : PartType) (a b : Bool) → a ≡ partB p → b ≡ partB p → a ≡ b
 part-ok-is-one p = only

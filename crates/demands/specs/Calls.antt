@@ -3,16 +3,16 @@
 use mathlib.Core.Path.{_≡_}
 use Prim.Native.Nat.{ℕ, _+_}
 use Rattle.piece.specs.declared.size.Size.{Size}
-use Rattle.piece.specs.declared.orientation.Orientation.{Orientation}
 use Rattle.piece.specs.declared.rotation.Rotation.{Rotation}
 use Rattle.piece.specs.declared.parttype.PartType.{PartType}
 use Rattle.piece.specs.declared.insertion_blueprint.InsertionShape.{InsertionShape}
+use Rattle.piece.specs.declared.settings.Opening.{Opening}
 use Rattle.piece.specs.Sides.{area}
 use Rattle.tree.specs.Figures.{partArea, freeArea}
 use Rattle.answers.specs.declared.Mark.{Mark}
 use Rattle.layout.specs.declared.layout.Layout.{Layout}
 use Rattle.layout.specs.declared.open.Opened.{Opened}
-use Rattle.layout.specs.declared.open.Opening.the-variants.{Free}
+use Rattle.layout.specs.declared.open.OpenOutcome.the-variants.{Free}
 use Rattle.layout.specs.declared.insert.Inserted.{Inserted}
 use Rattle.layout.specs.declared.remove.Removed.{Removed}
 use Rattle.layout.specs.declared.restore.Restored.{Restored}
@@ -42,8 +42,8 @@ pub record RestoreAccepted (l k : Layout) (a : Restored) : Type 0 where
   pub done : a .outcome ≡ Done
 
 -- `open` of a sheet; m is the mark of its free piece
-pub record OpenAccepted (number : ℕ) (sheet : Size) (cut : Orientation) (stages : ℕ) (m : Mark) (a : Opened) : Type 0 where
-  pub says : a ≡ openOf number sheet cut stages
+pub record OpenAccepted (o : Opening) (m : Mark) (a : Opened) : Type 0 where
+  pub says : a ≡ openOf o
   pub done : a .outcome ≡ Free m
 
 -- "Same tree means that the tree snapshots (below) agree in every byte": the bytes that the call `snapshot` hands out

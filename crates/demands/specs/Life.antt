@@ -9,17 +9,17 @@ use mathlib.Core.List.{List, [], _∷_, List·Memᴰ}
 use mathlib.Core.Logic.{_⊎_}
 use Prim.Native.Nat.{ℕ}
 use lib.ListN.{take}
-use Rattle.piece.specs.declared.size.Size.{Size}
-use Rattle.piece.specs.declared.orientation.Orientation.{Orientation}
 use Rattle.piece.specs.declared.rotation.Rotation.{Rotation}
 use Rattle.piece.specs.declared.parttype.PartType.{PartType}
 use Rattle.piece.specs.declared.node.Datum.{Datum}
 use Rattle.piece.specs.declared.insertion_blueprint.InsertionShape.{InsertionShape}
+use Rattle.piece.specs.declared.settings.Opening.{Opening}
+use Rattle.piece.specs.declared.settings.Settings.{Settings}
 use Rattle.tree.specs.Tree.{At}
 use Rattle.tree.specs.Family.{parentOf}
 use Rattle.answers.specs.declared.Mark.{Mark}
 use Rattle.layout.specs.declared.layout.Layout.{Layout}
-use Rattle.layout.specs.declared.open.Opening.the-variants.{Free}
+use Rattle.layout.specs.declared.open.OpenOutcome.the-variants.{Free}
 use Rattle.layout.specs.declared.replies.Outcome.the-variants.{Done}
 use Rattle.layout.specs.declared.insert.Inserted.{Inserted}
 use Rattle.layout.specs.declared.remove.Removed.{Removed}
@@ -38,8 +38,8 @@ OneOf l [] = ⊥
 OneOf l (k ∷ ks) = (l ≡ k) ⊎ OneOf l ks
 
 pub data Life : List Layout → Type 0 where
-  opened : (number : ℕ) (size : Size) (cut : Orientation) (stages : ℕ) (m : Mark) → openOf number size cut stages .outcome ≡ Free m
-      → Life (openOf number size cut stages .layout ∷ [])
+  opened : (o : Opening) (m : Mark) → openOf o .outcome ≡ Free m
+      → Life (openOf o .layout ∷ [])
   inserted : (l : Layout) (ls : List Layout) → Life (l ∷ ls) → (m : Mark) (p : PartType) (r : Rotation) (s : InsertionShape) (a : Inserted)
       → InsertSays l m p r s a → Life (a .layout ∷ l ∷ ls)
   removed : (l : Layout) (ls : List Layout) → Life (l ∷ ls) → (m : Mark) (room : ℕ) (a : Removed) → RemoveSays l m room a
@@ -49,19 +49,18 @@ pub data Life : List Layout → Type 0 where
 -- the stock sheet that a layout is of: what stays of it as long as it lives
 pub record Stock : Type 0 where
   pub number : ℕ
-  pub sheet : Size
-  pub stages : ℕ
+  pub settings : Settings
 
 -- what the life's one opening was asked for
 abbrev pub openedOn : {ls : List Layout} → Life ls → Stock
-openedOn (opened number size cut stages m h) = record { number = number; sheet = size; stages = stages }
+openedOn (opened o m h) = record { number = o .number; settings = o .settings }
 openedOn (inserted l ls life m p r s a h) = openedOn life
 openedOn (removed l ls life m room a h) = openedOn life
 openedOn (restored l ls life s o) = openedOn life
 
 -- as a layout has it
 abbrev pub stock : Layout → Stock
-stock l = record { number = l .number; sheet = l .sheet; stages = l .stages }
+stock l = record { number = l .number; settings = l .settings }
 
 -- the state l came later than k in the life, or is k
 abbrev pub Later : Layout → Layout → List Layout → Type 0
@@ -82,8 +81,8 @@ pub record SamePiece (k l : Layout) (m : Mark) : Type 0 where
 
 -- the mark m was answered by a call that gave the state l, or that was asked in it: every way to get a mark. (Sized is what the type of a layout says.)
 pub data Given : Layout → Mark → Type 0 where
-  byOpen : (number : ℕ) (size : Size) (cut : Orientation) (stages : ℕ) (m : Mark) → openOf number size cut stages .outcome ≡ Free m
-      → Given (openOf number size cut stages .layout) m
+  byOpen : (o : Opening) (m : Mark) → openOf o .outcome ≡ Free m
+      → Given (openOf o .layout) m
   byInsertFirst : (l : Layout) (m : Mark) (p : PartType) (r : Rotation) (s : InsertionShape) (a : Inserted) → Sized l → InsertSays l m p r s a
       → a .outcome ≡ Done → Given (a .layout) (a .marks .first)
   byInsertPart : (l : Layout) (m : Mark) (p : PartType) (r : Rotation) (s : InsertionShape) (a : Inserted) → Sized l → InsertSays l m p r s a

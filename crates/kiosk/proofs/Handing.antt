@@ -94,7 +94,7 @@ hands-out r vs g before after len at answers leaves =
 -- parts and free pieces of the tree
 pub handed-sawn : (r : LayoutRecord) → Sized (layoutOf r) → (before after : List ℕ) (count : ℕ) → length before ≡ 9 * limit
     → soundB (layoutOf r) ≡ true → Handed r before after count
-    → saw (readCuts (take count after)) (layoutOf r .sheet ∷ []) ≡ some (boards (tree (layoutOf r)))
+    → saw (readCuts (take count after)) (layoutOf r .settings .sheet ∷ []) ≡ some (boards (tree (layoutOf r)))
 handed-sawn r sized before after count len sound h =
     let l = layoutOf r in
     let s = sound-says l sized sound in

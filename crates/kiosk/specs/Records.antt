@@ -109,8 +109,7 @@ fieldsOf r =
       used = r .used;
       serial = r .serial;
       number = r .number;
-      stages = r .stages;
-      sheet = sized (r .width) (r .height);
+      settings = record { stages = r .stages; sheet = sized (r .width) (r .height) };
     }
 
 -- the layout that a record stands for
@@ -160,9 +159,9 @@ layoutRecord l =
       used = l .used;
       serial = l .serial;
       number = l .number;
-      stages = l .stages;
-      width = l .sheet .width;
-      height = l .sheet .height;
+      stages = l .settings .stages;
+      width = l .settings .sheet .width;
+      height = l .settings .sheet .height;
     }
 
 abbrev pub recordOf : Session → SessionRecord

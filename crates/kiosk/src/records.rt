@@ -1,6 +1,6 @@
 // A session as plain numbers: records that a program in C or Rust can hold and lend. Each stands for the struct of its name (Datum, Node, Layout,
-// Session), field by field in its order, so that both have one layout in memory; a kind and a cut are their numbers in snapshots (document 01, "Tree
-// snapshot"), and a record with another one is read as zeros, which aren't sound. Rests on those structs.
+// Session), field by field in its order, sizes and settings as the numbers in them, so that nodes have one layout in memory; a kind and a cut are their
+// numbers in snapshots (document 01, "Tree snapshot"), and a record with another one is read as zeros, which aren't sound. Rests on those structs.
 ghost use mathlib.Core.Path.{_≡_};
 ghost use lib.ListN.{replicate};
 ghost use Rattle.lists.specs.Lists.{limit};
@@ -11,6 +11,7 @@ use layout::layout::Layout;
 use piece::node::Datum;
 use piece::node::Kind;
 use piece::orientation::Orientation;
+use piece::settings::Settings;
 use piece::size::Size;
 use sound::columns::kind_number;
 use table::LIMIT;
@@ -163,10 +164,12 @@ fn fields_of(given: LayoutRecord) -> Layout
         used: given.used,
         serial: given.serial,
         number: given.number,
-        stages: given.stages,
-        sheet: Size {
-            width: given.width,
-            height: given.height,
+        settings: Settings {
+            stages: given.stages,
+            sheet: Size {
+                width: given.width,
+                height: given.height,
+            },
         },
     }
 }
@@ -262,8 +265,8 @@ pub fn layout_record(l: Layout) -> LayoutRecord
         used: l.used,
         serial: l.serial,
         number: l.number,
-        stages: l.stages,
-        width: l.sheet.width,
-        height: l.sheet.height,
+        stages: l.settings.stages,
+        width: l.settings.sheet.width,
+        height: l.settings.sheet.height,
     }
 }

@@ -10,8 +10,8 @@ use lib.IntN.{pos}
 use lib.Ieee.{binary64, inFloat}
 use lib.ListN.{List·getD-eq-default}
 use borrow.Author.Tests.{ltb-true, ltb-false}
-use Rattle.piece.specs.declared.size.Size.{Size}
 use Rattle.piece.specs.declared.node.Datum.{Datum}
+use Rattle.piece.specs.declared.settings.Settings.{Settings}
 use Rattle.piece.specs.Sides.{area}
 use Rattle.piece.specs.Row.{nil, grow}
 use Rattle.piece.proofs.Sizes.{area-small}
@@ -74,15 +74,15 @@ place-small t w h each i =
 -- ---- the top
 
 -- the top is a structure
-top-kept : (stages : ℕ) (sheet : Size) (w : Tree) → Topped stages sheet w → allFree w ≡ false
-top-kept stages sheet nil h = absurd h
-top-kept stages sheet (grow p d k r) h = rw (h .0 .kind) refl
+top-kept : (settings : Settings) (w : Tree) → Topped settings w → allFree w ≡ false
+top-kept settings nil h = absurd h
+top-kept settings (grow p d k r) h = rw (h .0 .kind) refl
 
 -- the tree usage of the top, as the walk finds it from the place 0 with enough fuel
-top-usage : (stages : ℕ) (sheet : Size) (t : List Node) (w : Tree) → Topped stages sheet w → Holds limit t w → (left : ℕ) → count w ≤ left
+top-usage : (settings : Settings) (t : List Node) (w : Tree) → Topped settings w → Holds limit t w → (left : ℕ) → count w ≤ left
     → usageIn limit t left 0 ≡ treeUsage w
-top-usage stages sheet t nil h holds left b = absurd h
-top-usage stages sheet t (grow p d k r) h holds left b =
+top-usage settings t nil h holds left b = absurd h
+top-usage settings t (grow p d k r) h holds left b =
     let alone : Holds limit t (grow p d k nil) = rw (h .0 .alone) at holds in
     let fuel : count (grow p d k nil) ≤ left = omega arith in
     ap (λ (x : ℕ). usageIn limit t left x) (sym (h .0 .place)) ∙ usage-top limit t p d k left alone fuel
@@ -96,7 +96,7 @@ module _ (l : Layout) (s : SoundLayout l) where
 
   -- "`is_empty` is no on every sound layout"
   pub never-empty : allFree (tree l) ≡ false
-  never-empty = top-kept (l .stages) (l .sheet) (tree l) (s .sound .topped)
+  never-empty = top-kept (l .settings) (tree l) (s .sound .topped)
 
   -- over the columns of the table
   module _ (c : Columns) (e : c ≡ columnsOf (l .nodes)) where
@@ -112,4 +112,4 @@ module _ (l : Layout) (s : SoundLayout l) where
     -- the walk from the top, with the nodes held as fuel
     pub usage-is : usageOf limit (c .first) (c .next) (c .kind) (c .area) (l .held) 0 ≡ treeUsage (tree l)
     usage-is =
-        rw e (top-usage (l .stages) (l .sheet) (l .nodes) (tree l) (s .sound .topped) (s .holds) (l .held) (omega (arith, s .held)))
+        rw e (top-usage (l .settings) (l .nodes) (tree l) (s .sound .topped) (s .holds) (l .held) (omega (arith, s .held)))

@@ -33,7 +33,7 @@ module _ (l : Layout) (sized : Sized l) (s : SoundLayout l) where
   unfolding freeAreaOf
   free-answer = rw yes refl
 
-  sheet-answer : sheetUsageOf l ≡ Usage (sheetUsage (partArea (tree l)) (area (l .sheet)))
+  sheet-answer : sheetUsageOf l ≡ Usage (sheetUsage (partArea (tree l)) (area (l .settings .sheet)))
   unfolding sheetUsageOf
   sheet-answer = rw yes refl
 
@@ -44,7 +44,7 @@ module _ (l : Layout) (sized : Sized l) (s : SoundLayout l) where
   -- ---- what they say of each other
 
   -- the parts and the free pieces cover the sheet
-  pub areas-cover : (used free : ℕ) → usedAreaOf l ≡ Area used → freeAreaOf l ≡ Area free → used + free ≡ area (l .sheet)
+  pub areas-cover : (used free : ℕ) → usedAreaOf l ≡ Area used → freeAreaOf l ≡ Area free → used + free ≡ area (l .settings .sheet)
   areas-cover used free e f =
       let a = used-answer in
       let b = free-answer in

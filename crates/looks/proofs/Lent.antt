@@ -9,7 +9,7 @@ use native.Mathlib.Omega.{arith}
 use lib.ListN.{length}
 use lib.Seq.{sets}
 use borrow.Author.Tests.{eq-eqb, le-leb, lt-leb}
-use Rattle.piece.specs.declared.size.Size.{Size}
+use Rattle.piece.specs.declared.settings.Settings.{Settings}
 use Rattle.piece.specs.Row.{nil, grow}
 use Rattle.tree.specs.Tree.{Tree, In}
 use Rattle.tree.specs.Sound.{Sound}
@@ -51,11 +51,11 @@ module _ (l : Layout) (what before : List ℕ) where
 -- ---- the snapshot
 
 -- a sound tree is the subtree at place 0
-top-in : {limit stages : ℕ} {sheet : Size} (w : Tree) → Sound limit stages sheet w → In 0 w
+top-in : {limit : ℕ} {settings : Settings} (w : Tree) → Sound limit settings w → In 0 w
 top-in nil s = absurd (s .topped)
 top-in (grow p d k r) s = inl (sym (s .topped .0 .place))
 
-top-whole : {limit stages : ℕ} {sheet : Size} (w : Tree) → Sound limit stages sheet w → subtree 0 w ≡ w
+top-whole : {limit : ℕ} {settings : Settings} (w : Tree) → Sound limit settings w → subtree 0 w ≡ w
 top-whole nil s = absurd (s .topped)
 top-whole (grow p d k r) s = rw (eq-eqb p 0 (s .topped .0 .place), s .topped .0 .alone) refl
 

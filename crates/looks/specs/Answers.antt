@@ -49,7 +49,7 @@ nodesHeldOf l = cond (soundB l) (counts.Count (count (tree l))) (counts.Refused 
 
 unfoldable pub sheetUsageOf : Layout → UsageAnswer
 sheetUsageOf l =
-    cond (soundB l) (usages.Usage (sheetUsage (partArea (tree l)) (area (l .sheet)))) (usages.Refused NotSound)
+    cond (soundB l) (usages.Usage (sheetUsage (partArea (tree l)) (area (l .settings .sheet)))) (usages.Refused NotSound)
 
 unfoldable pub treeUsageOf : Layout → UsageAnswer
 treeUsageOf l = cond (soundB l) (usages.Usage (treeUsage (tree l))) (usages.Refused NotSound)
@@ -101,7 +101,7 @@ refusedOffers r = record { outcome = outcomes.Refused r; offers = noOffers }
 
 abbrev pub offeredFor : Layout → PartType → Sought → OffersAnswer
 offeredFor l p (sought.Refused r) = refusedOffers r
-offeredFor l p (sought.Piece d) = record { outcome = outcomes.Done; offers = held (offersOf d p (l .stages)) }
+offeredFor l p (sought.Piece d) = record { outcome = outcomes.Done; offers = held (offersOf d p (l .settings)) }
 
 unfoldable pub offersCall : Layout → Mark → PartType → OffersAnswer
 offersCall l m p = offeredFor l p (freePieceOf l m p)

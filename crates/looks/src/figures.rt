@@ -52,7 +52,7 @@ pub fn sheet_usage(layout: Layout) -> UsageAnswer
     if layout.sound() {} else {
         return UsageAnswer::Refused(Refusal::NotSound);
     }
-    let sheet = layout.sheet;
+    let sheet = layout.settings.sheet;
     let used = layout.used;
     let whole = sheet.area();
     UsageAnswer::Usage(used as f64 / whole as f64)

@@ -73,7 +73,7 @@ pub fn offers(layout: Layout, mark: Mark, part: PartType) -> OffersAnswer
         Sought::Refused(refusal) => refused_offers(refusal),
         Sought::Piece(d) => OffersAnswer {
             outcome: Outcome::Done,
-            offers: piece::insertion_option::offers(d, part, layout.stages),
+            offers: piece::insertion_option::offers(d, part, layout.settings),
         },
     }
 }

@@ -14,6 +14,7 @@ use Rattle.piece.specs.declared.node.Datum.{Datum}
 use Rattle.piece.specs.declared.parttype.PartType.{PartType}
 use Rattle.piece.specs.declared.rotation.Rotation.{Rotation}
 use Rattle.piece.specs.declared.rotation.Rotation.the-variants.{Default, Rotated}
+use Rattle.piece.specs.declared.settings.Settings.{Settings}
 use Rattle.piece.specs.Offers.{allowed, along, across, fits, held, inRotation, offersIn, offersOf, shapes, turned}
 use Rattle.piece.proofs.Sizes.{fits-sides}
 use Rattle.piece.proofs.Offered.{held-count}
@@ -66,7 +67,7 @@ unfolding shapes
 no-shape ac level stages h =
     simp (le-ltb level stages h, le-ltb (level + 1) stages (omega arith), and-false ac false refl)
 
-module _ (piece : Datum) (part : PartType) (stages : ℕ) (r : Rotation) where
+module _ (piece : Datum) (part : PartType) (settings : Settings) (r : Rotation) where
   -- the part as it would be cut
   abbrev cutAs : Size
   cutAs = turned r (part .size)
@@ -83,18 +84,18 @@ module _ (piece : Datum) (part : PartType) (stages : ℕ) (r : Rotation) where
   When TooWide = Allowed × (piece .size .width < cutAs .width) × (cutAs .height ≤ piece .size .height)
   When TooTall = Allowed × (cutAs .width ≤ piece .size .width) × (piece .size .height < cutAs .height)
   When TooWideAndTall = Allowed × (piece .size .width < cutAs .width) × (piece .size .height < cutAs .height)
-  When StagesUsedUp = Allowed × Fits × (along (piece .cut) (piece .size) cutAs ≡ false) × (stages ≤ piece .level)
-  When Offered = Allowed × Fits × ((along (piece .cut) (piece .size) cutAs ≡ true) ⊎ (piece .level < stages))
+  When StagesUsedUp = Allowed × Fits × (along (piece .cut) (piece .size) cutAs ≡ false) × (settings .stages ≤ piece .level)
+  When Offered = Allowed × Fits × ((along (piece .cut) (piece .size) cutAs ≡ true) ⊎ (piece .level < settings .stages))
 
   -- the reason that is given holds
-  holds : When (reasonIn piece part stages r)
+  holds : When (reasonIn piece part settings r)
   unfolding reasonIn
   holds =
       go (allowed (part .turn) r) refl (tooWide (piece .size) cutAs) refl (tooTall (piece .size) cutAs) refl
-      (along (piece .cut) (piece .size) cutAs) refl (leb stages (piece .level)) refl
+      (along (piece .cut) (piece .size) cutAs) refl (leb (settings .stages) (piece .level)) refl
     where
       go : (a : Bool) → allowed (part .turn) r ≡ a → (w : Bool) → tooWide (piece .size) cutAs ≡ w → (t : Bool) → tooTall (piece .size) cutAs ≡ t
-          → (al : Bool) → along (piece .cut) (piece .size) cutAs ≡ al → (n : Bool) → leb stages (piece .level) ≡ n → When (reasonOf a w t al n)
+          → (al : Bool) → along (piece .cut) (piece .size) cutAs ≡ al → (n : Bool) → leb (settings .stages) (piece .level) ≡ n → When (reasonOf a w t al n)
       go false a w ew t et al eal n en = a
       go true a true w true t al eal n en = (a, ltb-true _ _ w, ltb-true _ _ t)
       go true a true w false t al eal n en = (a, ltb-true _ _ w, ltb-false _ _ t)
@@ -104,7 +105,7 @@ module _ (piece : Datum) (part : PartType) (stages : ℕ) (r : Rotation) where
       go true a false w false t false al false n = (a, within (piece .size) cutAs w t, inr (leb-false _ _ n))
 
   -- and one that holds is given
-  given : (x : Reason) → When x → reasonIn piece part stages r ≡ x
+  given : (x : Reason) → When x → reasonIn piece part settings r ≡ x
   unfolding reasonIn
   given Forbidden a = rw a refl
   given TooWide (a, w, t) = rw (a, wide (piece .size) cutAs w, low (piece .size) cutAs t) refl
@@ -112,74 +113,74 @@ module _ (piece : Datum) (part : PartType) (stages : ℕ) (r : Rotation) where
   given TooWideAndTall (a, w, t) = rw (a, wide (piece .size) cutAs w, tall (piece .size) cutAs t) refl
   given StagesUsedUp (a, f, al, n) =
       let s = fits-sides (piece .size) cutAs f in
-      rw (a, narrow (piece .size) cutAs (s .0), low (piece .size) cutAs (s .1), al, le-leb stages (piece .level) n) refl
+      rw (a, narrow (piece .size) cutAs (s .0), low (piece .size) cutAs (s .1), al, le-leb (settings .stages) (piece .level) n) refl
   given Offered (a, f, k) =
       let s = fits-sides (piece .size) cutAs f in
       rw (a, narrow (piece .size) cutAs (s .0), low (piece .size) cutAs (s .1))
-      (⊎-elim (λ al. rw al refl) (λ n. rw (lt-leb stages (piece .level) n) (either (along (piece .cut) (piece .size) cutAs))) k)
+      (⊎-elim (λ al. rw al refl) (λ n. rw (lt-leb (settings .stages) (piece .level) n) (either (along (piece .cut) (piece .size) cutAs))) k)
     where
       either : (al : Bool) → cond (not al && false) StagesUsedUp Offered ≡ Offered
       either true = refl
       either false = refl
 
-  exactly : (x : Reason) → (reasonIn piece part stages r ≡ x) ↔ When x
+  exactly : (x : Reason) → (reasonIn piece part settings r ≡ x) ↔ When x
   exactly x = ((λ e. subst (λ (y : Reason). When y) e holds), given x)
 
   -- ---- "answer per rotation: turn forbidden, too wide, too tall, too wide and too tall, stages used up, or offered. Each is named exactly when it
   -- holds, forbidden first"
 
   -- "turn forbidden": whatever else holds
-  pub forbidden-exactly : (reasonIn piece part stages r ≡ Forbidden) ↔ (allowed (part .turn) r ≡ false)
+  pub forbidden-exactly : (reasonIn piece part settings r ≡ Forbidden) ↔ (allowed (part .turn) r ≡ false)
   forbidden-exactly = exactly Forbidden
 
   -- "too wide": and not too tall
-  pub too-wide-exactly : (reasonIn piece part stages r ≡ TooWide)
+  pub too-wide-exactly : (reasonIn piece part settings r ≡ TooWide)
       ↔ (Allowed × (piece .size .width < cutAs .width) × (cutAs .height ≤ piece .size .height))
   too-wide-exactly = exactly TooWide
 
   -- "too tall": and not too wide
-  pub too-tall-exactly : (reasonIn piece part stages r ≡ TooTall)
+  pub too-tall-exactly : (reasonIn piece part settings r ≡ TooTall)
       ↔ (Allowed × (cutAs .width ≤ piece .size .width) × (piece .size .height < cutAs .height))
   too-tall-exactly = exactly TooTall
 
   -- "too wide and too tall"
-  pub too-wide-and-tall-exactly : (reasonIn piece part stages r ≡ TooWideAndTall)
+  pub too-wide-and-tall-exactly : (reasonIn piece part settings r ≡ TooWideAndTall)
       ↔ (Allowed × (piece .size .width < cutAs .width) × (piece .size .height < cutAs .height))
   too-wide-and-tall-exactly = exactly TooWideAndTall
 
   -- `"stages used up" exactly when the part fits, isn't an along fit and the level has reached the stages`
-  pub stages-used-up-exactly : (reasonIn piece part stages r ≡ StagesUsedUp)
-      ↔ (Allowed × Fits × (along (piece .cut) (piece .size) cutAs ≡ false) × (stages ≤ piece .level))
+  pub stages-used-up-exactly : (reasonIn piece part settings r ≡ StagesUsedUp)
+      ↔ (Allowed × Fits × (along (piece .cut) (piece .size) cutAs ≡ false) × (settings .stages ≤ piece .level))
   stages-used-up-exactly = exactly StagesUsedUp
 
   -- "or offered"
-  pub offered-exactly : (reasonIn piece part stages r ≡ Offered)
-      ↔ (Allowed × Fits × ((along (piece .cut) (piece .size) cutAs ≡ true) ⊎ (piece .level < stages)))
+  pub offered-exactly : (reasonIn piece part settings r ≡ Offered)
+      ↔ (Allowed × Fits × ((along (piece .cut) (piece .size) cutAs ≡ true) ⊎ (piece .level < settings .stages)))
   offered-exactly = exactly Offered
 
   -- ---- a reason says offered exactly where the rotation has an offer
 
-  has-offer : When Offered → 0 < length (offersIn piece part stages r)
+  has-offer : When Offered → 0 < length (offersIn piece part settings r)
   unfolding offersIn
   has-offer (a, f, k) =
       rw (a, f)
-      (some-shape r (along (piece .cut) (piece .size) cutAs) (across (piece .cut) (piece .size) cutAs) (piece .level) stages k)
+      (some-shape r (along (piece .cut) (piece .size) cutAs) (across (piece .cut) (piece .size) cutAs) (piece .level) (settings .stages) k)
 
   -- any other reason leaves none
-  no-offer : (x : Reason) → When x → (x ≡ Offered) ⊎ (offersIn piece part stages r ≡ [])
+  no-offer : (x : Reason) → When x → (x ≡ Offered) ⊎ (offersIn piece part settings r ≡ [])
   unfolding offersIn
   no-offer Forbidden a = inr (rw a refl)
   no-offer TooWide (a, w, t) = inr (rw (a, lt-leb (cutAs .width) (piece .size .width) w) refl)
   no-offer TooTall (a, w, t) = inr (rw (a, le-leb (cutAs .width) (piece .size .width) w, lt-leb (cutAs .height) (piece .size .height) t) refl)
   no-offer TooWideAndTall (a, w, t) = inr (rw (a, lt-leb (cutAs .width) (piece .size .width) w) refl)
   no-offer StagesUsedUp (a, f, al, n) =
-      inr (rw (a, f, al, no-shape (across (piece .cut) (piece .size) cutAs) (piece .level) stages n) refl)
+      inr (rw (a, f, al, no-shape (across (piece .cut) (piece .size) cutAs) (piece .level) (settings .stages) n) refl)
   no-offer Offered k = inl refl
 
-  pub offered-has-offer : (reasonIn piece part stages r ≡ Offered) ↔ (0 < length (offersIn piece part stages r))
+  pub offered-has-offer : (reasonIn piece part settings r ≡ Offered) ↔ (0 < length (offersIn piece part settings r))
   offered-has-offer = (
     (λ e. has-offer (exactly Offered .0 e)),
-    λ h. ⊎-elim (λ e. e) (λ e. let z : ⊥ = omega (arith, ap length e) in absurd z) (no-offer (reasonIn piece part stages r) holds),
+    λ h. ⊎-elim (λ e. e) (λ e. let z : ⊥ = omega (arith, ap length e) in absurd z) (no-offer (reasonIn piece part settings r) holds),
   )
 
 -- ---- over the calls
@@ -208,22 +209,22 @@ either-some : (a b : ℕ) → 0 < a + b → (0 < a) ⊎ (0 < b)
 either-some zero b h = inr (omega arith)
 either-some (suc a) b h = inl (omega arith)
 
-module _ (d : Datum) (p : PartType) (stages : ℕ) where
-  counted : held (offersOf d p stages) .count ≡ length (offersIn d p stages Default) + length (offersIn d p stages Rotated)
+module _ (d : Datum) (p : PartType) (settings : Settings) where
+  counted : held (offersOf d p settings) .count ≡ length (offersIn d p settings Default) + length (offersIn d p settings Rotated)
   unfolding offersOf
-  counted = held-count _ ∙ length-append (offersIn d p stages Default) (offersIn d p stages Rotated)
+  counted = held-count _ ∙ length-append (offersIn d p settings Default) (offersIn d p settings Rotated)
 
-  piece-offers : (0 < held (offersOf d p stages) .count) ↔ Some (reasonsFor d p stages)
+  piece-offers : (0 < held (offersOf d p settings) .count) ↔ Some (reasonsFor d p settings)
   piece-offers =
-      let one = offered-has-offer d p stages Default in
-      let two = offered-has-offer d p stages Rotated in (
+      let one = offered-has-offer d p settings Default in
+      let two = offered-has-offer d p settings Rotated in (
         (λ h. ⊎-elim (λ k. inl (one .1 k)) (λ k. inr (two .1 k)) (either-some _ _ (rw counted at h))),
         ⊎-elim (λ e. omega (arith, counted, one .0 e)) (λ e. omega (arith, counted, two .0 e)),
       )
 
 sought-agree : (l : Layout) (p : PartType) (s : Sought) → Agree (whyFor l p s) (offeredFor l p s)
 sought-agree l p (sought.Refused e) = refused-agree e
-sought-agree l p (sought.Piece d) = record { outcome = refl; offers = piece-offers d p (l .stages) }
+sought-agree l p (sought.Piece d) = record { outcome = refl; offers = piece-offers d p (l .settings) }
 
 calls-agree : (l : Layout) (m : Mark) (p : PartType) → Agree (whyCall l m p) (offersCall l m p)
 unfolding whyCall offersCall
@@ -240,11 +241,11 @@ module _ (l : Layout) (m : Mark) (p : PartType) where
 
   -- a call that is done gives the reasons of the piece that the mark names, so that what is said above holds of its answer
   pub reasons-of-piece : (d : Datum) → soughtOf l m ≡ sought.Piece d → whyCall l m p .outcome ≡ outcomes.Done
-      → whyCall l m p ≡ reasonsFor d p (l .stages)
+      → whyCall l m p ≡ reasonsFor d p (l .settings)
   unfolding whyCall
   reasons-of-piece d e = go (freePieceOf l m p) refl
     where
-      go : (q : Sought) → freePieceOf l m p ≡ q → whyFor l p q .outcome ≡ outcomes.Done → whyFor l p q ≡ reasonsFor d p (l .stages)
+      go : (q : Sought) → freePieceOf l m p ≡ q → whyFor l p q .outcome ≡ outcomes.Done → whyFor l p q ≡ reasonsFor d p (l .settings)
       go (sought.Refused r) f h = absurd (clash (cc))
       go (sought.Piece x) f h =
-          let is : x ≡ d = cc (headed l m p x f .named) in ap (λ (y : Datum). reasonsFor y p (l .stages)) is
+          let is : x ≡ d = cc (headed l m p x f .named) in ap (λ (y : Datum). reasonsFor y p (l .settings)) is

@@ -3,14 +3,13 @@
 use mathlib.Core.Path.{_≡_, refl}
 use mathlib.Core.List.{List, [], _∷_}
 use Prim.Native.Nat.{ℕ}
-use Rattle.piece.specs.declared.orientation.Orientation.the-variants.{Vertical}
 use Rattle.piece.specs.declared.rotation.Rotation.the-variants.{Default, Rotated}
 use Rattle.piece.specs.declared.parttype.Turn.{Turn}
 use Rattle.piece.specs.declared.parttype.Turn.the-variants.{Either, Fixed}
 use Rattle.piece.specs.declared.parttype.PartType.{PartType}
 use Rattle.piece.specs.Sides.{sized}
 use Rattle.tree.specs.Open.{firstFree}
-use Rattle.tree.specs.Worked.{sheet}
+use Rattle.tree.specs.Worked.{opening}
 use Rattle.reasons.specs.declared.reason.Reason.{Reason}
 use Rattle.reasons.specs.declared.reason.Reason.the-variants.{Forbidden, TooWide, TooTall, TooWideAndTall, StagesUsedUp, Offered}
 use Rattle.reasons.specs.Reasons.{reasonIn}
@@ -24,7 +23,8 @@ both d r = d ∷ r ∷ []
 
 abbrev pub reasons : Turn → ℕ → ℕ → ℕ → List Reason
 reasons t w h stages =
-    both (reasonIn (firstFree Vertical sheet) (part t w h) stages Default) (reasonIn (firstFree Vertical sheet) (part t w h) stages Rotated)
+    let o = opening stages in
+    both (reasonIn (firstFree o) (part t w h) (o .settings) Default) (reasonIn (firstFree o) (part t w h) (o .settings) Rotated)
 
 unfoldable pub computed : List (List Reason)
 computed =

@@ -6,6 +6,7 @@ use Rattle.piece.specs.declared.size.Size.{Size}
 use Rattle.piece.specs.declared.node.Datum.{Datum}
 use Rattle.piece.specs.declared.parttype.PartType.{PartType}
 use Rattle.piece.specs.declared.rotation.Rotation.{Rotation}
+use Rattle.piece.specs.declared.settings.Settings.{Settings}
 use Rattle.piece.specs.Offers.{allowed, along, turned}
 use Rattle.reasons.specs.declared.reason.Reason.{Reason}
 use Rattle.reasons.specs.declared.reason.Reason.the-variants.{Forbidden, TooWide, TooTall, TooWideAndTall, StagesUsedUp, Offered}
@@ -37,8 +38,8 @@ abbrev pub tooTall : Size → Size → Bool
 tooTall piece part = ltb (piece .height) (part .height)
 
 -- the reason of one rotation
-unfoldable pub reasonIn : Datum → PartType → ℕ → Rotation → Reason
-reasonIn piece part stages r =
+unfoldable pub reasonIn : Datum → PartType → Settings → Rotation → Reason
+reasonIn piece part settings r =
     let p = turned r (part .size) in
     reasonOf (allowed (part .turn) r) (tooWide (piece .size) p) (tooTall (piece .size) p) (along (piece .cut) (piece .size) p)
-    (leb stages (piece .level))
+    (leb (settings .stages) (piece .level))

@@ -5,6 +5,7 @@ use piece::node::Datum;
 use piece::node::fits_along;
 use piece::parttype::PartType;
 use piece::rotation::Rotation;
+use piece::settings::Settings;
 
 // In the order of the request.
 pub enum Reason {
@@ -57,8 +58,8 @@ fn reason_of(allowed: bool, wide: bool, tall: bool, along: bool, reached: bool) 
 }
 
 // Why a free piece does not offer a part in this rotation, or that it does.
-pub fn reason_in(piece: Datum, part: PartType, stages: u8, rotation: Rotation) -> Reason
-    ensures { λ r. ⌜ r ≡ reasonIn piece part stages rotation ⌝ }
+pub fn reason_in(piece: Datum, part: PartType, settings: Settings, rotation: Rotation) -> Reason
+    ensures { λ r. ⌜ r ≡ reasonIn piece part settings rotation ⌝ }
 {
     let whole = piece.size;
     let cut = piece.cut;
@@ -67,6 +68,6 @@ pub fn reason_in(piece: Datum, part: PartType, stages: u8, rotation: Rotation) -
     let along = fits_along(cut, whole, size);
     let wide = whole.width < size.width;
     let tall = whole.height < size.height;
-    let reached = stages <= piece.level;
+    let reached = settings.stages <= piece.level;
     reason_of(allowed, wide, tall, along, reached)
 }

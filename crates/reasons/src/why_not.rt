@@ -11,6 +11,7 @@ use layout::replies::Sought;
 use piece::node::Datum;
 use piece::parttype::PartType;
 use piece::rotation::Rotation;
+use piece::settings::Settings;
 
 // A reason for each rotation; where it is refused, both are the zero case.
 pub struct WhyAnswer {
@@ -29,13 +30,13 @@ fn refused_why(refusal: Refusal) -> WhyAnswer
     }
 }
 
-fn reasons_for(piece: Datum, part: PartType, stages: u8) -> WhyAnswer
-    ensures { λ r. ⌜ r ≡ reasonsFor piece part stages ⌝ }
+fn reasons_for(piece: Datum, part: PartType, settings: Settings) -> WhyAnswer
+    ensures { λ r. ⌜ r ≡ reasonsFor piece part settings ⌝ }
 {
     WhyAnswer {
         outcome: Outcome::Done,
-        default: reason_in(piece, part, stages, Rotation::Default),
-        rotated: reason_in(piece, part, stages, Rotation::Rotated),
+        default: reason_in(piece, part, settings, Rotation::Default),
+        rotated: reason_in(piece, part, settings, Rotation::Rotated),
     }
 }
 
@@ -45,6 +46,6 @@ pub fn why_not(layout: Layout, mark: Mark, part: PartType) -> WhyAnswer
 {
     match layout.free_piece(mark, part) {
         Sought::Refused(refusal) => refused_why(refusal),
-        Sought::Piece(d) => reasons_for(d, part, layout.stages),
+        Sought::Piece(d) => reasons_for(d, part, layout.settings),
     }
 }

@@ -28,7 +28,7 @@ cutsIn l c = listedIn limit c (at (l .nodes) 0 .datum .cut) (l .held) 0 (at (l .
 module _ (l : Layout) (s : SoundLayout l) {c : Columns} (e : c ≡ columnsOf (l .nodes)) where
   cuts-are : cutsIn l c ≡ cuts (tree l)
   cuts-are =
-      ap (cutsIn l) e ∙ listed-tree limit (l .stages) (l .nodes) (tree l) (l .held) (s .sound) (s .holds) (omega (arith, s .held))
+      ap (cutsIn l) e ∙ listed-tree limit (l .settings) (l .nodes) (tree l) (l .held) (s .sound) (s .holds) (omega (arith, s .held))
 
   -- the bytes of what is listed are to be written
   bytes-are : bytesOf (cutsIn l c) ≡ sawBytes l

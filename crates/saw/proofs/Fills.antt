@@ -14,6 +14,7 @@ use Rattle.piece.specs.declared.size.Size.{Size}
 use Rattle.piece.specs.declared.node.Datum.{Datum}
 use Rattle.piece.specs.declared.node.Kind.{Kind}
 use Rattle.piece.specs.declared.node.Kind.the-variants.{Free, Part, Structure}
+use Rattle.piece.specs.declared.settings.Settings.{Settings}
 use Rattle.piece.specs.Sides.{area, laid, other}
 use Rattle.piece.specs.Row.{nil, grow}
 use Rattle.piece.specs.Kinds.{isFree}
@@ -57,9 +58,9 @@ flat-gone Part p d k r f e = absurd (sided-area (f .sided) e)
 flat-gone Structure p d k r f e = absurd (sided-area (f .sided) e)
 
 -- of a row with no width nothing stays
-none-left : (stages : ℕ) (q : Datum) (r : Tree) → Children stages q r → extent (other (q .cut)) r ≡ 0 → withoutEmpty r ≡ nil
-none-left stages q nil h e = refl
-none-left stages q (grow p d k r) h e = flat-gone (d .kind) p d k r (h .kinded) (flat-area (other (q .cut)) (d .size) (omega arith))
+none-left : (settings : Settings) (q : Datum) (r : Tree) → Children settings q r → extent (other (q .cut)) r ≡ 0 → withoutEmpty r ≡ nil
+none-left settings q nil h e = refl
+none-left settings q (grow p d k r) h e = flat-gone (d .kind) p d k r (h .kinded) (flat-area (other (q .cut)) (d .size) (omega arith))
 
 -- what is left out has no board, nothing below it and nothing behind it
 pub empty-gone : (κ : Kind) (d : Datum) (k r : Tree) → Kinded κ d k r → (isFree κ && eqb (area (d .size)) 0) ≡ true
@@ -68,11 +69,11 @@ empty-gone Free d k r f e = (rw e refl, f .childless, f .last)
 empty-gone Part d k r f e = absurd (clash e)
 empty-gone Structure d k r f e = absurd (clash e)
 
-pub boards-kept : (stages : ℕ) (q : Datum) (r : Tree) → Children stages q r → boards (withoutEmpty r) ≡ boards r
-boards-kept stages q nil h = refl
-boards-kept stages q (grow p d k r) h =
-    let below = boards-kept stages d k (h .below) in
-    let rest = boards-kept stages q r (h .beside) in
+pub boards-kept : (settings : Settings) (q : Datum) (r : Tree) → Children settings q r → boards (withoutEmpty r) ≡ boards r
+boards-kept settings q nil h = refl
+boards-kept settings q (grow p d k r) h =
+    let below = boards-kept settings d k (h .below) in
+    let rest = boards-kept settings q r (h .beside) in
     ⊎-elim
     (λ e. let gone = empty-gone (d .kind) d k r (h .kinded) e in rw (e, gone .0, gone .1) rest)
     (λ e. rw e (ap₂ (λ (u v : List Size). ownBoard (d .kind) (d .size) ++ (u ++ v)) below rest))
@@ -126,7 +127,7 @@ spans-own d k g = record { sided = g .sided; height = refl; length = g .filled }
 no-length : {n : ℕ} → 1 ≤ n → 0 ≡ n → ⊥
 no-length h e = omega arith
 
-module _ (stages : ℕ) (q : Datum) (p : ℕ) (d : Datum) (k r : Tree) (s : Size) (h : Children stages q (grow p d k r))
+module _ (settings : Settings) (q : Datum) (p : ℕ) (d : Datum) (k r : Tree) (s : Size) (h : Children settings q (grow p d k r))
     (a : Spans q (grow p d k r) s) where
   height : laid (other (q .cut)) (d .size) .height ≡ laid (other (q .cut)) s .height
   height = (rw (h .child .cut) at (h .child .side)) ∙ sym (a .height)
@@ -169,20 +170,20 @@ module _ (stages : ℕ) (q : Datum) (p : ℕ) (d : Datum) (k r : Tree) (s : Size
     shares : Share (q .cut) s (d .size) (withoutEmpty r) (Fills (q .cut) (remnant (q .cut) s (d .size)) (withoutEmpty r))
     shares =
         ⊎-elim
-        (λ z. share-last (q .cut) s (d .size) (withoutEmpty r) _ (none-left stages q r (h .beside) z) (whole z))
+        (λ z. share-last (q .cut) s (d .size) (withoutEmpty r) _ (none-left settings q r (h .beside) z) (whole z))
         (λ z. share-more (q .cut) s (d .size) (withoutEmpty r) (off z) (rest (remnant (q .cut) s (d .size)) (spans-rest z)))
         (eq-zero-or-pos (extent (other (q .cut)) r))
 
     piece-fills : Fills (q .cut) s (withoutEmpty (grow p d k r))
     piece-fills = subst⁻¹ (λ (t : Tree). Fills (q .cut) s t) (stays p d k r two-sides) (under, shares)
 
-row-fills : (stages : ℕ) (q : Datum) (r : Tree) (s : Size) → Children stages q r → Spans q r s → Fills (q .cut) s (withoutEmpty r)
-row-fills stages q nil s h a = no-length (sided-side (q .cut) (a .sided)) (a .length)
-row-fills stages q (grow p d k r) s h a =
-    piece-fills stages q p d k r s h a
-    (λ g. row-fills stages d k (d .size) (h .below) (spans-own d k g))
-    (λ s′ z. row-fills stages q r s′ (h .beside) z)
+row-fills : (settings : Settings) (q : Datum) (r : Tree) (s : Size) → Children settings q r → Spans q r s → Fills (q .cut) s (withoutEmpty r)
+row-fills settings q nil s h a = no-length (sided-side (q .cut) (a .sided)) (a .length)
+row-fills settings q (grow p d k r) s h a =
+    piece-fills settings q p d k r s h a
+    (λ g. row-fills settings d k (d .size) (h .below) (spans-own d k g))
+    (λ s′ z. row-fills settings q r s′ (h .beside) z)
 
 -- the children of a structure fill it
-pub structure-fills : (stages : ℕ) (d : Datum) (k : Tree) → StructurePiece d k → Children stages d k → Fills (d .cut) (d .size) (withoutEmpty k)
-structure-fills stages d k g h = row-fills stages d k (d .size) h (spans-own d k g)
+pub structure-fills : (settings : Settings) (d : Datum) (k : Tree) → StructurePiece d k → Children settings d k → Fills (d .cut) (d .size) (withoutEmpty k)
+structure-fills settings d k g h = row-fills settings d k (d .size) h (spans-own d k g)

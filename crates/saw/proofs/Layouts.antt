@@ -26,11 +26,11 @@ use Rattle.saw.proofs.Sawn.{saw-gives}
 use Rattle.saw.proofs.Told.{list-read}
 use Rattle.saw.proofs.Copied.{take-stored}
 
-pub sawn : (l : Layout) → SoundLayout l → saw (cuts (tree l)) (l .sheet ∷ []) ≡ some (boards (tree l))
+pub sawn : (l : Layout) → SoundLayout l → saw (cuts (tree l)) (l .settings .sheet ∷ []) ≡ some (boards (tree l))
 sawn l s = saw-gives (tree l) (s .sound)
 
 -- read back from the bytes
-pub sawn-bytes : (l : Layout) → SoundLayout l → saw (readCuts (sawBytes l)) (l .sheet ∷ []) ≡ some (boards (tree l))
+pub sawn-bytes : (l : Layout) → SoundLayout l → saw (readCuts (sawBytes l)) (l .settings .sheet ∷ []) ≡ some (boards (tree l))
 unfolding sawBytes
 sawn-bytes l s = list-read (tree l) (omega arith) (s .sound)
 
@@ -45,7 +45,7 @@ counted false fits m n before what after e f = let z : _≡_ {A = ℕ} 0 1 = cc 
 
 -- where the call answers n bytes, the first n of the buffer, read and run on the full sheet, give the parts and free pieces
 pub sawn-out : (l : Layout) → Sized l → (n : ℕ) (before after : List ℕ) → Ends l (sawBytes l) (Count n) before after
-    → saw (readCuts (take n after)) (l .sheet ∷ []) ≡ some (boards (tree l))
+    → saw (readCuts (take n after)) (l .settings .sheet ∷ []) ≡ some (boards (tree l))
 sawn-out l sized n before after e =
     let what = sawBytes l in
     let w = counted (soundB l) (leb (length what) (length before)) (length what) n before (sets before 0 what) after (e .0) (e .1) in

@@ -14,10 +14,10 @@ use lib.ListN.{length, getD, List·getD-map}
 use borrow.Author.Tests.{ne-eqb, eqb-true, le-leb, lt-leb}
 use Rattle.piece.specs.declared.orientation.Orientation.{Orientation}
 use Rattle.piece.specs.declared.orientation.Orientation.the-variants.{Horizontal, Vertical}
-use Rattle.piece.specs.declared.size.Size.{Size}
 use Rattle.piece.specs.declared.node.Datum.{Datum}
 use Rattle.piece.specs.declared.node.Kind.{Kind}
 use Rattle.piece.specs.declared.node.Kind.the-variants.{Free, Part, Structure}
+use Rattle.piece.specs.declared.settings.Settings.{Settings}
 use Rattle.piece.specs.Sides.{area, laid, other}
 use Rattle.piece.specs.Row.{nil, grow}
 use Rattle.piece.specs.Kinds.{isFree}
@@ -112,7 +112,7 @@ nothing a b h = go (ℕ-discrete a 0)
         ne-eqb (a * b) 0 (λ z. omega arith) ∙ sym (ne-eqb a 0 m)
 
 -- a piece of a row whose parent has sides of at least 1: it is left out exactly if it has nothing of the side that the parent's cut divides
-module _ {stages : ℕ} {q d : Datum} (way : Orientation) (cut : way ≡ q .cut) (sided : Sided (q .size)) (child : Child stages q d) where
+module _ {settings : Settings} {q d : Datum} (way : Orientation) (cut : way ≡ q .cut) (sided : Sided (q .size)) (child : Child settings q d) where
   across : 1 ≤ laid (other way) (d .size) .height
   across =
       let e : laid (other way) (d .size) .height ≡ laid (other way) (q .size) .height = rw (child .cut, ← cut) at (child .side) in
@@ -129,9 +129,9 @@ module _ {stages : ℕ} {q d : Datum} (way : Orientation) (cut : way ≡ q .cut)
 
 -- ---- what is left of a row
 
-module _ (limit stages : ℕ) where
+module _ (limit : ℕ) (settings : Settings) where
   -- the first piece of a row that fills a side is no such offcut
-  first-kept : (q : Datum) (r : Tree) → StructurePiece q r → Children stages q r → head limit r ≡ head limit (withoutEmpty r)
+  first-kept : (q : Datum) (r : Tree) → StructurePiece q r → Children settings q r → head limit r ≡ head limit (withoutEmpty r)
   first-kept q nil s e = refl
   first-kept q (grow p d k r) s e = go (isEmpty d) refl
     where
@@ -151,7 +151,7 @@ module _ (limit stages : ℕ) where
       go true b = absurd (filled b)
       go false b = refl
 
-  children-kept : (c : Kind) (d : Datum) (k r : Tree) → Kinded c d k r → Children stages d k → head limit k ≡ head limit (withoutEmpty k)
+  children-kept : (c : Kind) (d : Datum) (k r : Tree) → Kinded c d k r → Children settings d k → head limit k ≡ head limit (withoutEmpty k)
   children-kept Free d k r f e = rw (f .childless) refl
   children-kept Part d k r f e = rw (f .childless) refl
   children-kept Structure d k r f e = first-kept d k f e
@@ -166,7 +166,7 @@ module _ (limit stages : ℕ) where
     sides-at Vertical p n e = column (λ (x : Node). x .datum .size .width) p n e
 
     -- the later sibling that is left on the board
-    rest-kept : (q : Datum) (way : Orientation) (o p : ℕ) (r : Tree) → way ≡ q .cut → Sided (q .size) → Children stages q r → Rep limit t o p r
+    rest-kept : (q : Datum) (way : Orientation) (o p : ℕ) (r : Tree) → way ≡ q .cut → Sided (q .size) → Children settings q r → Rep limit t o p r
         → getD (nextsOf t) p 0 ≡ head limit r
         → restOf limit (nextsOf t) (sidesOf way t) p ≡ head limit (withoutEmpty r)
     rest-kept q way o p nil cut sided c e n = rw (n, le-leb limit limit (le-refl limit)) refl
@@ -182,7 +182,7 @@ module _ (limit stages : ℕ) where
 
     -- a piece in the columns
     piece-of : (q : Datum) (way : Orientation) (o pv p : ℕ) (d : Datum) (k r : Tree) → way ≡ q .cut → Sided (q .size)
-        → Children stages q (grow p d k r) → Rep limit t o pv (grow p d k r)
+        → Children settings q (grow p d k r) → Rep limit t o pv (grow p d k r)
         → Piece limit t way p d (withoutEmpty k) (withoutEmpty r)
     piece-of q way o pv p d k r cut sided c e =
         record {
@@ -199,7 +199,7 @@ module _ (limit stages : ℕ) where
     keep false way p d k r e f g = (e, f, g)
 
     -- a table that holds a row shows what is left of it
-    shown : (r : Tree) (q : Datum) (way : Orientation) (o pv : ℕ) → way ≡ q .cut → (1 ≤ count r → Sided (q .size)) → Children stages q r
+    shown : (r : Tree) (q : Datum) (way : Orientation) (o pv : ℕ) → way ≡ q .cut → (1 ≤ count r → Sided (q .size)) → Children settings q r
         → Rep limit t o pv r → Seen limit t way (withoutEmpty r)
     shown nil q way o pv cut sided c e = tt
     shown (grow p d k r) q way o pv cut sided c e =
@@ -210,21 +210,21 @@ module _ (limit stages : ℕ) where
         (shown r q way o p cut (λ h. sided (omega arith)) (c .beside) (e .3))
 
 -- The laws. `n` is the fuel: the count of nodes held is enough.
-module _ (limit stages : ℕ) (t : List Node) where
+module _ (limit : ℕ) (settings : Settings) (t : List Node) where
   -- of a row of children that the table holds
-  pub listed-row : (r : Tree) (q : Datum) (way : Orientation) (n i o pv : ℕ) → way ≡ q .cut → Sided (q .size) → Children stages q r
+  pub listed-row : (r : Tree) (q : Datum) (way : Orientation) (n i o pv : ℕ) → way ≡ q .cut → Sided (q .size) → Children settings q r
       → Rep limit t o pv r → count r ≤ n
       → listedIn limit (columnsOf t) way n i (head limit (withoutEmpty r)) ≡ rowCuts way i (withoutEmpty r)
   listed-row r q way n i o pv cut sided c e h =
-      row-seen limit t (withoutEmpty r) way n i (shown limit stages t r q way o pv cut (λ z. sided) c e) (omega (arith, count-kept r))
+      row-seen limit t (withoutEmpty r) way n i (shown limit settings t r q way o pv cut (λ z. sided) c e) (omega (arith, count-kept r))
 
   -- of the tree, from the top's first child on
-  pub listed-tree : {sheet : Size} (w : Tree) (n : ℕ) → Sound limit stages sheet w → Holds limit t w → count w ≤ n
+  pub listed-tree : (w : Tree) (n : ℕ) → Sound limit settings w → Holds limit t w → count w ≤ n
       → listedIn limit (columnsOf t) (at t 0 .datum .cut) n 0 (at t 0 .first) ≡ cuts w
   listed-tree nil n s h e = absurd (s .topped)
   listed-tree (grow p d k r) n s h e =
       let top = s .topped .0 in
       let c = s .topped .1 in
       ap (λ (x : Node). listedIn limit (columnsOf t) (x .datum .cut) n 0 (x .first)) (ap (at t) (sym (top .place)) ∙ h .rep .1)
-      ∙ ap (λ (y : ℕ). listedIn limit (columnsOf t) (d .cut) n 0 y) (first-kept limit stages d k (top .piece) c)
+      ∙ ap (λ (y : ℕ). listedIn limit (columnsOf t) (d .cut) n 0 y) (first-kept limit settings d k (top .piece) c)
       ∙ listed-row k d (d .cut) n 0 p limit refl (top .piece .sided) c (h .rep .2) (omega arith)

@@ -11,6 +11,7 @@ use borrow.Author.Tests.{eqb-true}
 use Rattle.piece.specs.declared.size.Size.{Size}
 use Rattle.piece.specs.declared.node.Kind.{Kind}
 use Rattle.piece.specs.declared.node.Kind.the-variants.{Free, Part, Structure}
+use Rattle.piece.specs.declared.settings.Settings.{Settings}
 use Rattle.piece.specs.Sides.{area}
 use Rattle.piece.specs.Row.{nil, grow}
 use Rattle.piece.specs.Kinds.{isFree, isPart}
@@ -48,5 +49,5 @@ boards-area (grow p d k r) =
       boards-area r,
     )
 
-pub pieces-area : {limit stages : ℕ} {sheet : Size} (t : Tree) → Sound limit stages sheet t → areas (boards t) ≡ area sheet
+pub pieces-area : {limit : ℕ} {settings : Settings} (t : Tree) → Sound limit settings t → areas (boards t) ≡ area (settings .sheet)
 pieces-area t h = boards-area t ∙ area-conserved t h

@@ -11,6 +11,7 @@ use lib.ListN.{length, length-append, length-map}
 use Rattle.piece.specs.declared.orientation.Orientation.{Orientation}
 use Rattle.piece.specs.declared.size.Size.{Size}
 use Rattle.piece.specs.declared.node.Datum.{Datum}
+use Rattle.piece.specs.declared.settings.Settings.{Settings}
 use Rattle.piece.specs.Sides.{other}
 use Rattle.piece.specs.Row.{nil, grow}
 use Rattle.tree.specs.Tree.{Tree, count}
@@ -66,14 +67,14 @@ does nested (c ∷ cs) pile =
 -- ---- the tree
 
 -- the list of a sound tree can be sawn, and gives the boards of the tree
-pub saw-gives : {limit stages : ℕ} {sheet : Size} (t : Tree) → Sound limit stages sheet t → saw (cuts t) (sheet ∷ []) ≡ some (boards t)
-saw-gives {sheet} t h =
+pub saw-gives : {limit : ℕ} {settings : Settings} (t : Tree) → Sound limit settings t → saw (cuts t) (settings .sheet ∷ []) ≡ some (boards t)
+saw-gives {settings} t h =
     let made = sawyer-believes t h in
-    subst (λ (p : Option (List Piece)). Does p (saw (cuts t) (sheet ∷ []))) (made .1) (does (nestedIn t) (cuts t) (uncut t sheet ∷ []))
+    subst (λ (p : Option (List Piece)). Does p (saw (cuts t) (settings .sheet ∷ []))) (made .1) (does (nestedIn t) (cuts t) (uncut t (settings .sheet) ∷ []))
     ∙ ap (λ (l : List Size). some l) (made .2)
 
 -- each cut makes one piece more
-pub cuts-count : {limit stages : ℕ} {sheet : Size} (t : Tree) → Sound limit stages sheet t → length (boards t) ≡ 1 + length (cuts t)
+pub cuts-count : {limit : ℕ} {settings : Settings} (t : Tree) → Sound limit settings t → length (boards t) ≡ 1 + length (cuts t)
 cuts-count t h =
     let made = tree-makes t h in
     ap length (sym (made .size)) ∙ length-map (made .pile) (λ (x : Piece). x .size) ∙ made .more
@@ -100,6 +101,6 @@ row-most way i (grow p d k r) =
       row-most way (i + (1 + length below)) r,
     )
 
-pub cuts-most : {limit stages : ℕ} {sheet : Size} (t : Tree) → Sound limit stages sheet t → length (cuts t) < count t
+pub cuts-most : {limit : ℕ} {settings : Settings} (t : Tree) → Sound limit settings t → length (cuts t) < count t
 cuts-most nil h = absurd (h .topped)
 cuts-most (grow p d k r) h = omega (arith, row-most (d .cut) 0 (withoutEmpty k), count-kept k)

@@ -8,8 +8,8 @@ use native.Mathlib.Omega.{arith}
 use lib.ListN.{length}
 use Rattle.piece.specs.declared.orientation.Orientation.{Orientation}
 use Rattle.piece.specs.declared.orientation.Orientation.the-variants.{Horizontal, Vertical}
-use Rattle.piece.specs.declared.size.Size.{Size}
 use Rattle.piece.specs.declared.node.Datum.{Datum}
+use Rattle.piece.specs.declared.settings.Settings.{Settings}
 use Rattle.piece.specs.Sides.{other}
 use Rattle.piece.specs.Row.{nil, grow}
 use Rattle.piece.specs.Numbers.{cutNo}
@@ -87,19 +87,19 @@ row-within l m way i (grow p d k r) f h =
     (row-within l m way j r (f .2) (omega (arith, row-most (other way) i k))))
 
 -- the places are below the count of the nodes, and no distance is greater than a side can be
-pub cuts-within : {limit stages : ℕ} {sheet : Size} (t : Tree) → Sound limit stages sheet t → Each (Within (count t)) (cuts t)
+pub cuts-within : {limit : ℕ} {settings : Settings} (t : Tree) → Sound limit settings t → Each (Within (count t)) (cuts t)
 cuts-within nil h = tt
 cuts-within (grow p d k r) h =
     row-within 1 (count (grow p d k r)) (d .cut) 0 (withoutEmpty k) (readable-kept 1 k (sound-readable (grow p d k r) h .1))
     (omega (arith, count-kept k))
 
-pub cuts-fit : {limit stages : ℕ} {sheet : Size} (t : Tree) → limit ≤ 65535 → Sound limit stages sheet t → Each Fits (cuts t)
+pub cuts-fit : {limit : ℕ} {settings : Settings} (t : Tree) → limit ≤ 65535 → Sound limit settings t → Each Fits (cuts t)
 cuts-fit t a h =
     each-less
     (λ (c : Cut) (w : Within (count t) c). record { place = omega (arith, w .place, h .room); distance = omega (arith, w .distance) })
     (cuts t) (cuts-within t h)
 
 -- the saw that reads the bytes gives the boards of the tree
-pub list-read : {limit stages : ℕ} {sheet : Size} (t : Tree) → limit ≤ 65535 → Sound limit stages sheet t
-    → saw (readCuts (bytesOf (cuts t))) (sheet ∷ []) ≡ some (boards t)
-list-read {sheet} t a h = ap (λ (l : List Cut). saw l (sheet ∷ [])) (told (cuts t) (cuts-fit t a h)) ∙ saw-gives t h
+pub list-read : {limit : ℕ} {settings : Settings} (t : Tree) → limit ≤ 65535 → Sound limit settings t
+    → saw (readCuts (bytesOf (cuts t))) (settings .sheet ∷ []) ≡ some (boards t)
+list-read {settings} t a h = ap (λ (l : List Cut). saw l (settings .sheet ∷ [])) (told (cuts t) (cuts-fit t a h)) ∙ saw-gives t h

@@ -15,6 +15,7 @@ use Rattle.piece.specs.declared.size.Size.{Size}
 use Rattle.piece.specs.declared.node.Datum.{Datum}
 use Rattle.piece.specs.declared.node.Kind.{Kind}
 use Rattle.piece.specs.declared.node.Kind.the-variants.{Free, Part, Structure}
+use Rattle.piece.specs.declared.settings.Settings.{Settings}
 use Rattle.piece.specs.Sides.{other}
 use Rattle.piece.specs.Row.{nil, grow}
 use Rattle.piece.specs.Kinds.{isStructure}
@@ -210,28 +211,28 @@ module _ (nested : Bool) where
 
 -- ---- the tree
 
-pub tree-makes : {limit stages : ℕ} {sheet : Size} (t : Tree) → Sound limit stages sheet t
-    → Makes (nestedIn t) 0 (cuts t) (uncut t sheet) (boards t) (boardKinds t)
+pub tree-makes : {limit : ℕ} {settings : Settings} (t : Tree) → Sound limit settings t
+    → Makes (nestedIn t) 0 (cuts t) (uncut t (settings .sheet)) (boards t) (boardKinds t)
 tree-makes nil h = absurd (h .topped)
-tree-makes {stages = n} {sheet} (grow p d k r) h =
+tree-makes {settings} (grow p d k r) h =
     let top = h .topped .0 in
     let row = withoutEmpty k in
     let nested = nestedRow (single row) row || false in
-    let x = called 2 (other (d .cut)) sheet in
+    let x = called 2 (other (d .cut)) (settings .sheet) in
     let made =
-    row-makes nested (single row) (d .cut) (d .size) row 0 (top .piece .sided) (structure-fills n d k (top .piece) (h .topped .1))
+    row-makes nested (single row) (d .cut) (d .size) row 0 (top .piece .sided) (structure-fills settings d k (top .piece) (h .topped .1))
     (λ e. or-left (nestedRow (single row) row) false e)
     x (sym (top .size)) (fair-below nested (d .cut) x row refl (or-right nested _ (turned (d .cut) x refl)))
     in
-    rw (top .kind, top .alone, append-nil (boards k), append-nil (rowKinds (single row) row), ← boards-kept n d k (h .topped .1)) made
+    rw (top .kind, top .alone, append-nil (boards k), append-nil (rowKinds (single row) row), ← boards-kept settings d k (h .topped .1)) made
 
 -- the sawyer who believes the list of a sound tree can run it; he gets the boards of the tree, and what was said of each is true
-pub sawyer-believes : {limit stages : ℕ} {sheet : Size} (t : Tree) → Sound limit stages sheet t
-    → (pile : List Piece) × (sawyer (nestedIn t) (cuts t) (uncut t sheet ∷ []) ≡ some pile) × (sizes pile ≡ boards t) × (saids pile ≡ boardKinds t)
-sawyer-believes {sheet} t h =
+pub sawyer-believes : {limit : ℕ} {settings : Settings} (t : Tree) → Sound limit settings t
+    → (pile : List Piece) × (sawyer (nestedIn t) (cuts t) (uncut t (settings .sheet) ∷ []) ≡ some pile) × (sizes pile ≡ boards t) × (saids pile ≡ boardKinds t)
+sawyer-believes {settings} t h =
     let made = tree-makes t h in
     let runs =
-    ap (λ (l : List Cut). sawyer (nestedIn t) l (uncut t sheet ∷ [])) (sym (append-nil (cuts t)))
+    ap (λ (l : List Cut). sawyer (nestedIn t) l (uncut t (settings .sheet) ∷ [])) (sym (append-nil (cuts t)))
     ∙ made .runs [] [] [] refl
     ∙ ap (λ (l : List Piece). some l) (append-nil (made .pile))
     in
