@@ -8,17 +8,16 @@ use mathlib.Core.Option.{some}
 use Prim.Native.Nat.{ℕ}
 use lib.Dec.{eqb}
 use lib.ListN.{length}
-use Rattle.piece.specs.declared.size.Size.{Size}
-use Rattle.piece.specs.declared.orientation.Orientation.{Orientation}
 use Rattle.piece.specs.declared.rotation.Rotation.{Rotation}
 use Rattle.piece.specs.declared.parttype.PartType.{PartType}
 use Rattle.piece.specs.declared.insertion_blueprint.InsertionShape.{InsertionShape}
+use Rattle.piece.specs.declared.settings.Opening.{Opening}
 use Rattle.lists.proofs.Scan.{clash}
 use Rattle.answers.specs.declared.Mark.{Mark}
 use Rattle.answers.specs.declared.Refusal.{Refusal}
 use Rattle.answers.specs.declared.Refusal.the-variants.{NotSound}
 use Rattle.layout.specs.declared.layout.Layout.{Layout}
-use Rattle.layout.specs.declared.open.Opening.the-variants as opening
+use Rattle.layout.specs.declared.open.OpenOutcome.the-variants as opening
 use Rattle.layout.specs.declared.replies.Outcome.the-variants.{Refused}
 use Rattle.layout.specs.declared.insert.Inserted.{Inserted}
 use Rattle.layout.specs.declared.remove.Removed.{Removed}
@@ -58,13 +57,13 @@ refused-restore l s e h = go (soundB l) (soundB s) (eqb (l .number) (s .number))
     go false b c x y z = rw x refl
 
 -- an opening: all zero
-pub refused-open : (number : ℕ) (size : Size) (cut : Orientation) (stages : ℕ) (e : Refusal)
-    → openOf number size cut stages .outcome ≡ opening.Refused e → openOf number size cut stages .layout ≡ zeroLayout
+pub refused-open : (o : Opening) (e : Refusal)
+    → openOf o .outcome ≡ opening.Refused e → openOf o .layout ≡ zeroLayout
 unfolding openOf
-refused-open number size cut stages e h = go (domainB stages size) refl
+refused-open o e h = go (domainB (o .settings)) refl
   where
-    go : (b : Bool) → domainB stages size ≡ b → openOf number size cut stages .layout ≡ zeroLayout
-    go true x = let o = rw x at h in absurd (clash (cc))
+    go : (b : Bool) → domainB (o .settings) ≡ b → openOf o .layout ≡ zeroLayout
+    go true x = let z = rw x at h in absurd (clash (cc))
     go false x = rw x refl
 
 -- ---- a layout that isn't sound

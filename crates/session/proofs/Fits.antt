@@ -11,14 +11,14 @@ use lib.Ieee.{binary64}
 use lib.Ieee.Bits.{toBits-lt}
 use lib.Ieee.Fits.{div-fits}
 use lib.ListN.{take, length-take}
-use Rattle.piece.specs.declared.orientation.Orientation.{Orientation}
 use Rattle.piece.specs.declared.rotation.Rotation.{Rotation}
-use Rattle.piece.specs.declared.size.Size.{Size}
 use Rattle.piece.specs.declared.parttype.PartType.{PartType}
 use Rattle.piece.specs.declared.insertion_blueprint.InsertionShape.{InsertionShape}
 use Rattle.piece.specs.declared.node.Datum.{Datum}
 use Rattle.piece.specs.declared.node.Kind.{Kind}
 use Rattle.piece.specs.declared.node.Kind.the-variants.{Free, Part, Structure}
+use Rattle.piece.specs.declared.settings.Opening.{Opening}
+use Rattle.piece.specs.declared.settings.Settings.{Settings}
 use Rattle.piece.specs.Row.{nil, grow}
 use Rattle.piece.specs.Kinds.{isFree, isPart}
 use Rattle.tree.specs.Tree.{Tree, At, after}
@@ -33,7 +33,7 @@ use Rattle.booking.specs.Marks.{zeroMark, headMark, marksIn, blockMarks}
 use Rattle.removal.specs.Remove.{newFree}
 use Rattle.removal.proofs.Pieces.{new-there}
 use Rattle.layout.specs.declared.layout.Layout.{Layout}
-use Rattle.layout.specs.declared.open.Opening.the-variants as openings
+use Rattle.layout.specs.declared.open.OpenOutcome.the-variants as openings
 use Rattle.layout.specs.declared.replies.Outcome.{Outcome}
 use Rattle.layout.specs.declared.replies.Outcome.the-variants as outcomes
 use Rattle.layout.specs.declared.insert.Inserted.{Inserted}
@@ -89,16 +89,16 @@ piece-numbered Free d k r h e = absurd (clash e)
 piece-numbered Part d k r h e = omega (arith, h .numbered)
 piece-numbered Structure d k r h e = absurd (clash e)
 
-row-numbered : (stages : ℕ) (q : Datum) (w : Tree) → Children stages q w → Numbered w
-row-numbered stages q nil h = tt
-row-numbered stages q (grow p d k r) h =
-    (piece-numbered (d .kind) d k r (h .kinded), row-numbered stages d k (h .below), row-numbered stages q r (h .beside))
+row-numbered : (settings : Settings) (q : Datum) (w : Tree) → Children settings q w → Numbered w
+row-numbered settings q nil h = tt
+row-numbered settings q (grow p d k r) h =
+    (piece-numbered (d .kind) d k r (h .kinded), row-numbered settings d k (h .below), row-numbered settings q r (h .beside))
 
-tree-numbered : (stages : ℕ) (sheet : Size) (w : Tree) → Topped stages sheet w → Numbered w
-tree-numbered stages sheet nil h = absurd h
-tree-numbered stages sheet (grow p d k r) h =
+tree-numbered : (settings : Settings) (w : Tree) → Topped settings w → Numbered w
+tree-numbered settings nil h = absurd h
+tree-numbered settings (grow p d k r) h =
     let top = h .0 in
-    ((λ e. absurd (clash (sym (ap isPart (top .kind)) ∙ e))), row-numbered stages d k (h .1), rw (top .alone) tt)
+    ((λ e. absurd (clash (sym (ap isPart (top .kind)) ∙ e))), row-numbered settings d k (h .1), rw (top .alone) tt)
 
 after-numbered : (v w : Tree) → Numbered v → Numbered w → Numbered (after v w)
 after-numbered nil w h j = j
@@ -173,14 +173,14 @@ by-outcome : (op : ℕ) (a : Answer) (v : Outcome) → op < 2 ^ 8 → (v ≡ out
 by-outcome op a outcomes.Done h f = f refl
 by-outcome op a (outcomes.Refused e) h f = h
 
-by-opening : (s : Session) (n : ℕ) (size : Size) (cut : Orientation) (stages : ℕ) → n < 2 ^ 16
-    → AnswerFits (afterOpen s (openOf n size cut stages) .answer)
+by-opening : (s : Session) (o : Opening) → o .number < 2 ^ 16
+    → AnswerFits (afterOpen s (openOf o) .answer)
 unfolding afterOpen openOf
-by-opening s n size cut stages h = go (domainB stages size)
+by-opening s o h = go (domainB (o .settings))
   where
     go : (b : Bool)
         → AnswerFits (afterOpen s
-        (cond b (record { outcome = openings.Free (record { layout = n; place = 1; serial = 2 }); layout = freshLayout n size cut stages })
+        (cond b (record { outcome = openings.Free (record { layout = o .number; place = 1; serial = 2 }); layout = freshLayout o })
         (record { outcome = openings.Refused OpeningOutside; layout = zeroLayout })) .answer)
     go true = record { layout = h; place = omega arith; serial = omega arith }
     go false = omega arith
@@ -198,7 +198,7 @@ module _ (s : Session) (sized : Sized (s .layout)) (number : s .layout .number <
       let d = pieceAt l (m .place) in
       let new : Placed (block b d) =
       λ q e y. layout-placed (i .layout) (z .1 .next .sound) q e
-      (rw (z .1 .next .tree) (book-new limit (l .stages) (l .sheet) (tree l) (can .sound .sound) (m .place) d (can .there) (can .free) b q e y)) in
+      (rw (z .1 .next .tree) (book-new limit (l .settings) (tree l) (can .sound .sound) (m .place) d (can .there) (can .free) b q e y)) in
       let fits = block-fits (l .number) number (block b d) new in
       let few = insert-says l m p r f i says accepted in
       let e = z .1 .marks in (
@@ -216,12 +216,12 @@ module _ (s : Session) (sized : Sized (s .layout)) (number : s .layout .number <
       let n = placeFor l (m .place) in
       let there : At n (newFree (l .nodes) (m .place) (l .serial)) (tree (r .layout)) =
       rw (z .1 .next .tree)
-      (new-there limit (l .stages) (l .sheet) (l .nodes) (tree l) (can .sound .sound) (can .sound .holds) (m .place) (can .removable) n (l .serial)) in
+      (new-there limit (l .settings) (l .nodes) (tree l) (can .sound .sound) (can .sound .holds) (m .place) (can .removable) n (l .serial)) in
       let place = layout-placed (r .layout) (z .1 .next .sound) n _ there .0 in (
         rw (z .1 .free) (record { layout = number; place = place; serial = omega (arith, can .spent) }),
         omega (arith, remove-says l m limit r sized says accepted .few),
         numbers-small (subtree (m .place) (tree l))
-            (subtree-numbered (m .place) (tree l) (tree-numbered (l .stages) (l .sheet) (tree l) (can .sound .sound .topped))),
+            (subtree-numbered (m .place) (tree l) (tree-numbered (l .settings) (tree l) (can .sound .sound .topped))),
       )
 
   report-fits : (b : Bool) → soundB (s .layout) ≡ b → AnswerFits (reportBy (s .layout) b)
@@ -242,7 +242,7 @@ module _ (s : Session) (sized : Sized (s .layout)) (number : s .layout .number <
   pub answer-fits : (q : Request) (t : Session) (a : Answer) → RequestFits q → Answers s q t a → AnswerFits a
   unfolding Answers afterOpen afterOffers afterInsert afterRemove afterKeep afterRestore afterReport
   answer-fits (OfLayout (Open o)) t a f h =
-      rw (ap (λ (r : Reply). r .answer) h) (by-opening s (o .number) (o .settings .sheet) (o .cut) (o .settings .stages) (f .number))
+      rw (ap (λ (r : Reply). r .answer) h) (by-opening s o (f .number))
   answer-fits (OfLayout (Offers m p)) t a f h =
       let o = offersCall (s .layout) m p in
       rw (ap (λ (r : Reply). r .answer) h)

@@ -6,17 +6,16 @@ use mathlib.Core.List.{List, _++_}
 use Prim.Native.Nat.{ℕ, _^_, _<_}
 use native.Mathlib.Omega.{arith}
 use lib.Dec.{eqb}
-use Rattle.piece.specs.declared.orientation.Orientation.{Orientation}
 use Rattle.piece.specs.declared.rotation.Rotation.{Rotation}
-use Rattle.piece.specs.declared.size.Size.{Size}
 use Rattle.piece.specs.declared.parttype.PartType.{PartType}
 use Rattle.piece.specs.declared.insertion_blueprint.InsertionShape.{InsertionShape}
+use Rattle.piece.specs.declared.settings.Opening.{Opening}
 use Rattle.tree.specs.Tree.{Tree}
 use Rattle.answers.specs.declared.Mark.{Mark}
 use Rattle.answers.specs.declared.Refusal.the-variants.{NotSound, OpeningOutside, OtherLayout}
 use Rattle.lines.specs.Text.{Line, whole, long, cut}
 use Rattle.layout.specs.declared.layout.Layout.{Layout}
-use Rattle.layout.specs.declared.open.Opening.the-variants as openings
+use Rattle.layout.specs.declared.open.OpenOutcome.the-variants as openings
 use Rattle.layout.specs.declared.replies.Outcome.{Outcome}
 use Rattle.layout.specs.declared.replies.Outcome.the-variants as outcomes
 use Rattle.layout.specs.declared.insert.Inserted.{Inserted}
@@ -59,16 +58,16 @@ record Typed (l : Layout) : Type 0 where
 typed-next : {l n : Layout} {w : Tree} {list : List ℕ} {last : ℕ} → Typed l → Next l w list last n → Typed n
 typed-next t x = record { sized = x .sized; number = omega (arith, x .number, t .number) }
 
-opened : (s : Session) (n : ℕ) (size : Size) (first : Orientation) (stages : ℕ) → n < 2 ^ 16 → Typed (s .layout)
-    → Typed (afterOpen s (openOf n size first stages) .session .layout)
+opened : (s : Session) (o : Opening) → o .number < 2 ^ 16 → Typed (s .layout)
+    → Typed (afterOpen s (openOf o) .session .layout)
 unfolding afterOpen openOf freshLayout
-opened s n size first stages f t = go (domainB stages size)
+opened s o f t = go (domainB (o .settings))
   where
     go : (b : Bool)
         → Typed (afterOpen s
-        (cond b (record { outcome = openings.Free (record { layout = n; place = 1; serial = 2 }); layout = freshLayout n size first stages })
+        (cond b (record { outcome = openings.Free (record { layout = o .number; place = 1; serial = 2 }); layout = freshLayout o })
         (record { outcome = openings.Refused OpeningOutside; layout = zeroLayout })) .session .layout)
-    go true = record { sized = fresh-sized size first n stages; number = f }
+    go true = record { sized = fresh-sized o; number = f }
     go false = t
 
 module _ (l : Layout) (t : Typed l) where
@@ -107,7 +106,7 @@ record Held (s : Session) : Type 0 where
 layout-after : (s : Session) → Held s → (q : Request) (t : Session) (a : Answer) → RequestFits q → Answers s q t a → Typed (t .layout)
 unfolding Answers afterOpen afterOffers afterInsert afterRemove afterKeep afterRestore afterReport
 layout-after s x (OfLayout (Open o)) t a f h =
-    rw (ap (λ (r : Reply). r .session .layout) h) (opened s (o .number) (o .settings .sheet) (o .cut) (o .settings .stages) (f .number) (x .layout))
+    rw (ap (λ (r : Reply). r .session .layout) h) (opened s o (f .number) (x .layout))
 layout-after s x (OfLayout (Offers m p)) t a f h = rw (ap (λ (r : Reply). r .session .layout) h) (x .layout)
 layout-after s x (OfLayout (Insert m p r g)) t a f h =
     rw (ap (λ (r : Reply). r .session .layout) (h .2)) (inserted (s .layout) (x .layout) m p r g (h .0) (h .1))

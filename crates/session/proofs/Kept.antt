@@ -2,8 +2,8 @@
 use mathlib.Core.Path.{_≡_, refl, ap, _∙_}
 use mathlib.Core.Bool.{Bool, true, false, cond}
 use Rattle.layout.specs.declared.layout.Layout.{Layout}
-use Rattle.layout.specs.declared.open.Opening.{Opening}
-use Rattle.layout.specs.declared.open.Opening.the-variants as openings
+use Rattle.layout.specs.declared.open.OpenOutcome.{OpenOutcome}
+use Rattle.layout.specs.declared.open.OpenOutcome.the-variants as openings
 use Rattle.layout.specs.Check.{soundB}
 use Rattle.layout.specs.Open.{openOf}
 use Rattle.frames.specs.declared.Ask.the-variants.{Open, Offers, Insert, Remove, Report}
@@ -19,9 +19,9 @@ keptOf r = r .session .kept
 
 pub kept-after : (s : Session) (q : Request) (t : Session) (a : Answer) → Answers s q t a → t .kept ≡ keptIn s q
 unfolding Answers afterOpen afterOffers afterInsert afterRemove afterKeep afterRestore afterReport
-kept-after s (OfLayout (Open o)) t a h = let d = openOf (o .number) (o .settings .sheet) (o .cut) (o .settings .stages) in ap keptOf h ∙ opening (d .layout) (d .outcome)
+kept-after s (OfLayout (Open o)) t a h = let d = openOf o in ap keptOf h ∙ opening (d .layout) (d .outcome)
   where
-    opening : (l : Layout) (v : Opening) → keptOf (openedBy s l v) ≡ s .kept
+    opening : (l : Layout) (v : OpenOutcome) → keptOf (openedBy s l v) ≡ s .kept
     opening l (openings.Free m) = refl
     opening l (openings.Refused e) = refl
 kept-after s (OfLayout (Offers mark part)) t a h = ap keptOf h

@@ -8,8 +8,8 @@ use native.Mathlib.Omega.{arith}
 use Rattle.answers.specs.declared.Refusal.{Refusal}
 use Rattle.answers.specs.declared.Refusal.the-variants.{NotSound}
 use Rattle.layout.specs.declared.layout.Layout.{Layout}
-use Rattle.layout.specs.declared.open.Opening.{Opening}
-use Rattle.layout.specs.declared.open.Opening.the-variants as openings
+use Rattle.layout.specs.declared.open.OpenOutcome.{OpenOutcome}
+use Rattle.layout.specs.declared.open.OpenOutcome.the-variants as openings
 use Rattle.layout.specs.declared.replies.Outcome.{Outcome}
 use Rattle.layout.specs.declared.replies.Outcome.the-variants as outcomes
 use Rattle.layout.specs.declared.remove.Removed.{Removed}
@@ -40,7 +40,7 @@ not-accepted refuses accepts h =
 
 -- of an opening, of keep, and of a call that hands a layout back
 module _ {s t : Session} {a : Answer} (refuses : refusal a ≡ true) where
-  by-opening : (l : Layout) (o : Opening) → reply t a ≡ openedBy s l o → t ≡ s
+  by-opening : (l : Layout) (o : OpenOutcome) → reply t a ≡ openedBy s l o → t ≡ s
   by-opening l (openings.Free m) h = absurd (not-accepted refuses refl h)
   by-opening l (openings.Refused f) h = ap (λ (r : Reply). r .session) h
 
@@ -57,7 +57,7 @@ module _ {s t : Session} {a : Answer} (refuses : refusal a ≡ true) where
 pub refused-stays : (s : Session) (q : Request) {t : Session} (a : Answer) → refusal a ≡ true → Answers s q t a → t ≡ s
 unfolding Answers afterOpen afterOffers afterInsert afterRemove afterKeep afterRestore afterReport
 refused-stays s (OfLayout (Open o)) a e h =
-    let d = openOf (o .number) (o .settings .sheet) (o .cut) (o .settings .stages) in by-opening e (d .layout) (d .outcome) h
+    let d = openOf o in by-opening e (d .layout) (d .outcome) h
 refused-stays s (OfLayout (Offers mark part)) a e h = ap (λ (r : Reply). r .session) h
 refused-stays s (OfLayout (Insert m p r f)) a e h =
     by-outcome e (h .0 .layout) 3 _ (h .0 .outcome) refl (refused-as-it-came (s .layout) m p r f (h .0) (h .1)) (h .2)

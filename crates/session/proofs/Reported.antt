@@ -28,7 +28,7 @@ use Rattle.session.proofs.Ways.{report-gives}
 use Rattle.session.proofs.Usage.{usage-number}
 
 abbrev usage : Layout → Float
-usage l = sheetUsage (partArea (tree l)) (area (l .sheet))
+usage l = sheetUsage (partArea (tree l)) (area (l .settings .sheet))
 
 module _ (l : Layout) {u : UsageAnswer} (e : u ≡ sheetUsageOf l) where
   answered : {x : Float} → u ≡ Usage x → (soundB l ≡ true) × (x ≡ usage l)
@@ -54,7 +54,7 @@ module _ (l : Layout) {u : UsageAnswer} (e : u ≡ sheetUsageOf l) where
       let s = sound-says l sized (a .0) in
       let small = used-small l s in
       rw (a .1)
-      (usage-number (partArea (tree l)) (area (l .sheet)) (omega (arith, s .used)) (sheet-positive (s .sound .domain)) (omega arith))
+      (usage-number (partArea (tree l)) (area (l .settings .sheet)) (omega (arith, s .used)) (sheet-positive (s .sound .domain)) (omega arith))
 
   -- what the answer, or the refusal, asks for is said
   pub reported-done : {x : Float} {r : Said} {b : Bool} → Sized l → u ≡ Usage x → b ≡ false

@@ -14,7 +14,7 @@ use Rattle.piece.proofs.Offered.{held-count, offers-few}
 use Rattle.answers.specs.declared.Mark.{Mark}
 use Rattle.answers.specs.declared.Refusal.the-variants.{NotSound}
 use Rattle.layout.specs.declared.layout.Layout.{Layout}
-use Rattle.layout.specs.declared.open.Opening.{Opening as OpenOutcome}
+use Rattle.layout.specs.declared.open.OpenOutcome.{OpenOutcome}
 use Rattle.layout.specs.declared.open.Opened.{Opened}
 use Rattle.layout.specs.declared.replies.Outcome.{Outcome}
 use Rattle.layout.specs.declared.replies.Sought.{Sought}
@@ -64,7 +64,7 @@ by-outcome s op a h = ap (λ (x : Outcome). reply s (answerBy op a x)) (sym h)
 -- ---- one lemma for each op: the call's outcome was v, what v asks for is said, and b says whether that is a refusal
 module _ (l : Layout) {r : Said} where
   pub open-gives : (o : Opening) {d : Opened} {v : OpenOutcome} {next : Layout} {a : Answer} {b : Bool}
-      → d ≡ openOf (o .number) (o .settings .sheet) (o .cut) (o .settings .stages) → d .outcome ≡ v
+      → d ≡ openOf o → d .outcome ≡ v
       → ((kept : Layout) → reply (both next kept) a ≡ openedBy (both l kept) (d .layout) v) → b ≡ refusal a → Says a r
       → Replies l (Open o) (record { layout = next; refused = b; said = r })
   unfolding Answers afterOpen
@@ -169,7 +169,7 @@ offers-four l m p = go (freePieceOf l m p)
   where
     go : (f : Sought) → offeredFor l p f .offers .count ≤ 4
     go (sought.Refused e) = omega arith
-    go (sought.Piece d) = omega (arith, held-count (offersOf d p (l .stages)), offers-few d p (l .stages))
+    go (sought.Piece d) = omega (arith, held-count (offersOf d p (l .settings)), offers-few d p (l .settings))
 
 -- the part numbers that an accepted removal left in a buffer of zeros
 pub numbers-out : {left : List ℕ} (l : Layout) (m : Mark) (d : Removed) → TakenOut l m limit d → left ≡ numbersLeft l m (replicate limit 0)

@@ -16,8 +16,8 @@ use Rattle.answers.specs.declared.Mark.{Mark}
 use Rattle.answers.specs.declared.Refusal.the-variants.{NotSound}
 use Rattle.booking.specs.declared.marks.NewMarks.{NewMarks}
 use Rattle.layout.specs.declared.layout.Layout.{Layout}
-use Rattle.layout.specs.declared.open.Opening.{Opening}
-use Rattle.layout.specs.declared.open.Opening.the-variants as openings
+use Rattle.layout.specs.declared.open.OpenOutcome.{OpenOutcome}
+use Rattle.layout.specs.declared.open.OpenOutcome.the-variants as openings
 use Rattle.layout.specs.declared.open.Opened.{Opened}
 use Rattle.layout.specs.declared.replies.Outcome.{Outcome}
 use Rattle.layout.specs.declared.replies.Outcome.the-variants as outcomes
@@ -60,7 +60,7 @@ answerBy op a outcomes.Done = a
 answerBy op a (outcomes.Refused e) = refused op e
 
 -- a refused opening: "`counter` then keeps what it had"; the kept layout outlives openings
-abbrev pub openedBy : Session → Layout → Opening → Reply
+abbrev pub openedBy : Session → Layout → OpenOutcome → Reply
 openedBy s l (openings.Free m) = reply (withLayout s l) (opened m)
 openedBy s l (openings.Refused e) = reply s (refused 1 e)
 
@@ -102,7 +102,7 @@ afterRestore s r = reply (withLayout s (r .layout)) (answerBy 6 (done 6) (r .out
 -- "used area 8, nodes 1, sheet usage bits 8"
 abbrev pub figures : Layout → Answer
 figures l =
-    reported (partArea (tree l)) (count (tree l)) (toBits binary64 (sheetUsage (partArea (tree l)) (area (l .sheet))))
+    reported (partArea (tree l)) (count (tree l)) (toBits binary64 (sheetUsage (partArea (tree l)) (area (l .settings .sheet))))
 
 abbrev pub reportBy : Layout → Bool → Answer
 reportBy l sound = cond sound (figures l) (refused 7 NotSound)
@@ -112,7 +112,7 @@ afterReport s = reply s (reportBy (s .layout) (soundB (s .layout)))
 
 -- THE RULE: the request q, in the state s, gives the state t and the answer a
 unfoldable pub Answers : Session → Request → Session → Answer → Type 0
-Answers s (OfLayout (Open o)) t a = reply t a ≡ afterOpen s (openOf (o .number) (o .settings .sheet) (o .cut) (o .settings .stages))
+Answers s (OfLayout (Open o)) t a = reply t a ≡ afterOpen s (openOf o)
 Answers s (OfLayout (Offers mark part)) t a = reply t a ≡ afterOffers s (offersCall (s .layout) mark part)
 Answers s (OfLayout (Insert mark part rotation shape)) t a =
     (i : Inserted) × InsertSays (s .layout) mark part rotation shape i × (reply t a ≡ afterInsert s i)

@@ -9,7 +9,7 @@ use answers::Mark;
 use answers::Refusal;
 use frames::Ask;
 use layout::layout::Layout;
-use layout::open::Opening as OpenOutcome;
+use layout::open::OpenOutcome;
 use layout::replies::Outcome;
 use looks::replies::UsageAnswer;
 use piece::insertion_blueprint::InsertionShape;
@@ -43,9 +43,7 @@ pub struct Keeping {
 fn open(layout: Layout, opening: Opening) -> Response
     ensures { λ r. ⌜ Replies layout (asks.Open opening) r ⌝ }
 {
-    let cut = opening.cut;
-    let settings = opening.settings;
-    let opened = Layout::open(opening.number, settings.sheet, cut, settings.stages);
+    let opened = Layout::open(opening);
     let outcome = opened.outcome;
     match outcome {
         OpenOutcome::Free(mark) => {

@@ -9,7 +9,7 @@ returns : tie.Need-returns
 returns c =
     let k = c .before .before in
     let o = k .before .before .before in
-    let a = o .before .before .args in
+    let a = o .before .args in
     open-gives (a .layout) (a .opening) (o .«open» .ensures) (k .before .outcome .given .1) (λ _. refl) refl
     (c .opened .ensures)
 
@@ -17,7 +17,7 @@ returns-2 : tie.Need-returns-2
 returns-2 c =
     let k = c .before .before in
     let o = k .before .before in
-    let a = o .before .before .args in
+    let a = o .before .args in
     open-gives (a .layout) (a .opening) (o .«open» .ensures) (k .outcome2 .given .1) (λ _. refl) refl
     (c .refused .ensures)
 
