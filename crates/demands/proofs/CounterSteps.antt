@@ -14,8 +14,8 @@ use Rattle.lists.proofs.Scan.{clash}
 use Rattle.answers.specs.declared.Mark.{Mark}
 use Rattle.answers.specs.declared.Refusal.the-variants.{NotSound}
 use Rattle.layout.specs.declared.layout.Layout.{Layout}
-use Rattle.layout.specs.declared.open.Opening.{Opening}
-use Rattle.layout.specs.declared.open.Opening.the-variants as opening
+use Rattle.layout.specs.declared.open.OpenOutcome.{OpenOutcome}
+use Rattle.layout.specs.declared.open.OpenOutcome.the-variants as opening
 use Rattle.layout.specs.declared.replies.Outcome.{Outcome}
 use Rattle.layout.specs.declared.replies.Outcome.the-variants as outcomes
 use Rattle.layout.specs.declared.insert.Inserted.{Inserted}
@@ -65,9 +65,9 @@ declined q op looks t a h = rw (says (unsound-refused started q op looks zero-re
 pub started-declines : (q : Request) (t : Session) (a : Answer) → Answers started q t a → opens a ≡ [] → Declines a
 unfolding Answers afterOpen
 started-declines (OfLayout (Open o)) t a h e =
-    let d = openOf (o .number) (o .settings .sheet) (o .cut) (o .settings .stages) in go (d .layout) (d .outcome) h
+    let d = openOf o in go (d .layout) (d .outcome) h
   where
-    go : (l : Layout) (v : Opening) → reply t a ≡ openedBy started l v → Declines a
+    go : (l : Layout) (v : OpenOutcome) → reply t a ≡ openedBy started l v → Declines a
     go l (opening.Free m) h = let z : _≡_ {A = List ℕ} (m .layout ∷ []) [] = ap opens (sym (says h)) ∙ e in absurd (clash (cc))
     go l (opening.Refused r) h = rw (says h) tt
 started-declines (OfLayout (Offers m p)) t a h e = declined (OfLayout (Offers m p)) 2 refl t a h
@@ -145,7 +145,7 @@ pub life-begins : {s t : Session} {a : Answer} (o : Opens s t a) → Stale (o .m
 life-begins o stale =
     rw (o .state)
     (record {
-      life = life.Life.opened (o .number) (o .size) (o .cut) (o .stages) (o .mark) (o .accepted);
+      life = life.Life.opened (o .asked) (o .mark) (o .accepted);
       kept = inr (rw (← ap (λ (x : Session). x .layout .number) (o .state), opened-number o) stale);
     })
 
@@ -176,7 +176,7 @@ pub writes : {s t : Session} {a : Answer} → Sized (s .layout) → Way s t a �
 unfolding insertNo removeNo
 writes sized (byOpening o) k h =
     let same : k ≡ o .mark = List·Memᴰ·eq-of-singleton (rw (o .answer) at h) in
-    record { given = rw (o .state, same) (byOpen (o .number) (o .size) (o .cut) (o .stages) (o .mark) (o .accepted)); sound = inl o }
+    record { given = rw (o .state, same) (byOpen (o .asked) (o .mark) (o .accepted)); sound = inl o }
 writes {s} {t} sized (byInsert m p r f i says e b) k h =
     let z = outcome-marks 3 (marksSaid (i .marks)) (i .outcome) k (rw b at h) in
     record {

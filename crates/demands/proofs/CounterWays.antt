@@ -8,19 +8,18 @@ use mathlib.Core.Logic.{_⊎_, inl, inr, ⊎-elim}
 use Prim.Native.Nat.{ℕ}
 use lib.Dec.{eqb}
 use borrow.Author.Tests.{eqb-true}
-use Rattle.piece.specs.declared.size.Size.{Size}
-use Rattle.piece.specs.declared.orientation.Orientation.{Orientation}
 use Rattle.piece.specs.declared.rotation.Rotation.{Rotation}
 use Rattle.piece.specs.declared.parttype.PartType.{PartType}
 use Rattle.piece.specs.declared.insertion_blueprint.InsertionShape.{InsertionShape}
+use Rattle.piece.specs.declared.settings.Opening.{Opening}
 use Rattle.tree.specs.Tree.{Tree}
 use Rattle.lists.proofs.Scan.{clash}
 use Rattle.answers.specs.declared.Mark.{Mark}
 use Rattle.answers.specs.declared.Refusal.{Refusal}
 use Rattle.answers.specs.declared.Refusal.the-variants.{NotSound}
 use Rattle.layout.specs.declared.layout.Layout.{Layout}
-use Rattle.layout.specs.declared.open.Opening.{Opening}
-use Rattle.layout.specs.declared.open.Opening.the-variants as opening
+use Rattle.layout.specs.declared.open.OpenOutcome.{OpenOutcome}
+use Rattle.layout.specs.declared.open.OpenOutcome.the-variants as opening
 use Rattle.layout.specs.declared.replies.Outcome.{Outcome}
 use Rattle.layout.specs.declared.replies.Outcome.the-variants as outcomes
 use Rattle.layout.specs.declared.insert.Inserted.{Inserted}
@@ -55,13 +54,10 @@ pub record Quiet (a : Answer) : Type 0 where
 
 -- an accepted opening
 pub record Opens (s t : Session) (a : Answer) : Type 0 where
-  pub number : ℕ
-  pub size : Size
-  pub cut : Orientation
-  pub stages : ℕ
+  pub asked : Opening
   pub mark : Mark
-  pub accepted : openOf number size cut stages .outcome ≡ opening.Free mark
-  pub state : t ≡ withLayout s (openOf number size cut stages .layout)
+  pub accepted : openOf asked .outcome ≡ opening.Free mark
+  pub state : t ≡ withLayout s (openOf asked .layout)
   pub answer : a ≡ opened mark
 
 pub data Way (s t : Session) (a : Answer) : Type 0 where
@@ -93,17 +89,14 @@ outcome-quiet op b q (outcomes.Refused e) = refused-quiet op e
 
 pub way : (s : Session) (q : Request) (t : Session) (a : Answer) → Answers s q t a → Way s t a
 unfolding Answers afterOpen afterOffers afterInsert afterRemove afterKeep afterRestore afterReport
-way s (OfLayout (Open o)) t a h = go (openOf (o .number) (o .settings .sheet) (o .cut) (o .settings .stages) .outcome) refl h
+way s (OfLayout (Open o)) t a h = go (openOf o .outcome) refl h
   where
-    go : (v : Opening) → openOf (o .number) (o .settings .sheet) (o .cut) (o .settings .stages) .outcome ≡ v
-        → reply t a ≡ openedBy s (openOf (o .number) (o .settings .sheet) (o .cut) (o .settings .stages) .layout) v → Way s t a
+    go : (v : OpenOutcome) → openOf o .outcome ≡ v
+        → reply t a ≡ openedBy s (openOf o .layout) v → Way s t a
     go (opening.Free m) e h =
         byOpening
         (record {
-          number = o .number;
-          size = o .settings .sheet;
-          cut = o .cut;
-          stages = o .settings .stages;
+          asked = o;
           mark = m;
           accepted = e;
           state = to h;
@@ -229,14 +222,14 @@ none-opened o h = let z : _≡_ {A = List ℕ} (o .mark .layout ∷ []) [] = ap 
 pub opened-number : {s t : Session} {a : Answer} (o : Opens s t a) → t .layout .number ≡ o .mark .layout
 unfolding freshLayout
 opened-number o =
-    let z = opened-so (o .number) (o .size) (o .cut) (o .stages) (o .mark) (o .accepted) in rw (o .state, z .1, z .2) refl
+    let z = opened-so (o .asked) (o .mark) (o .accepted) in rw (o .state, z .1, z .2) refl
 
 -- ---- soundness stays
 
 opened-right : {s t : Session} {a : Answer} (o : Opens s t a) → Sized (t .layout) × SoundLayout (t .layout)
 opened-right o =
-    let z = opened-so (o .number) (o .size) (o .cut) (o .stages) (o .mark) (o .accepted) in
-    rw (o .state, z .1) (fresh-sized (o .size) (o .cut) (o .number) (o .stages), fresh-sound (o .size) (o .cut) (o .number) (o .stages) (z .0))
+    let z = opened-so (o .asked) (o .mark) (o .accepted) in
+    rw (o .state, z .1) (fresh-sized (o .asked), fresh-sound (o .asked) (z .0))
 
 pub opened-checked : {s t : Session} {a : Answer} → Opens s t a → soundB (t .layout) ≡ true
 opened-checked {t = t} o = let z = opened-right o in sound-shown (t .layout) (z .0) (z .1)

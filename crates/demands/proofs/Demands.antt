@@ -9,12 +9,11 @@ use mathlib.Core.Option.{some}
 use mathlib.Core.Bool.{false, true}
 use Prim.Native.Nat.{ℕ}
 use lib.ListN.{length}
-use Rattle.piece.specs.declared.size.Size.{Size}
-use Rattle.piece.specs.declared.orientation.Orientation.{Orientation}
 use Rattle.piece.specs.declared.rotation.Rotation.{Rotation}
 use Rattle.piece.specs.declared.parttype.PartType.{PartType}
 use Rattle.piece.specs.declared.node.Datum.{Datum}
 use Rattle.piece.specs.declared.insertion_blueprint.InsertionShape.{InsertionShape}
+use Rattle.piece.specs.declared.settings.Opening.{Opening}
 use Rattle.tree.specs.Tree.{At, Inside}
 use Rattle.tree.specs.Family.{parentOf}
 use Rattle.booking.specs.Marks.{zeroMark, zeroMarks}
@@ -24,7 +23,7 @@ use Rattle.answers.specs.declared.Refusal.the-variants.{Gone}
 use Rattle.layout.specs.declared.layout.Layout.{Layout}
 use Rattle.layout.specs.declared.replies.Outcome.the-variants.{Refused}
 use Rattle.layout.specs.declared.replies.Sought.the-variants as sought
-use Rattle.layout.specs.declared.open.Opening.the-variants as opening
+use Rattle.layout.specs.declared.open.OpenOutcome.the-variants as opening
 use Rattle.layout.specs.declared.insert.Inserted.{Inserted}
 use Rattle.layout.specs.declared.remove.Removed.{Removed}
 use Rattle.layout.specs.Check.{limit, tree, soundB}
@@ -43,6 +42,8 @@ use Rattle.looks.proofs.Refusals as looking
 use Rattle.reasons.specs.Answers.{whyCall}
 use Rattle.lines.specs.Text.{Line}
 use Rattle.frames.specs.declared.Request.{Request}
+use Rattle.frames.specs.declared.Ask.the-variants.{Open}
+use Rattle.frames.specs.declared.Request.the-variants.{OfLayout}
 use Rattle.frames.specs.Answers.{Answer, opened}
 use Rattle.session.specs.declared.Session.{Session}
 use Rattle.session.specs.Session.{Answers, started}
@@ -50,7 +51,7 @@ use Rattle.session.specs.Listener.{Runs}
 use Rattle.demands.specs.Life.{Given, Later, Life, Names, OneOf, SamePiece, openedOn, stock}
 use Rattle.demands.specs.Calls.{AreasCover, InsertAccepted, RemoveAccepted, SameTree}
 use Rattle.demands.specs.Examined.{Examined}
-use Rattle.demands.specs.Counter.{Lasts, Lives, OpenedOnce, marksWritten, openings, toOpen}
+use Rattle.demands.specs.Counter.{Lasts, Lives, OpenedOnce, marksWritten, openings}
 use Rattle.demands.proofs.Lives as lives
 use Rattle.demands.proofs.Marks as marks
 use Rattle.demands.proofs.MarksGiven as given
@@ -106,10 +107,9 @@ pub a-mark-at-the-counter : {t u v : Session} {before after : List Line} {xs ys 
 a-mark-at-the-counter = counter.marks-last-at-the-counter
 
 -- a second opening of the number answers the same mark, and it names a piece of the new sheet: so the law is of a number that was opened once
-pub a-second-opening : (s t u v : Session) (number : ℕ) (size : Size) (cut : Orientation) (stages : ℕ) (m : Mark)
-    → Answers s (toOpen number size cut stages) t (opened m) → (size′ : Size) (cut′ : Orientation) (stages′ : ℕ) (m′ : Mark)
-    → Answers u (toOpen number size′ cut′ stages′) v (opened m′)
-    → (m′ ≡ m) × Names (v .layout) m × (SamePiece (t .layout) (v .layout) m → size′ ≡ size)
+pub a-second-opening : (s t u v : Session) (o : Opening) (m : Mark) → Answers s (OfLayout (Open o)) t (opened m)
+    → (o′ : Opening) (m′ : Mark) → o′ .number ≡ o .number → Answers u (OfLayout (Open o′)) v (opened m′)
+    → (m′ ≡ m) × Names (v .layout) m × (SamePiece (t .layout) (v .layout) m → o′ .settings .sheet ≡ o .settings .sheet)
 a-second-opening = reopened.the-same-number
 
 -- ---- Demand 1, answers: "A refusal gives its number, the layout as it came, lent memory untouched." (Every call ends with an answer on every input: its
@@ -129,8 +129,8 @@ its-buffer = refusals.refused-numbers
 pub a-refused-restore : (l s : Layout) (e : Refusal) → restoreOf l s .outcome ≡ Refused e → restoreOf l s .layout ≡ l
 a-refused-restore = refusals.refused-restore
 
-pub a-refused-opening : (number : ℕ) (size : Size) (cut : Orientation) (stages : ℕ) (e : Refusal)
-    → openOf number size cut stages .outcome ≡ opening.Refused e → openOf number size cut stages .layout ≡ zeroLayout
+pub a-refused-opening : (o : Opening) (e : Refusal)
+    → openOf o .outcome ≡ opening.Refused e → openOf o .layout ≡ zeroLayout
 a-refused-opening = refusals.refused-open
 
 -- the calls that write into a lent buffer and hand no layout back, by what each writes: `snapshotBytes l`, `heldNumbers l` and `sawBytes l`
@@ -165,9 +165,9 @@ pub removals-commute : (l : Layout) → Sized l → (m m′ : Mark) → Names l 
 removals-commute = removals.removes-commute
 
 -- "Part area plus free area is the sheet, throughout." On every sound layout:
-pub areas-add-up : (l : Layout) → Sized l → soundB l ≡ true → AreasCover l (l .sheet)
+pub areas-add-up : (l : Layout) → Sized l → soundB l ≡ true → AreasCover l (l .settings .sheet)
 areas-add-up = areas.areas-cover-sound
 
--- and in every state of a life, where the sheet, the number and the stages are those that the opening was asked for
-pub areas-throughout : {ls : List Layout} (life : Life ls) (l : Layout) → OneOf l ls → (stock l ≡ openedOn life) × AreasCover l (openedOn life .sheet)
+-- and in every state of a life, where the number and the settings, the sheet among them, are those that the opening was asked for
+pub areas-throughout : {ls : List Layout} (life : Life ls) (l : Layout) → OneOf l ls → (stock l ≡ openedOn life) × AreasCover l (openedOn life .settings .sheet)
 areas-throughout = throughout.throughout

@@ -10,9 +10,7 @@ use mathlib.Core.Bool.{true, false}
 use mathlib.Core.List.{List, [], _∷_, _++_, List·Memᴰ}
 use mathlib.Core.Logic.{_⊎_}
 use Prim.Native.Nat.{ℕ}
-use Rattle.piece.specs.declared.orientation.Orientation.{Orientation}
 use Rattle.piece.specs.declared.rotation.Rotation.{Rotation}
-use Rattle.piece.specs.declared.size.Size.{Size}
 use Rattle.piece.specs.declared.parttype.PartType.{PartType}
 use Rattle.piece.specs.declared.insertion_blueprint.InsertionShape.{InsertionShape}
 use Rattle.answers.specs.declared.Mark.{Mark}
@@ -21,7 +19,7 @@ use Rattle.answers.specs.declared.Refusal.the-variants.{OtherLayout, Gone}
 use Rattle.layout.specs.declared.layout.Layout.{Layout}
 use Rattle.layout.specs.Check.{soundB}
 use Rattle.layout.specs.Asked.{partB}
-use Rattle.frames.specs.declared.Ask.the-variants.{Open, Offers, Insert, Remove}
+use Rattle.frames.specs.declared.Ask.the-variants.{Offers, Insert, Remove}
 use Rattle.frames.specs.declared.Request.{Request}
 use Rattle.frames.specs.declared.Request.the-variants.{OfLayout}
 use Rattle.frames.specs.Answers.{Answer, refused, opened, offered, inserted, removed, done, reported, malformed}
@@ -95,10 +93,6 @@ pub record GoesOn (s : Session) (earlier : List Layout) (t : Session) : Type 0 w
   pub then : List Layout
   pub lives : Lives t then
   pub holds : (l : Layout) → OneOf l (s .layout ∷ earlier) → OneOf l (t .layout ∷ then)
-
--- ---- an opening, as it is asked for
-abbrev pub toOpen : ℕ → Size → Orientation → ℕ → Request
-toOpen number size cut stages = OfLayout (Open (record { number = number; settings = record { stages = stages; sheet = size }; cut = cut }))
 
 -- ---- a mark that was written
 
