@@ -5,16 +5,16 @@ ghost use Prim.Native.Nat.{_≤_};
 ghost use lib.Dec.{T};
 ghost use Rattle.frames.specs.Answers.{Answer};
 ghost use Rattle.session.specs.Session.{longest};
-ghost use Rattle.session.specs.Desk.{Turns};
+ghost use Rattle.session.specs.Listener.{Turns};
 use libc::STDIN_FILENO;
 use libc::STDOUT_FILENO;
 use pipes::Came;
 use session::LONGEST;
-use session::desk::Desk;
+use session::listener::Listener;
 
-// The desk after a chunk, and whether all its answers could be written.
+// The listener after a chunk, and whether all its answers could be written.
 struct Served {
-    desk: Desk,
+    listener: Listener,
     written: bool,
 }
 
@@ -26,26 +26,26 @@ fn say(line: [u8; LONGEST], count: usize) -> bool
 }
 
 // Takes turns until the chunk is used up.
-fn serve(desk: Desk, chunk: &[u8]) -> Served
-    ensures { λ r. ⌜ (T (r .written) → (xs : List Answer) × Turns (now (chunk .entry)) desk 0 xs (r .desk)) ⌝ }
+fn serve(listener: Listener, chunk: &[u8]) -> Served
+    ensures { λ r. ⌜ (T (r .written) → (xs : List Answer) × Turns (now (chunk .entry)) listener 0 xs (r .listener)) ⌝ }
 {
-    let mut d = desk;
+    let mut d = listener;
     let mut at: usize = 0;
     while at < chunk.len() {
         let turn = d.turn(chunk, at);
         let line = turn.line;
         if say(line, turn.count) {} else {
             return Served {
-                desk: d,
+                listener: d,
                 written: false,
             };
         }
-        let next = turn.desk;
+        let next = turn.listener;
         d = next;
         at = turn.next;
     }
     Served {
-        desk: d,
+        listener: d,
         written: true,
     }
 }
@@ -54,21 +54,21 @@ fn serve(desk: Desk, chunk: &[u8]) -> Served
 // that no run uses up. An answer that can't be written is the last; and a read that fails is no end of the input, so a line that has begun gets no
 // answer then. The kit gives a program no exit status: what failed is said on standard error.
 fn main() {
-    let mut desk = Desk::start();
+    let mut listener = Listener::start();
     let mut reads = u64::MAX;
     while 0 < reads {
         let mut chunk = io::buffer();
         match pipes::read_some(STDIN_FILENO, &mut chunk, b"counter: reading") {
             Came::Bytes(n) => {
-                let served = serve(desk, &chunk[..n]);
+                let served = serve(listener, &chunk[..n]);
                 if served.written {} else {
                     return;
                 }
-                let next = served.desk;
-                desk = next;
+                let next = served.listener;
+                listener = next;
             }
             Came::End => {
-                let last = desk.end();
+                let last = listener.end();
                 let line = last.line;
                 say(line, last.count);
                 return;

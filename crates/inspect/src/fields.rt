@@ -8,6 +8,7 @@ use crate::pen::put_eight;
 use crate::pen::put_four;
 use crate::pen::put_two;
 use answers::Mark;
+use frames::Ask;
 use frames::Request;
 use layout::layout::Layout;
 use looks::replies::AreaAnswer;
@@ -155,17 +156,24 @@ fn light_for(out: &mut [u8; ROOM], pen: Pen, layout: Layout, part: PartType) -> 
     }
 }
 
-// The room light, for the part that a line asks offers or room for.
-pub fn light(out: &mut [u8; ROOM], pen: Pen, layout: Layout, request: Request) -> Pen {
-    let p = put(out, pen, b' ');
-    match request {
-        Request::Offers { mark, part } => light_for(out, p, layout, part),
-        Request::Insert {
+fn light_of(out: &mut [u8; ROOM], pen: Pen, layout: Layout, ask: Ask) -> Pen {
+    match ask {
+        Ask::Offers { mark, part } => light_for(out, pen, layout, part),
+        Ask::Insert {
             mark,
             part,
             rotation,
             shape,
-        } => light_for(out, p, layout, part),
+        } => light_for(out, pen, layout, part),
+        _ => missing(out, pen),
+    }
+}
+
+// The room light, for the part that a line asks offers or room for.
+pub fn light(out: &mut [u8; ROOM], pen: Pen, layout: Layout, request: Request) -> Pen {
+    let p = put(out, pen, b' ');
+    match request {
+        Request::OfLayout(ask) => light_of(out, p, layout, ask),
         _ => missing(out, p),
     }
 }

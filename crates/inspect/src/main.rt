@@ -11,12 +11,12 @@ use lines::stream::MOST;
 use lines::stream::Pending;
 use pen::ROOM;
 use pipes::Came;
-use session::desk::Desk;
-use session::desk::Turn;
+use session::listener::Listener;
+use session::listener::Turn;
 
-// The desk after a chunk, and whether all its lines could be written.
+// The listener after a chunk, and whether all its lines could be written.
 struct Served {
-    desk: Desk,
+    listener: Listener,
     written: bool,
 }
 
@@ -47,7 +47,7 @@ fn tell(turn: Turn, request: Request) -> bool {
         return true;
     }
     let line = turn.line;
-    let layout = turn.desk.session.layout;
+    let layout = turn.listener.session.layout;
     let mut out = [0u8; ROOM];
     let one = fields::answer(&mut out, pen::start(), line, count);
     let two = fields::snapshot(&mut out, one, layout);
@@ -61,8 +61,8 @@ fn tell(turn: Turn, request: Request) -> bool {
 }
 
 // Takes turns until the chunk is used up.
-fn serve(desk: Desk, chunk: &[u8]) -> Served {
-    let mut d = desk;
+fn serve(listener: Listener, chunk: &[u8]) -> Served {
+    let mut d = listener;
     let mut at: usize = 0;
     while at < chunk.len() {
         let begun = d.pending;
@@ -70,37 +70,37 @@ fn serve(desk: Desk, chunk: &[u8]) -> Served {
         let turn = d.turn(chunk, at);
         if tell(turn, request) {} else {
             return Served {
-                desk: d,
+                listener: d,
                 written: false,
             };
         }
-        let next = turn.desk;
+        let next = turn.listener;
         d = next;
         at = turn.next;
     }
     Served {
-        desk: d,
+        listener: d,
         written: true,
     }
 }
 
 // As in `counter`: it reads what is there, and counts its reads down from a number that no run uses up.
 fn main() {
-    let mut desk = Desk::start();
+    let mut listener = Listener::start();
     let mut reads = u64::MAX;
     while 0 < reads {
         let mut chunk = io::buffer();
         match pipes::read_some(STDIN_FILENO, &mut chunk, b"inspect: reading") {
             Came::Bytes(n) => {
-                let served = serve(desk, &chunk[..n]);
+                let served = serve(listener, &chunk[..n]);
                 if served.written {} else {
                     return;
                 }
-                let next = served.desk;
-                desk = next;
+                let next = served.listener;
+                listener = next;
             }
             Came::End => {
-                tell(desk.end(), Request::Malformed);
+                tell(listener.end(), Request::Malformed);
                 return;
             }
             Came::Failed => return,

@@ -6,10 +6,10 @@ use Rattle.counter.proofs.main.Statement.{statement}
 use Rattle.counter.proofs.main.Tie as tie
 
 abbrev Inv-loop : tie.InvT-loop
-Inv-loop desk₀ reads₀ t9 desk reads = Unit {0}
+Inv-loop listener₀ reads₀ t9 listener reads = Unit {0}
 
 abbrev μ-loop : tie.MeasureT-loop
-μ-loop desk₀ reads₀ t9 desk reads = reads
+μ-loop listener₀ reads₀ t9 listener reads = reads
 
 array-share-prefix-chunk : tie.Need-array-share-prefix-chunk Inv-loop μ-loop
 array-share-prefix-chunk c = bytes-count _ (c .before .n .given .1) (c .before .before .before .read-some .ensures) .0

@@ -4,8 +4,8 @@ use Prim.Native.Nat.{_-_}
 use native.Mathlib.Omega.{arith}
 use lib.ListN.{length}
 use Rattle.frames.specs.Answers.{Answer}
-use Rattle.session.specs.declared.desk.Desk.{Desk}
-use Rattle.session.specs.Desk.{Turns, stop, go}
+use Rattle.session.specs.declared.listener.Listener.{Listener}
+use Rattle.session.specs.Listener.{Turns, stop, go}
 use Rattle.session.proofs.Uses.{count-fits, turn-forward}
 use borrow.Author.Needs.{needs}
 use Rattle.counter.proofs.serve.Statement.{statement}
@@ -13,7 +13,7 @@ use Rattle.counter.proofs.serve.Tie as tie
 
 abbrev Inv-loop : tie.InvT-loop
 Inv-loop chunk d₀ at₀ d at =
-    (xs : List Answer) (e : Desk) → Turns chunk d at xs e → (ys : List Answer) × Turns chunk d₀ 0 ys e
+    (xs : List Answer) (e : Listener) → Turns chunk d at xs e → (ys : List Answer) × Turns chunk d₀ 0 ys e
 
 abbrev μ-loop : tie.MeasureT-loop
 μ-loop chunk d₀ at₀ d at = length chunk - at
