@@ -10,7 +10,7 @@ use Rattle.piece.specs.declared.rotation.Rotation.{Rotation}
 use Rattle.piece.specs.declared.parttype.PartType.{PartType}
 use Rattle.piece.specs.declared.insertion_blueprint.InsertionShape.{InsertionShape}
 use Rattle.piece.specs.Insertion.{newNodes}
-use Rattle.tree.specs.Tree.{isFree}
+use Rattle.piece.specs.Kinds.{isFree}
 use Rattle.answers.specs.declared.Mark.{Mark}
 use Rattle.layout.specs.declared.layout.Layout.{Layout}
 use Rattle.layout.specs.declared.replies.Sought.the-variants as sought

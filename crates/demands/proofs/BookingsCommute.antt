@@ -67,7 +67,7 @@ module _ (l : Layout) (x : ℕ) (p : PartType) (r : Rotation) (s : InsertionShap
 
     another : x ≡ y → ⊥
     another z =
-        less-gone limit (l .stages) (l .sheet) (tree l) sound x (pieceAt l x) (can .there) (can .free) (in-eq (less x (tree l)) (sym z) is-left)
+        less-gone limit (l .settings) (tree l) sound x (pieceAt l x) (can .there) (can .free) (in-eq (less x (tree l)) (sym z) is-left)
 
     place-kept : Clear y booking
     place-kept j few z = go (decLt (newPlace limit (less x (tree l)) j) limit)
@@ -141,7 +141,7 @@ module _ (l : Layout) (sized : Sized l)
 
     first-left : At x (pieceAt l x) (less y (tree l))
     first-left =
-        less-keeps limit (l .stages) (l .sheet) (tree l) (k .insertable .sound .sound) y (pieceAt l y) (k .insertable .there) (k .insertable .free)
+        less-keeps limit (l .settings) (tree l) (k .insertable .sound .sound) y (pieceAt l y) (k .insertable .there) (k .insertable .free)
         x (pieceAt l x) (i .insertable .there) apart
 
     names : Names (c .layout) m

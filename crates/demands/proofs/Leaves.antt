@@ -30,9 +30,10 @@ use Rattle.layout.specs.declared.insert.Inserted.{Inserted}
 use Rattle.layout.specs.declared.remove.Removed.{Removed}
 use Rattle.layout.specs.Check.{limit, tree}
 use Rattle.layout.specs.SoundLayout.{SoundLayout}
-use Rattle.layout.specs.Insert.{bookingFor, pieceAt, Insertable, InsertDone}
-use Rattle.layout.specs.Remove.{placeFor, RemoveDone, Takeable}
+use Rattle.layout.specs.Insert.{bookingFor, pieceAt, InsertDone}
+use Rattle.layout.specs.Remove.{placeFor, RemoveDone}
 use Rattle.layout.proofs.Listed.{piece-is}
+use Rattle.layout.specs.Inner.{Insertable, Takeable}
 use Rattle.demands.specs.Life.{Names}
 use Rattle.demands.proofs.Outcomes.{insertable-fresh}
 
@@ -80,7 +81,7 @@ module _ (l : Layout) (x : ℕ) (p : PartType) (r : Rotation) (s : InsertionShap
   abbrev d : Datum
   d = pieceAt l x
 
-  booked-sound : Sound limit (l .stages) (l .sheet) (tree l)
+  booked-sound : Sound limit (l .settings) (tree l)
   booked-sound = can .sound .sound
 
   pub insert-leaves : Leaves l (a .layout) (less x (tree l))
@@ -91,15 +92,15 @@ module _ (l : Layout) (x : ℕ) (p : PartType) (r : Rotation) (s : InsertionShap
         number = done .next .number;
         was = λ i e h. less-at i e x (tree l) h;
         stays = λ i e h.
-            rw (done .next .tree) (book-left limit (l .stages) (l .sheet) (tree l) booked-sound x d (can .there) (can .free) b i e h);
+            rw (done .next .tree) (book-left limit (l .settings) (tree l) booked-sound x d (can .there) (can .free) b i e h);
         parent = λ i e h.
             rw (done .next .tree)
-            (book-parent limit (l .stages) (l .sheet) (tree l) booked-sound x d (can .there) (can .free) b (insertable-fresh l x p r s can) i e h);
+            (book-parent limit (l .settings) (tree l) booked-sound x d (can .there) (can .free) b (insertable-fresh l x p r s can) i e h);
         pieces = λ i e h.
             ⊎-elim inl
             (λ z. inr
-            (newer limit (l .stages) (l .sheet) (tree l) booked-sound x d (can .there) (can .free) b (l .serial) (can .sound .serials) refl i e z))
-            (book-pieces limit (l .stages) (l .sheet) (tree l) booked-sound x d (can .there) (can .free) b i e (rw (done .next .tree) at h));
+            (newer limit (l .settings) (tree l) booked-sound x d (can .there) (can .free) b (l .serial) (can .sound .serials) refl i e z))
+            (book-pieces limit (l .settings) (tree l) booked-sound x d (can .there) (can .free) b i e (rw (done .next .tree) at h));
       }
 
 -- a removal of the piece at x
@@ -109,7 +110,7 @@ module _ (l : Layout) (x : ℕ) (can : Takeable l x) (a : Removed) (done : Remov
 
   -- the place of the new free piece is not held by what is left
   pub new-unheld : In (placeFor l x) (cleared x (tree l)) → ⊥
-  new-unheld = fresh-removal limit (l .stages) (l .sheet) (tree l) (can .sound .sound) x (can .removable) .1
+  new-unheld = fresh-removal limit (l .settings) (tree l) (can .sound .sound) x (can .removable) .1
 
   new-later : (e : Datum) → e ≡ newFree (l .nodes) x (l .serial) → l .serial < e .serial
   new-later e z = let s = ap (λ (f : Datum). f .serial) z ∙ new-serial (l .nodes) x (l .serial) in omega arith
@@ -126,6 +127,6 @@ module _ (l : Layout) (x : ℕ) (can : Takeable l x) (a : Removed) (done : Remov
             rw (done .next .tree) (remove-parent limit x n (l .serial + 1) (tree l) (can .sound .sound .distinct) new-unheld i e h);
         pieces = λ i e h.
             ⊎-elim inl (λ z. inr (new-later e (z .1)))
-            (remove-pieces limit (l .stages) (l .sheet) (l .nodes) (tree l) (can .sound .sound) (can .sound .holds) x (can .removable) n (l .serial)
+            (remove-pieces limit (l .settings) (l .nodes) (tree l) (can .sound .sound) (can .sound .holds) x (can .removable) n (l .serial)
             new-unheld i e (rw (done .next .tree) at h));
       }

@@ -17,9 +17,10 @@ use Rattle.piece.specs.declared.node.Datum.{Datum}
 use Rattle.piece.specs.declared.node.Kind.{Kind}
 use Rattle.piece.specs.declared.node.Kind.the-variants.{Free, Part, Structure}
 use Rattle.piece.specs.declared.insertion_blueprint.InsertionShape.{InsertionShape}
+use Rattle.piece.specs.Kinds.{isFree, isPart}
 use Rattle.lists.proofs.Scan.{clash}
 use Rattle.piece.specs.declared.settings.Opening.{Opening}
-use Rattle.tree.specs.Tree.{Tree, At, isFree, isPart}
+use Rattle.tree.specs.Tree.{Tree, At}
 use Rattle.tree.specs.Open.{firstFree}
 use Rattle.tree.specs.Booking.{Booking, block}
 use Rattle.tree.specs.Steps.{less}

@@ -17,13 +17,13 @@ use Rattle.piece.specs.declared.node.Datum.{Datum}
 use Rattle.piece.specs.declared.insertion_blueprint.InsertionShape.{InsertionShape}
 use Rattle.piece.specs.Offers.{fits, turned}
 use Rattle.piece.specs.declared.settings.Opening.{Opening}
+use Rattle.piece.proofs.Offering.{offered-says}
 use Rattle.lists.proofs.Scan.{clash}
 use Rattle.tree.specs.Accepted.{Fresh}
 use Rattle.tree.proofs.Family.{fresh-booking}
 use Rattle.answers.specs.declared.Mark.{Mark}
 use Rattle.answers.specs.declared.Refusal.{Refusal}
 use Rattle.answers.specs.declared.Refusal.the-variants.{BufferTooShort}
-use Rattle.booking.proofs.Offering.{offered-says}
 use Rattle.layout.specs.declared.layout.Layout.{Layout}
 use Rattle.layout.specs.declared.open.OpenOutcome.the-variants as opening
 use Rattle.layout.specs.declared.replies.Outcome.the-variants.{Done}
@@ -86,7 +86,7 @@ pub record InsertMeans (l : Layout) (m : Mark) (p : PartType) (r : Rotation) (s 
 pub insertable-fresh : (l : Layout) (x : ℕ) (p : PartType) (r : Rotation) (s : InsertionShape) → Insertable l x p r s
     → Fresh limit x (bookingFor l x p r s) (tree l)
 insertable-fresh l x p r s y =
-    fresh-booking limit (l .stages) (l .sheet) (tree l) (y .sound .sound) x (pieceAt l x) (y .there) (y .free) (bookingFor l x p r s)
+    fresh-booking limit (l .settings) (tree l) (y .sound .sound) x (pieceAt l x) (y .there) (y .free) (bookingFor l x p r s)
     (λ j h. refl) (omega (arith, y .room, y .sound .held))
 
 pub accepted-insert : (l : Layout) (m : Mark) (p : PartType) (r : Rotation) (s : InsertionShape) (a : Inserted) → Sized l
@@ -98,7 +98,7 @@ accepted-insert l m p r s a sized h =
       insertable = y .1;
       number = y .0 .layout;
       serial = y .0 .serial;
-      inside = offered-says (pieceAt l (m .place)) p (l .stages) r s (y .1 .offered) .inside;
+      inside = offered-says (pieceAt l (m .place)) p (l .settings) r s (y .1 .offered) .inside;
       fresh = insertable-fresh l (m .place) p r s (y .1);
       done = d .1;
     }

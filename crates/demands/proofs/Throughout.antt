@@ -1,4 +1,4 @@
--- Demand 3, "Part area plus free area is the sheet, throughout": every state of a life has the number, the sheet and the stages that its opening was asked
+-- Demand 3, "Part area plus free area is the sheet, throughout": every state of a life has the number, the sheet and the settings that its opening was asked
 -- for, also after a restore, which gives an earlier state; so the two areas add up to that sheet in each. It rests on what a call has done
 -- (Outcomes). Assumes nothing.
 use mathlib.Core.Path.{_≡_, refl, ap, _∙_}

@@ -12,13 +12,12 @@ use Rattle.piece.specs.declared.node.Kind.{Kind}
 use Rattle.piece.specs.declared.node.Kind.the-variants.{Free, Part, Structure}
 use Rattle.piece.specs.declared.orientation.Orientation.{Orientation}
 use Rattle.piece.specs.declared.orientation.Orientation.the-variants.{Horizontal, Vertical}
-use Rattle.tree.specs.Snapshot.{kindNo, cutNo}
+use Rattle.piece.specs.Numbers.{kindNo, cutNo, cutOf}
 use Rattle.lists.specs.Lists.{limit}
 use Rattle.lists.proofs.Scan.{test, clash}
 use Rattle.table.specs.declared.Node.{Node}
 use Rattle.table.specs.Table.{zeroNode}
 use Rattle.sound.proofs.Says.{Says, le-says, and-says, every-says}
-use Rattle.frames.specs.Fields.{cutOf}
 use Rattle.layout.specs.declared.layout.Layout.{Layout}
 use Rattle.layout.specs.Check.{soundB}
 use Rattle.layout.specs.Zero.{zeroLayout}

@@ -9,11 +9,10 @@ use Rattle.piece.specs.declared.node.Kind.{Kind}
 use Rattle.piece.specs.declared.node.Kind.the-variants.{Free, Part, Structure}
 use Rattle.piece.specs.declared.node.Datum.{Datum}
 use Rattle.piece.specs.Sides.{sized}
-use Rattle.tree.specs.Snapshot.{kindNo, cutNo}
+use Rattle.piece.specs.Numbers.{kindNo, cutNo, cutOf}
 use Rattle.lists.specs.Lists.{limit, zeros}
 use Rattle.lists.specs.Search.{every}
 use Rattle.table.specs.declared.Node.{Node}
-use Rattle.frames.specs.Fields.{cutOf}
 use Rattle.layout.specs.declared.layout.Layout.{Layout}
 use Rattle.layout.specs.Zero.{zeroLayout}
 use Rattle.session.specs.declared.Session.{Session}

@@ -3,8 +3,8 @@
 // numbers in snapshots (document 01, "Tree snapshot"), and a record with another one is read as zeros, which aren't sound. Rests on those structs.
 ghost use mathlib.Core.Path.{_≡_};
 ghost use lib.ListN.{replicate};
+ghost use Rattle.piece.specs.Numbers.{cutOf};
 ghost use Rattle.lists.specs.Lists.{limit};
-ghost use Rattle.frames.specs.Fields.{cutOf};
 ghost use Rattle.kiosk.specs.Records.{listedB, allListedB, kindOf, nodeOf, nodesOf, fieldsOf, layoutOf};
 ghost use Rattle.kiosk.specs.Records.{nodeRecord, nodeRecords, layoutRecord, noRecord};
 use layout::layout::Layout;

@@ -7,11 +7,11 @@ use Rattle.piece.specs.declared.parttype.PartType.{PartType}
 use Rattle.piece.specs.declared.insertion_blueprint.InsertionShape.{InsertionShape}
 use Rattle.piece.specs.Insertion.{newNodes}
 use Rattle.piece.specs.declared.node.Kind.the-variants.{Free}
+use Rattle.piece.specs.Offered.{offeredB}
 use Rattle.tree.specs.Tree.{At}
 use Rattle.tree.specs.Pieces.{maxSerial}
 use Rattle.tree.specs.Apart.{Removable}
 use Rattle.walks.specs.Inner.{Placed}
-use Rattle.booking.specs.Offered.{offeredB}
 use Rattle.removal.specs.declared.going.Going.{Going}
 use Rattle.removal.specs.Going.{goingOf, places}
 use Rattle.layout.specs.declared.layout.Layout.{Layout}

@@ -8,7 +8,7 @@ use Prim.Native.Nat.{ℕ, _-_, _<_}
 use native.Mathlib.Omega.{arith}
 use lib.Dec.{leb}
 use borrow.Author.Tests.{ne-eqb, le-leb, lt-leb}
-use Rattle.piece.specs.declared.size.Size.{Size}
+use Rattle.piece.specs.declared.settings.Settings.{Settings}
 use Rattle.piece.specs.Row.{nil, grow}
 use Rattle.lists.proofs.Scan.{first-same}
 use Rattle.tree.specs.Tree.{Tree, In, isNil}
@@ -26,11 +26,11 @@ use Rattle.table.proofs.Rep.{shows}
 use Rattle.table.proofs.Links.{holds-held}
 use Rattle.table.proofs.Steps as steps
 
-pub parent-is : (limit stages : ℕ) (sheet : Size) (w : Tree) → Sound limit stages sheet w → (x : ℕ) → In x w → (x ≡ 0 → ⊥) → (t : List Node)
+pub parent-is : (limit : ℕ) (settings : Settings) (w : Tree) → Sound limit settings w → (x : ℕ) → In x w → (x ≡ 0 → ⊥) → (t : List Node)
     → Holds limit t w → at t x .parent ≡ parentOf limit x w
-parent-is limit stages sheet w sound x i n t h =
-    let s = spot-in x w (topped-rooted stages sheet w (sound .topped)) i n in
-    steps.parent-is limit stages sheet t w sound h x s ∙ sym (parent-spot limit x w (sound .distinct) s)
+parent-is limit settings w sound x i n t h =
+    let s = spot-in x w (topped-rooted settings w (sound .topped)) i n in
+    steps.parent-is limit settings t w sound h x s ∙ sym (parent-spot limit x w (sound .distinct) s)
 
 -- whether it has children
 no-first : (limit : ℕ) (t : List Node) (q : ℕ) (k : Tree) → Rep limit t q limit k → leb limit (head limit k) ≡ isNil k

@@ -74,7 +74,7 @@ module _ (limit : ℕ) (settings : Settings) (t : List Node) (w : Tree) (sound :
 
       pub book-sound : Holds limit (plant limit (unlink limit t x) (at t x .parent) (block b d)) (book x b w)
       book-sound = rw (parent-is x at-x) (book-holds limit t q x a d w b h last-leaf apart low
-          (block-apart limit stages sheet w sound x d i free b new))
+          (block-apart limit settings w sound x d i free b new))
 
   -- a removal of the piece z at x
   module _ (x : ℕ) (z : Removable x w) where

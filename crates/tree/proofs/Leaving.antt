@@ -6,7 +6,8 @@ use mathlib.Core.Bool.{Bool, true, false, cond, _&&_}
 use mathlib.Core.Logic.{_⊎_, inl, inr, ⊎-elim}
 use Prim.Native.Nat.{ℕ}
 use Rattle.piece.specs.Row.{nil, grow}
-use Rattle.tree.specs.Tree.{Tree, In, Distinct, isFree, isNil}
+use Rattle.piece.specs.Kinds.{isFree}
+use Rattle.tree.specs.Tree.{Tree, In, Distinct, isNil}
 use Rattle.tree.specs.Removal.{withoutLast}
 use Rattle.tree.specs.Steps.{leaving}
 use Rattle.tree.specs.ListSteps.{Names}
@@ -58,13 +59,13 @@ module _ (i : ℕ) where
   -- it is not left
   pub end-out : (b : Tree) → Distinct b → Names i (freeEnd b) → In i (withoutLast b) → ⊥
   end-out nil dis h g = h
-  end-out (grow p d k r) dis h g = go (isFree (d .kind) && isNil r) h g (end-out r (dis .4))
+  end-out (grow p d k r) dis h g = go (isFree (d .kind) && isNil r) h g (end-out r (dis .beside))
     where
       go : (c : Bool) → Names i (cond c (p ∷ []) (freeEnd r)) → In i (cond c nil (grow p d k (withoutLast r)))
           → (Names i (freeEnd r) → In i (withoutLast r) → ⊥) → ⊥
       go true h g ih = g
-      go false h (inl e) ih = dis .1 (in-eq r e (end-in r h))
-      go false h (inr (inl g)) ih = dis .2 i g (end-in r h)
+      go false h (inl e) ih = dis .notBeside (in-eq r e (end-in r h))
+      go false h (inr (inl g)) ih = dis .apart i g (end-in r h)
       go false h (inr (inr g)) ih = ih h g
 
   -- and all else is

@@ -11,8 +11,9 @@ use Rattle.piece.specs.declared.settings.Settings.{Settings}
 use Rattle.piece.specs.declared.node.Kind.the-variants.{Free}
 use Rattle.piece.specs.declared.settings.Settings.{Settings}
 use Rattle.piece.specs.Row.{nil, grow}
+use Rattle.piece.specs.Kinds.{isFree}
 use Rattle.lists.proofs.Scan.{clash}
-use Rattle.tree.specs.Tree.{Tree, In, At, Distinct, after, change, rest, isFree, isNil}
+use Rattle.tree.specs.Tree.{Tree, In, At, Distinct, after, change, rest, isNil}
 use Rattle.tree.specs.Sound.{Sound}
 use Rattle.tree.specs.Booking.{Booking, block, booked, book}
 use Rattle.tree.specs.Removal.{withoutLast, settled, remove, left, cleared}

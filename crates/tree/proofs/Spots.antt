@@ -8,8 +8,9 @@ use Prim.Native.Nat.{ℕ, _+_}
 use Rattle.piece.specs.declared.node.Datum.{Datum}
 use Rattle.piece.specs.declared.settings.Settings.{Settings}
 use Rattle.piece.specs.Row.{nil, grow}
+use Rattle.piece.specs.Kinds.{isFree}
 use Rattle.lists.proofs.Scan.{clash, and-left, and-right}
-use Rattle.tree.specs.Tree.{Tree, after, isFree, isNil}
+use Rattle.tree.specs.Tree.{Tree, after, isNil}
 use Rattle.tree.specs.Sound.{Children, Topped}
 use Rattle.tree.specs.Steps.{Rooted, Kids, Deep}
 use Rattle.tree.proofs.Kept.{Where, free-kind}
