@@ -54,6 +54,10 @@ same-rotation-is a b e = sym (rotation-back a) ∙ ap rotationOf (eqb-true (rota
 same-shape-is : (a b : InsertionShape) → sameShape a b ≡ true → a ≡ b
 same-shape-is a b e = sym (shape-back a) ∙ ap shapeOf (eqb-true (shapeNo a) (shapeNo b) e) ∙ shape-back b
 
+or-true-cases : (a b : Bool) → (a || b) ≡ true → (a ≡ true) ⊎ (b ≡ true)
+or-true-cases true b e = inl refl
+or-true-cases false b e = inr e
+
 -- one list after the other
 among-either : (r : Rotation) (s : InsertionShape) (a b : List Offer) → amongB r s (a ++ b) ≡ true
     → (amongB r s a ≡ true) ⊎ (amongB r s b ≡ true)
@@ -73,7 +77,7 @@ among-rotation q r s (u ∷ us) e =
     ⊎-elim
     (λ h. let g = both (sameRotation q r) (sameShape u s) h in (same-rotation-is q r (g .0), List·Memᴰ·head (sym (same-shape-is u s (g .1)))))
     (λ h. let g = among-rotation q r s us h in (g .0, List·Memᴰ·tail (g .1)))
-    (or-cases (sameRotation q r && sameShape u s) (amongB r s (inRotation q us)) e)
+    (or-true-cases (sameRotation q r && sameShape u s) (amongB r s (inRotation q us)) e)
 
 -- what a rotation and a shape have that are offered
 pub record Offers (d : Datum) (p : PartType) (settings : Settings) (r : Rotation) (s : InsertionShape) : Type 0 where
