@@ -8,11 +8,9 @@ use mathlib.Core.Logic.{_⊎_, inl, inr}
 use Prim.Native.Nat.{ℕ, zero, suc, _<_, _≤_}
 use native.Mathlib.Omega.{arith}
 use lib.ListN.{length, getD, replicate, List·getD-map}
-use Rattle.piece.specs.declared.node.Kind.{Kind}
-use Rattle.piece.specs.declared.node.Kind.the-variants.{Free, Part, Structure}
-use Rattle.piece.specs.declared.orientation.Orientation.{Orientation}
-use Rattle.piece.specs.declared.orientation.Orientation.the-variants.{Horizontal, Vertical}
 use Rattle.piece.specs.Numbers.{kindNo, cutNo, cutOf}
+use borrow.Author.Tests.{leb-true, le-leb}
+use Rattle.piece.proofs.Numbers.{kind-listed, cut-listed, kind-back, cut-back, kind-stays, cut-stays}
 use Rattle.lists.specs.Lists.{limit}
 use Rattle.lists.proofs.Scan.{test, clash}
 use Rattle.table.specs.declared.Node.{Node}
@@ -27,7 +25,7 @@ use Rattle.session.specs.Session.{started}
 use Rattle.kiosk.specs.declared.records.NodeRecord.{NodeRecord}
 use Rattle.kiosk.specs.declared.records.LayoutRecord.{LayoutRecord}
 use Rattle.kiosk.specs.declared.records.SessionRecord.{SessionRecord}
-use Rattle.kiosk.specs.Records.{kindOf, nodeOf, fieldsOf, layoutOf, sessionOf, nodeRecord, layoutRecord, recordOf, noRecord, noSession}
+use Rattle.kiosk.specs.Records.{nodeOf, fieldsOf, layoutOf, sessionOf, nodeRecord, layoutRecord, recordOf, noRecord, noSession}
 use Rattle.kiosk.specs.Records.{Listed, listedB, AllListed, allListedB}
 
 -- ---- what the test says
@@ -83,33 +81,15 @@ each-same f a (suc n) = ap (λ (r : List _). f a ∷ r) (each-same f a n)
 
 -- ---- what is written is listed
 
-kind-listed : (k : Kind) → kindNo k ≤ 2
-kind-listed Free = omega arith
-kind-listed Part = omega arith
-kind-listed Structure = omega arith
-
-cut-listed : (c : Orientation) → cutNo c ≤ 1
-cut-listed Horizontal = omega arith
-cut-listed Vertical = omega arith
-
 node-listed : (n : Node) → Listed (nodeRecord n)
 unfolding nodeRecord Listed
-node-listed n = (kind-listed (n .datum .kind), cut-listed (n .datum .cut))
+node-listed n = (leb-true _ 2 (kind-listed (n .datum .kind)), leb-true _ 1 (cut-listed (n .datum .cut)))
 
 pub layout-listed : (l : Layout) → AllListed (layoutRecord l .nodes)
 unfolding layoutRecord nodeRecord
 layout-listed l i _ = rw (List·getD-map nodeRecord (l .nodes) i zeroNode) (node-listed (getD (l .nodes) i zeroNode))
 
 -- ---- a session, into a record and back
-
-kind-back : (k : Kind) → kindOf (kindNo k) ≡ k
-kind-back Free = refl
-kind-back Part = refl
-kind-back Structure = refl
-
-cut-back : (c : Orientation) → cutOf (cutNo c) ≡ c
-cut-back Horizontal = refl
-cut-back Vertical = refl
 
 node-back : (n : Node) → nodeOf (nodeRecord n) ≡ n
 unfolding nodeOf nodeRecord
@@ -128,20 +108,9 @@ session-back s = rw (layout-back (s .layout), layout-back (s .kept)) refl
 
 -- ---- a record, into a session and back
 
-kind-stays : (n : ℕ) → n ≤ 2 → kindNo (kindOf n) ≡ n
-kind-stays zero h = refl
-kind-stays (suc zero) h = refl
-kind-stays (suc (suc zero)) h = refl
-kind-stays (suc (suc (suc n))) h = absurd (omega arith)
-
-cut-stays : (n : ℕ) → n ≤ 1 → cutNo (cutOf n) ≡ n
-cut-stays zero h = refl
-cut-stays (suc zero) h = refl
-cut-stays (suc (suc n)) h = absurd (omega arith)
-
 node-stays : (r : NodeRecord) → Listed r → nodeRecord (nodeOf r) ≡ r
 unfolding nodeOf nodeRecord Listed
-node-stays r h = rw (kind-stays (r .datum .kind) (h .0), cut-stays (r .datum .cut) (h .1)) refl
+node-stays r h = rw (kind-stays (r .datum .kind) (le-leb _ 2 (h .0)), cut-stays (r .datum .cut) (le-leb _ 1 (h .1))) refl
 
 fields-stay : (r : LayoutRecord) → AllListed (r .nodes) → layoutRecord (fieldsOf r) ≡ r
 unfolding fieldsOf layoutRecord

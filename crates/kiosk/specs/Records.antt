@@ -3,13 +3,10 @@
 use mathlib.Core.Bool.{Bool, cond, _&&_}
 use mathlib.Core.List.{List, map}
 use Prim.Native.Nat.{ℕ, _<_, _≤_}
-use lib.Dec.{eqb, leb}
 use lib.ListN.{length, getD, replicate}
-use Rattle.piece.specs.declared.node.Kind.{Kind}
-use Rattle.piece.specs.declared.node.Kind.the-variants.{Free, Part, Structure}
 use Rattle.piece.specs.declared.node.Datum.{Datum}
 use Rattle.piece.specs.Sides.{sized}
-use Rattle.piece.specs.Numbers.{kindNo, cutNo, cutOf}
+use Rattle.piece.specs.Numbers.{kindNo, cutNo, cutOf, kindOf, kindListed, cutListed}
 use Rattle.lists.specs.Lists.{limit, zeros}
 use Rattle.lists.specs.Search.{every}
 use Rattle.table.specs.declared.Node.{Node}
@@ -55,7 +52,7 @@ unfoldable pub Listed : NodeRecord → Type 0
 Listed r = (r .datum .kind ≤ 2) × (r .datum .cut ≤ 1)
 
 unfoldable pub listedB : NodeRecord → Bool
-listedB r = leb (r .datum .kind) 2 && leb (r .datum .cut) 1
+listedB r = kindListed (r .datum .kind) && cutListed (r .datum .cut)
 
 -- at each place
 abbrev pub AllListed : List NodeRecord → Type 0
@@ -65,10 +62,6 @@ unfoldable pub allListedB : List NodeRecord → Bool
 allListedB rs = every (λ i. listedB (getD rs i noRecord)) (length rs)
 
 -- ---- from a record
-
--- of the kinds that are listed
-abbrev pub kindOf : ℕ → Kind
-kindOf n = cond (eqb n 0) Free (cond (eqb n 1) Part Structure)
 
 abbrev pub datumOf : DatumRecord → Datum
 datumOf d =

@@ -5,7 +5,7 @@ ghost use mathlib.Core.Path.{_≡_};
 ghost use lib.ListN.{replicate};
 ghost use Rattle.piece.specs.Numbers.{cutOf};
 ghost use Rattle.lists.specs.Lists.{limit};
-ghost use Rattle.kiosk.specs.Records.{listedB, allListedB, kindOf, nodeOf, nodesOf, fieldsOf, layoutOf};
+ghost use Rattle.kiosk.specs.Records.{listedB, allListedB, nodeOf, nodesOf, fieldsOf, layoutOf};
 ghost use Rattle.kiosk.specs.Records.{nodeRecord, nodeRecords, layoutRecord, noRecord};
 use layout::layout::Layout;
 use piece::node::Datum;
@@ -13,11 +13,9 @@ use piece::node::Kind;
 use piece::orientation::Orientation;
 use piece::settings::Settings;
 use piece::size::Size;
-use sound::columns::kind_number;
 use table::LIMIT;
 use table::Node;
 use table::nodes::empty_table;
-use walks::snapshot::cut_no;
 
 #[repr(C)]
 pub struct DatumRecord {
@@ -87,28 +85,6 @@ fn all_listed(records: [NodeRecord; LIMIT]) -> bool
     true
 }
 
-fn kind_of(n: u8) -> Kind
-    ensures { λ r. ⌜ r ≡ kindOf n ⌝ }
-{
-    if n == 0 {
-        Kind::Free
-    } else if n == 1 {
-        Kind::Part
-    } else {
-        Kind::Structure
-    }
-}
-
-fn cut_of(n: u8) -> Orientation
-    ensures { λ r. ⌜ r ≡ cutOf n ⌝ }
-{
-    if n == 0 {
-        Orientation::Horizontal
-    } else {
-        Orientation::Vertical
-    }
-}
-
 fn node_of(given: NodeRecord) -> Node
     ensures { λ r. ⌜ r ≡ nodeOf given ⌝ }
 {
@@ -122,8 +98,8 @@ fn node_of(given: NodeRecord) -> Node
             },
             number: d.number,
             level: d.level,
-            kind: kind_of(d.kind),
-            cut: cut_of(d.cut),
+            kind: Kind::of_number(d.kind),
+            cut: Orientation::of_number(d.cut),
         },
         parent: given.parent,
         first: given.first,
@@ -201,8 +177,8 @@ fn node_record(n: Node) -> NodeRecord
             height: d.size.height,
             number: d.number,
             level: d.level,
-            kind: kind_number(kind),
-            cut: cut_no(cut),
+            kind: kind.number(),
+            cut: cut.number(),
         },
         parent: n.parent,
         first: n.first,

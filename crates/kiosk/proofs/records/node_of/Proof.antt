@@ -7,12 +7,12 @@ use Rattle.kiosk.proofs.records.node_of.Tie as tie
 
 returns : tie.Need-returns
 unfolding nodeOf
-returns c = rw (c .before .kind-of .ensures, c .cut-of .ensures) refl
+returns c = rw (c .before .of-number .ensures, c .of-number2 .ensures) refl
 
 pub node-of-spec : {M : Type 1} → statement M
 node-of-spec =
     tie.close
     (tie.spec
-    (λ c κs. search needs)  -- kind-of-requires
-    (λ c κs. search needs)  -- cut-of-requires
+    (λ c κs. search needs)  -- of-number-requires
+    (λ c κs. search needs)  -- of-number-requires-2
     returns)

@@ -7,12 +7,12 @@ use Rattle.kiosk.proofs.records.node_record.Tie as tie
 
 returns : tie.Need-returns
 unfolding nodeRecord
-returns c = rw (c .before .kind-number .ensures, c .cut-no .ensures) refl
+returns c = rw (c .before .number .ensures, c .number2 .ensures) refl
 
 pub node-record-spec : {M : Type 1} → statement M
 node-record-spec =
     tie.close
     (tie.spec
-    (λ c κs. search needs)  -- kind-number-requires
-    (λ c κs. search needs)  -- cut-no-requires
+    (λ c κs. search needs)  -- number-requires
+    (λ c κs. search needs)  -- number-requires-2
     returns)
