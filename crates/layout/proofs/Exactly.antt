@@ -17,12 +17,13 @@ use Rattle.sound.proofs.Says.{Says, clash, worded, and-says, then-says, itself-
 use Rattle.sound.proofs.Means.{Passes, passes-holds, passes-sound, passes-serials}
 use Rattle.sound.proofs.Passing.{sound-passes}
 use Rattle.sound.proofs.Marks.{hung-says, hung-shown}
+use Rattle.sound.proofs.FrameSays.{domain-says}
 use Rattle.layout.specs.declared.layout.Layout.{Layout}
 use Rattle.layout.specs.Check.{limit, tree, tableB, sumsB, serialsB, freeB, removableB, columnsB, soundB}
 use Rattle.layout.specs.SoundLayout.{FreeList, RemovableList, Counted, SoundLayout, Sized}
 use Rattle.layout.specs.Zero.{zeroLayout}
 use Rattle.layout.proofs.Listed.{free-says, removable-says, covered-says, free-list-says}
-use Rattle.layout.proofs.Summed.{domain-says, sums-says, serials-says}
+use Rattle.layout.proofs.Summed.{sums-says, serials-says}
 pub use Rattle.layout.proofs.Unique.{free-list-unique, unique-layout, determined-layout}
 
 regroup-says : {P : Type 0} (a b c : Bool) → Says ((a && b) && c) P → Says (a && (b && c)) P

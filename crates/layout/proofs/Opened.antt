@@ -18,10 +18,10 @@ use Rattle.table.proofs.Open.{opened-holds}
 use Rattle.table.proofs.Unique.{tree-is}
 use Rattle.lists.specs.Lists.{padded}
 use Rattle.lists.proofs.Padded.{length-padded, take-padded, drop-padded}
+use Rattle.sound.proofs.FrameSays.{domain-says}
 use Rattle.layout.specs.Check.{limit, tree, domainB}
 use Rattle.layout.specs.SoundLayout.{piecesOf, Holding, FreeList, RemovableList, Serials, Counted, SoundLayout, Sized}
 use Rattle.layout.specs.Open.{freshNodes, freshLayout}
-use Rattle.layout.proofs.Summed.{domain-says}
 
 module _ (o : Opening) where
   -- ---- the opened tree

@@ -6,10 +6,8 @@ use mathlib.Core.Logic.{⊎-elim}
 use Prim.Native.Nat.{ℕ, _≤_}
 use native.Mathlib.Omega.{arith}
 use lib.ListN.{getD}
-use Rattle.piece.specs.declared.settings.Settings.{Settings}
 use Rattle.piece.specs.declared.node.Datum.{Datum}
 use Rattle.tree.specs.Tree.{Tree, At, count}
-use Rattle.tree.specs.Sound.{maxSide, maxStages, Domain}
 use Rattle.tree.specs.Figures.{partArea}
 use Rattle.tree.specs.Steps.{Marked}
 use Rattle.tree.proofs.Rows.{same?}
@@ -23,29 +21,9 @@ use Rattle.sound.proofs.Says.{Says, worded, eq-says, le-says, and-says, every-s
 use Rattle.sound.proofs.Worth.{serial-at, holds-count, holds-part-area}
 use Rattle.sound.proofs.Serials.{PiecesDiffer, pieces-differ, places-differ}
 use Rattle.layout.specs.declared.layout.Layout.{Layout}
-use Rattle.layout.specs.Check.{limit, maxSerial, sideB, domainB, sumsB, serialsB}
+use Rattle.layout.specs.Check.{limit, maxSerial, sumsB, serialsB}
 use Rattle.layout.specs.SoundLayout.{Serials}
 use Rattle.layout.proofs.Listed.{piece-low, piece-held, serial-of}
-
-side-says : (s : ℕ) → Says (sideB s) ((1 ≤ s) × (s ≤ maxSide))
-side-says s = and-says (le-says 1 s) (le-says s maxSide)
-
--- "sheet sides, stages and numbers are in the domain"
-pub domain-says : (settings : Settings) → Says (domainB settings) (Domain settings)
-domain-says settings =
-    worded
-    (and-says (side-says (settings .sheet .width)) (and-says (side-says (settings .sheet .height))
-    (and-says (le-says 1 (settings .stages)) (le-says (settings .stages) maxStages))))
-    (λ g.
-    record {
-      wide = g .0 .0;
-      tall = g .1 .0 .0;
-      width = g .0 .1;
-      height = g .1 .0 .1;
-      least = g .1 .1 .0;
-      most = g .1 .1 .1;
-    })
-    (λ d. ((d .wide, d .width), ((d .tall, d .height), (d .least, d .most))))
 
 -- the nodes held, and "used area is the sum over parts"
 pub sums-says : (l : Layout) (w : Tree) → Holds limit (l .nodes) w → Marked w

@@ -3,9 +3,7 @@ use mathlib.Core.List.{List}
 use mathlib.Core.Bool.{Bool, true, false, _&&_}
 use Prim.Native.Nat.{ℕ}
 use lib.Dec.{eqb, leb}
-use Rattle.piece.specs.declared.settings.Settings.{Settings}
 use Rattle.tree.specs.Tree.{Tree}
-use Rattle.tree.specs.Sound.{maxSide, maxStages}
 pub use Rattle.tree.specs.Pieces.{maxSerial}
 use Rattle.table.specs.Table.{at}
 use Rattle.table.specs.Build.{treeOf}
@@ -14,6 +12,7 @@ pub use Rattle.lists.specs.Lists.{limit}
 use Rattle.lists.specs.Search.{differ, zeroTail}
 use Rattle.lists.specs.Flags.{okB, flagsOf}
 use Rattle.sound.specs.Columns.{Columns, columnsOf}
+pub use Rattle.sound.specs.Frame.{sideB, domainB}
 use Rattle.sound.specs.Places.{placesB, topB}
 use Rattle.sound.specs.Rows.{rowsB}
 use Rattle.sound.specs.Hung.{hungB}
@@ -23,14 +22,6 @@ use Rattle.layout.specs.declared.layout.Layout.{Layout}
 -- the tree that a layout holds
 abbrev pub tree : Layout → Tree
 tree l = treeOf limit (l .nodes)
-
-abbrev pub sideB : ℕ → Bool
-sideB s = leb 1 s && leb s maxSide
-
-abbrev pub domainB : Settings → Bool
-domainB settings =
-    sideB (settings .sheet .width) && (sideB (settings .sheet .height)
-    && (leb 1 (settings .stages) && leb (settings .stages) maxStages))
 
 unfoldable pub tableB : Layout → Bool
 tableB l = placesB limit (l .nodes) && (topB limit (l .settings) (at (l .nodes) 0) && rowsB limit (l .settings) (l .nodes))

@@ -2,12 +2,12 @@
 // `looks`) and why not (crate `reasons`). `sought` is asked behind the check, inside this crate.
 ghost use mathlib.Core.Path.{_≡_};
 ghost use Rattle.layout.specs.Asked.{freePieceOf, partB, soughtOf};
-use crate::assertions::side_ok;
 use crate::layout::Layout;
 use crate::replies::Sought;
 use answers::Mark;
 use answers::Refusal;
 use piece::parttype::PartType;
+use sound::frame::side_ok;
 use table::NONE;
 
 // Whether the part's sides are in the domain.

@@ -6,7 +6,6 @@ ghost use Rattle.layout.specs.Check.{limit, maxSerial};
 ghost use Rattle.layout.specs.Refusing.{outcomeOf};
 ghost use Rattle.layout.specs.Insert.{InsertDone, InsertSays, bookNo, bookingFor, refusedInsert};
 ghost use Rattle.layout.specs.Inner.{Insertable};
-use crate::assertions::MAX_SERIAL;
 use crate::layout::Layout;
 use crate::replies::Outcome;
 use crate::replies::Sought;
@@ -21,6 +20,7 @@ use piece::insertion_option::is_offered;
 use piece::node::Datum;
 use piece::parttype::PartType;
 use piece::rotation::Rotation;
+use sound::frame::MAX_SERIAL;
 use table::LIMIT;
 
 // The marks of the new nodes; zero, with the layout as it came, where it is refused.

@@ -2,7 +2,6 @@
 ghost use mathlib.Core.Path.{_≡_};
 ghost use Rattle.layout.specs.Zero.{zeroLayout};
 ghost use Rattle.layout.specs.Open.{freshLayout, freshNodes, openOf};
-use crate::assertions::domain_ok;
 use crate::layout::Layout;
 use answers::Mark;
 use answers::Refusal;
@@ -12,6 +11,7 @@ use piece::orientation::Orientation;
 use piece::settings::Opening;
 use piece::settings::Settings;
 use piece::size::Size;
+use sound::frame::domain_ok;
 use table::LIMIT;
 use table::NONE;
 use table::Node;

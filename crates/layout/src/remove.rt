@@ -6,7 +6,6 @@ ghost use Prim.Native.Nat.{_≤_};
 ghost use Rattle.layout.specs.Refusing.{outcomeOf};
 ghost use Rattle.layout.specs.Remove.{RemoveDone, RemoveSays, goNo, numbersLeft, numbersOut, outAfter, refusedRemove, removeIs, roomNo};
 ghost use Rattle.layout.specs.Inner.{Leaving, Takeable};
-use crate::assertions::MAX_SERIAL;
 use crate::layout::Layout;
 use crate::replies::Outcome;
 use crate::replies::Sought;
@@ -17,6 +16,7 @@ use removal::going::Going;
 use removal::going::going_with;
 use removal::remove::area_along;
 use removal::remove::remove;
+use sound::frame::MAX_SERIAL;
 use walks::numbers::count_numbers;
 use walks::numbers::put_numbers;
 

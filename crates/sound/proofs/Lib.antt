@@ -12,3 +12,4 @@ pub mod Sums
 pub mod Worth
 pub mod Serials
 pub mod Counted
+pub mod FrameSays

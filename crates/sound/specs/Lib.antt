@@ -4,3 +4,4 @@ pub mod Rows
 pub mod Hung
 pub mod Listed
 pub mod Census
+pub mod Frame

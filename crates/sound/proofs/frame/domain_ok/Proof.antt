@@ -1,9 +1,9 @@
 -- `domain_ok` meets its contract: each way out is one outcome of the tests of `domainB`.
 use mathlib.Core.Path.{refl}
 use borrow.Author.Needs.{needs}
 use Rattle.sound.proofs.Chain.{pass-by, pass-le, stop-by, stop-gt}
-use Rattle.layout.proofs.assertions.domain_ok.Statement.{statement}
-use Rattle.layout.proofs.assertions.domain_ok.Tie as tie
+use Rattle.sound.proofs.frame.domain_ok.Statement.{statement}
+use Rattle.sound.proofs.frame.domain_ok.Tie as tie
 
 returns : tie.Need-returns
 returns c = stop-by _ (c .before .side-ok .ensures) (c .if1 .left)

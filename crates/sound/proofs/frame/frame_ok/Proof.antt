@@ -1,9 +1,9 @@
 -- `frame_ok` meets its contract: each way out is one outcome of its tests.
 use mathlib.Core.Path.{refl}
 use borrow.Author.Needs.{needs}
 use Rattle.sound.proofs.Chain.{pass-by, stop-by}
-use Rattle.layout.proofs.assertions.frame_ok.Statement.{statement}
-use Rattle.layout.proofs.assertions.frame_ok.Tie as tie
+use Rattle.sound.proofs.frame.frame_ok.Statement.{statement}
+use Rattle.sound.proofs.frame.frame_ok.Tie as tie
 
 returns : tie.Need-returns
 returns c = stop-by _ (c .before .domain-ok .ensures) (c .if1 .left)

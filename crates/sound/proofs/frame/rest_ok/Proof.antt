@@ -1,10 +1,10 @@
 -- `rest_ok` meets its contract: each way out is one outcome of its tests. A list that names places has entries whose order can be asked for.
 use borrow.Author.Needs.{needs}
 use Rattle.lists.proofs.Named.{ok-count, ok-below}
 use Rattle.sound.proofs.Chain.{pass-by, stop-by}
-use Rattle.layout.specs.Check.{limit}
-use Rattle.layout.proofs.assertions.rest_ok.Statement.{statement}
-use Rattle.layout.proofs.assertions.rest_ok.Tie as tie
+use Rattle.lists.specs.Lists.{limit}
+use Rattle.sound.proofs.frame.rest_ok.Statement.{statement}
+use Rattle.sound.proofs.frame.rest_ok.Tie as tie
 
 all-differ-requires : tie.Need-all-differ-requires
 all-differ-requires c κs = c .pre .1

@@ -1,8 +1,8 @@
 -- `side_ok` meets its contract.
 use mathlib.Core.Path.{refl}
 use Rattle.sound.proofs.Chain.{pass-le, stop-gt}
-use Rattle.layout.proofs.assertions.side_ok.Statement.{statement}
-use Rattle.layout.proofs.assertions.side_ok.Tie as tie
+use Rattle.sound.proofs.frame.side_ok.Statement.{statement}
+use Rattle.sound.proofs.frame.side_ok.Tie as tie
 
 returns : tie.Need-returns
 returns c = pass-le (c .if1 .taken) refl
