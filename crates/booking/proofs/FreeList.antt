@@ -21,7 +21,7 @@ use Rattle.tree.specs.Sound.{Sound}
 use Rattle.tree.specs.Booking.{Booking, planted, block, book}
 use Rattle.tree.specs.Accepted.{Fresh}
 use Rattle.tree.specs.Steps.{less}
-use Rattle.tree.specs.ListSteps.{cut, put, putAll}
+use Rattle.tree.specs.ListSteps.{omit, put, putAll}
 use Rattle.tree.specs.Pieces.{Pieces, piecesOf, FreeOf, FreeList, Serials}
 use Rattle.tree.proofs.Rows.{at-in}
 use Rattle.tree.proofs.Numbered.{Numbered}
@@ -162,7 +162,7 @@ module _ (B : Pieces) (one : (i : ℕ) (e f : Datum) → B i e → B i f → e �
 module _ (limit : ℕ) (settings : Settings) (w : Tree) (sound : Sound limit settings w) (x : ℕ) (d : Datum) (there : At x d w)
     (free : d .kind ≡ Free) where
   -- when the free piece has gone
-  pub cut-free : (xs : List ℕ) → FreeList w xs → FreeList (less x w) (cut xs x)
+  pub cut-free : (xs : List ℕ) → FreeList w xs → FreeList (less x w) (omit xs x)
   cut-free xs f =
       free-cut (piecesOf w) (piecesOf (less x w)) x xs (λ i e y z n. less-keeps limit settings w sound x d there free i e y n)
       (λ i e y z. less-was limit settings w sound x d there free i e y .0)
@@ -171,10 +171,10 @@ module _ (limit : ℕ) (settings : Settings) (w : Tree) (sound : Sound limit set
   module _ (b : Booking) (new : Fresh limit x b w) (last : ℕ) (marked : Serials w last) (next : b .serial ≡ last + 1) (areas : ℕ → ℕ)
       (sized : (i : ℕ) (e : Datum) → At i e (book x b w) → areas i ≡ area (e .size)) where
     pub booked-free : (q : ℕ) (none : Bool) (xs : List ℕ) → FreeList w xs
-        → FreeList (book x b w) (putAll areas (cut xs x) (freesOf (leaves q none (block b d))))
+        → FreeList (book x b w) (putAll areas (omit xs x) (freesOf (leaves q none (block b d))))
     booked-free q none xs f =
         free-puts (piecesOf (book x b w)) (book-one limit settings w sound x d there free b new) areas sized (leaves q none (block b d))
-        (b .serial) (piecesOf (less x w)) (cut xs x) (book-left limit settings w sound x d there free b)
+        (b .serial) (piecesOf (less x w)) (omit xs x) (book-left limit settings w sound x d there free b)
         (λ i e y. book-new limit settings w sound x d there free b i e (among-at i e (block b d) q none y))
         (λ i e y z. ⊎-elim inl (λ v. inr (at-among i e (block b d) q none v)) (book-pieces limit settings w sound x d there free b i e y))
         (λ i e y. let a = older limit settings w sound x d there free b last marked next i e y in omega arith) (block-counted b d q none)

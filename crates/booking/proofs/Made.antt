@@ -13,7 +13,7 @@ use Rattle.piece.specs.declared.insertion_blueprint.InsertionShape.{InsertionSh
 use Rattle.piece.specs.declared.insertion_blueprint.InsertionShape.the-variants.{AlongCurrentCut, AcrossCurrentCut, AlongThenAcross, AcrossThenAlong}
 use Rattle.piece.specs.declared.insertion_blueprint.InsertionNode.{InsertionNode}
 use Rattle.piece.specs.declared.orientation.Orientation.{Orientation}
-use Rattle.piece.specs.Insertion.{blockOf, blueprintOf, listed, newNodes, outside, table}
+use Rattle.piece.specs.Insertion.{blockOf, blueprintOf, nodesInOrder, newNodes, outside, table}
 use Rattle.piece.proofs.Padded.{padded-whole}
 use Rattle.piece.proofs.Blocks.{block-length, blueprint-count, held-whole, new-nodes-few}
 use Rattle.tree.specs.Booking.{Booking, block, planted}
@@ -22,12 +22,12 @@ use Rattle.table.specs.Table.{at}
 use Rattle.booking.specs.declared.new_nodes.NewNode.{NewNode}
 use Rattle.booking.specs.declared.new_nodes.NewNodes.{NewNodes}
 use Rattle.booking.specs.declared.new_nodes.Site.{Site}
-use Rattle.booking.specs.NewNodes.{add, addAll, bookingAt, deepest, freesOf, heldNew, leaves, nextNode, noNew, noneNew, those}
-use Rattle.booking.specs.Book.{newAt, siteOf}
+use Rattle.booking.specs.NewNodes.{addNode, addAll, bookingAt, deepest, freesOf, heldNew, leaves, nextNode, noNew, noneNew, those}
+use Rattle.booking.specs.Book.{newNodesAt, siteOf}
 
 -- with the site at the level of the piece
 made-at : (s : Site) (shape : InsertionShape) (c : Orientation) (piece size : Size) → s .level + deepest shape ≤ 255 →
-    addAll s noneNew (listed outside c (blockOf shape c piece size))
+    addAll s noneNew (nodesInOrder outside c (blockOf shape c piece size))
     ≡ heldNew (leaves (s .under) (s .alone) (planted (bookingAt s shape size) (s .level) c (blockOf shape c piece size)))
 unfolding nextNode blockOf heldNew table
 made-at s AlongCurrentCut c piece size h = simp (and-true, and-false)
@@ -38,7 +38,7 @@ made-at s AcrossThenAlong c piece size h =
 
 -- what the code makes of the blueprint at a site is the block that takes the place of d there
 pub made-is : (d : Datum) (s : Site) (shape : InsertionShape) (size : Size) → s .level ≡ d .level → d .level + deepest shape ≤ 255 →
-    addAll s noneNew (listed outside (d .cut) (blockOf shape (d .cut) (d .size) size))
+    addAll s noneNew (nodesInOrder outside (d .cut) (blockOf shape (d .cut) (d .size) size))
     ≡ heldNew (leaves (s .under) (s .alone) (block (bookingAt s shape size) d))
 unfolding block
 made-is d s shape size e h = rw (← e) (made-at s shape (d .cut) (d .size) size (rw e h))
@@ -77,10 +77,10 @@ held-those l h = padded-whole noNew 5 5 l h
 -- the nodes of a blueprint are those of its block
 pub blueprint-listed : (shape : InsertionShape) (c : Orientation) (piece size : Size) →
     take (blueprintOf shape c piece size .count) (blueprintOf shape c piece size .nodes)
-    ≡ listed outside c (blockOf shape c piece size)
+    ≡ nodesInOrder outside c (blockOf shape c piece size)
 unfolding blueprintOf
 blueprint-listed shape c piece size =
-    held-whole (listed outside c (blockOf shape c piece size)) (rw (block-length shape outside c c piece size) (new-nodes-few shape))
+    held-whole (nodesInOrder outside c (blockOf shape c piece size)) (rw (block-length shape outside c c piece size) (new-nodes-few shape))
 
 pub blueprint-few : (shape : InsertionShape) (c : Orientation) (piece size : Size) → blueprintOf shape c piece size .count ≤ 5
 blueprint-few shape c piece size = rw (blueprint-count shape c piece size) (new-nodes-few shape)
@@ -88,12 +88,12 @@ blueprint-few shape c piece size = rw (blueprint-count shape c piece size) (new-
 -- what the code makes has as many nodes as the blueprint
 pub add-all-count : (s : Site) (m : NewNodes) (ns : List InsertionNode) → addAll s m ns .count ≡ m .count + length ns
 add-all-count s m [] = omega arith
-add-all-count s m (n ∷ ns) = omega (arith, add-all-count s (add s m n) ns)
+add-all-count s m (n ∷ ns) = omega (arith, add-all-count s (addNode s m n) ns)
 
 pub new-at-count : (t left : List Node) (x : ℕ) (shape : InsertionShape) (size : Size) (number last : ℕ) →
-    newAt t left x shape size number last .count ≡ newNodes shape
-unfolding newAt
+    newNodesAt t left x shape size number last .count ≡ newNodes shape
+unfolding newNodesAt
 new-at-count t left x shape size number last =
     let d = at t x .datum in
-    add-all-count (siteOf t left x number last) noneNew (listed outside (d .cut) (blockOf shape (d .cut) (d .size) size))
+    add-all-count (siteOf t left x number last) noneNew (nodesInOrder outside (d .cut) (blockOf shape (d .cut) (d .size) size))
     ∙ rw (block-length shape outside (d .cut) (d .cut) (d .size) size) (omega arith)

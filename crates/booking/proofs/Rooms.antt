@@ -14,7 +14,7 @@ use Rattle.piece.specs.Kinds.{isFree}
 use Rattle.tree.specs.Sound.{Sound}
 use Rattle.tree.specs.Booking.{Booking, book}
 use Rattle.tree.specs.Steps.{less}
-use Rattle.tree.specs.ListSteps.{cut}
+use Rattle.tree.specs.ListSteps.{omit}
 use Rattle.tree.specs.Pieces.{piecesOf, Holding, FreeList}
 use Rattle.register.proofs.HoldingSteps.{holding-most}
 use Rattle.booking.proofs.Sums.{less-count, book-count}
@@ -23,9 +23,9 @@ use Rattle.booking.proofs.FreeList.{cut-free}
 module _ (limit : ℕ) (settings : Settings) (w : Tree) (sound : Sound limit settings w) (x : ℕ) (d : Datum) (there : At x d w)
     (free : d .kind ≡ Free) (b : Booking) (room : count w + newNodes (b .shape) ≤ limit + 1) where
   -- the free list, when the free piece has gone
-  pub free-room : (xs : List ℕ) → FreeList w xs → length (cut xs x) + newNodes (b .shape) ≤ limit
+  pub free-room : (xs : List ℕ) → FreeList w xs → length (omit xs x) + newNodes (b .shape) ≤ limit
   free-room xs f =
-      let most = holding-most (λ e. e .kind ≡ Free) (less x w) (cut xs x) (cut-free limit settings w sound x d there free xs f .holding) in
+      let most = holding-most (λ e. e .kind ≡ Free) (less x w) (omit xs x) (cut-free limit settings w sound x d there free xs f .holding) in
       omega (arith, less-count limit settings w sound x d there free)
 
   -- whatever list of pieces the booked tree has

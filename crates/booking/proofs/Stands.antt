@@ -24,7 +24,7 @@ use Rattle.lists.specs.Lists.{limit}
 use Rattle.tree.specs.Booking.{Booking, block, book}
 use Rattle.tree.specs.Accepted.{Fitting, Fresh}
 use Rattle.tree.specs.Steps.{less, Marked}
-use Rattle.tree.specs.ListSteps.{cut, putAll}
+use Rattle.tree.specs.ListSteps.{omit, putAll}
 use Rattle.tree.specs.Pieces.{piecesOf, Holding, FreeList, RemovableList, maxSerial}
 use Rattle.tree.specs.Family.{parentOf, childless, newPlace}
 use Rattle.tree.specs.Enrolment.{when, enrolled, bookedList}
@@ -45,7 +45,7 @@ use Rattle.register.proofs.Listed.{entries-listing, kept-listing}
 use Rattle.booking.specs.declared.new_nodes.NewNode.{NewNode}
 use Rattle.booking.specs.declared.new_nodes.Site.{Site}
 use Rattle.booking.specs.NewNodes.{appendEach, bookingAt, deepest, enrolments, freesOf, heldNew, leaves, noNew, those}
-use Rattle.booking.specs.Book.{lowestOf, newPlaces, noChild, siteOf, newAt, lessParent, bookedWith, booked}
+use Rattle.booking.specs.Book.{lowestOf, newPlaces, noChild, siteOf, newNodesAt, lessParent, bookedWith, bookedNodes}
 use Rattle.booking.specs.Inner.{Bookable}
 use Rattle.booking.proofs.Made.{made-is, leaves-count, held-those}
 use Rattle.booking.proofs.Planted.{booked-holds}
@@ -191,11 +191,11 @@ module _ (settings : Settings) (last : ℕ) (w : Tree) (n : LayoutNodes) (stands
 
   module _ (fitting : Fitting settings d wanted) (shallow : d .level + deepest shape ≤ 255) where
     -- the nodes that the code makes are the block's
-    new-is : newAt (n .nodes) left x shape size number last ≡ heldNew new
-    unfolding newAt
+    new-is : newNodesAt (n .nodes) left x shape size number last ≡ heldNew new
+    unfolding newNodesAt
     new-is = rw (site-is, datum) (made-is d site shape size refl shallow ∙ rw block-is refl)
 
-    those-new : those (newAt (n .nodes) left x shape size number last) ≡ new
+    those-new : those (newNodesAt (n .nodes) left x shape size number last) ≡ new
     those-new = rw new-is (held-those new new-few)
 
     module _ (room : count w + newNodes shape ≤ limit + 1) (spent : last + newNodes shape ≤ maxSerial) where
@@ -208,7 +208,7 @@ module _ (settings : Settings) (last : ℕ) (w : Tree) (n : LayoutNodes) (stands
           (booked-holds limit settings (n .nodes) w (stands .sound) (stands .holds) x d there free wanted fresh (childless q (less x w)))
 
       abbrev frees : List ℕ
-      frees = putAll (areaIn (appendEach limit left new)) (cut (entriesOf (n .free)) x) (freesOf new)
+      frees = putAll (areaIn (appendEach limit left new)) (omit (entriesOf (n .free)) x) (freesOf new)
 
       free-is : FreeList (book x wanted w) frees
       free-is =
@@ -220,7 +220,7 @@ module _ (settings : Settings) (last : ℕ) (w : Tree) (n : LayoutNodes) (stands
 
       -- the removable list is the one that the rule gives
       list-is : lessParent left (at (n .nodes) x .parent) (entriesOf (n .removable))
-          ++ enrolments (those (newAt (n .nodes) left x shape size number last))
+          ++ enrolments (those (newNodesAt (n .nodes) left x shape size number last))
           ≡ bookedList limit x d wanted w (entriesOf (n .removable))
       unfolding bookedList
       list-is = rw (parent, those-new, alone, enrolments-leaves (block wanted d) q (childless q (less x w))) refl
@@ -254,13 +254,13 @@ module _ (settings : Settings) (last : ℕ) (w : Tree) (n : LayoutNodes) (stands
               (λ j y. let g = block-in wanted d j y in rw (g .2) (fresh .placed (g .0) (g .1)))
 
           sited : (i : ℕ) → i < newNodes shape
-              → let m = getD (newAt (n .nodes) left x shape size number last .list) i noNew in (m .under < limit) × (m .place < limit)
+              → let m = getD (newNodesAt (n .nodes) left x shape size number last .list) i noNew in (m .under < limit) × (m .place < limit)
           sited i h =
               rw (new-is, held-at new new-few i) (low-at limit new low i (rw (leaves-count wanted d q (childless q (less x w))) h))
 
       -- all stands again
-      pub book-stands : Stands settings (last + newNodes shape) (book x wanted w) (booked n x shape size number last .nodes)
-      unfolding booked bookedWith
+      pub book-stands : Stands settings (last + newNodes shape) (book x wanted w) (bookedNodes n x shape size number last .nodes)
+      unfolding bookedNodes bookedWith
       book-stands =
           rw (list-is, those-new)
           (record {
@@ -273,10 +273,10 @@ module _ (settings : Settings) (last : ℕ) (w : Tree) (n : LayoutNodes) (stands
             serials = book-serials limit settings w (stands .sound) x d there free wanted last (stands .serials) refl spent;
           })
 
-      pub book-list : entriesOf (booked n x shape size number last .nodes .removable) ≡ bookedList limit x d wanted w (entriesOf (n .removable))
-      unfolding booked bookedWith
+      pub book-list : entriesOf (bookedNodes n x shape size number last .nodes .removable) ≡ bookedList limit x d wanted w (entriesOf (n .removable))
+      unfolding bookedNodes bookedWith
       book-list = rw list-is (entries-listing (bookedList limit x d wanted w (entriesOf (n .removable))))
 
-      pub book-new : booked n x shape size number last .new ≡ heldNew new
-      unfolding booked bookedWith
+      pub book-new : bookedNodes n x shape size number last .new ≡ heldNew new
+      unfolding bookedNodes bookedWith
       book-new = new-is

@@ -26,7 +26,7 @@ use Rattle.tree.specs.Tree.{Tree, In, At, Distinct, count}
 use Rattle.tree.specs.Sound.{Sound}
 use Rattle.tree.specs.Booking.{Booking, planted, block, book}
 use Rattle.tree.specs.Accepted.{Fitting}
-use Rattle.tree.specs.Figures.{areaOf, partArea}
+use Rattle.tree.specs.Figures.{areaOfKind, partArea}
 use Rattle.tree.specs.Steps.{less}
 use Rattle.tree.proofs.Rows.{same?, at-in, after-nil}
 use Rattle.tree.proofs.Kept.{Where, Alone, free-alone}
@@ -141,10 +141,10 @@ module _ (limit : ℕ) (settings : Settings) (w : Tree) (sound : Sound limit set
     book-count = count-book limit settings w x d b sound there free
 
     -- the areas of the pieces of a kind
-    book-area : (f : Kind → Bool) → areaOf f (book x b w) + cond (f (d .kind)) (area (d .size)) 0 ≡ areaOf f w + areaOf f (block b d)
+    book-area : (f : Kind → Bool) → areaOfKind f (book x b w) + cond (f (d .kind)) (area (d .size)) 0 ≡ areaOfKind f w + areaOfKind f (block b d)
     book-area f =
-        sum-change (areaOf f) (λ e. cond (f (e .kind)) (area (e .size)) 0) refl (λ p e k r. refl) x d (book x b) refl
-        (λ p e k r n. rw (ne-eqb p x n)) (areaOf f (block b d)) (rw (eq-eqb x x refl, after-nil (block b d))) w alone (sound .distinct)
+        sum-change (areaOfKind f) (λ e. cond (f (e .kind)) (area (e .size)) 0) refl (λ p e k r. refl) x d (book x b) refl
+        (λ p e k r n. rw (ne-eqb p x n)) (areaOfKind f (block b d)) (rw (eq-eqb x x refl, after-nil (block b d))) w alone (sound .distinct)
         (at-in x d w there)
 
     module _ (fit : Fitting settings d b) where

@@ -9,7 +9,7 @@ use Rattle.lists.specs.Lists.{limit}
 use Rattle.piece.specs.declared.size.Size.{Size}
 use Rattle.piece.specs.declared.insertion_blueprint.InsertionShape.{InsertionShape}
 use Rattle.piece.proofs.Blocks.{new-nodes-few}
-use Rattle.tree.specs.ListSteps.{cut, putAll}
+use Rattle.tree.specs.ListSteps.{omit, putAll}
 use Rattle.table.specs.declared.Node.{Node}
 use Rattle.table.specs.Table.{append, at, unlink}
 use Rattle.table.proofs.Touch.{append-length, unlink-length}
@@ -23,7 +23,7 @@ use Rattle.booking.specs.declared.new_nodes.NewNodes.{NewNodes}
 use Rattle.booking.specs.declared.new_nodes.NewNode.{NewNode}
 use Rattle.booking.specs.declared.new_nodes.Site.{Site}
 use Rattle.booking.specs.NewNodes.{appendEach, enrolments, freesOf, noNew, those}
-use Rattle.booking.specs.Book.{booked, bookedWith, lessParent, newAt, newOf, newPlaces, siteLeft, siteOf}
+use Rattle.booking.specs.Book.{bookedNodes, bookedWith, lessParent, newNodesAt, newOf, newPlaces, siteLeft, siteOf}
 use Rattle.booking.specs.Inner.{Bookable}
 use Rattle.booking.proofs.Made.{new-at-count}
 
@@ -37,7 +37,7 @@ module _ (n : LayoutNodes) (x : ℕ) (shape : InsertionShape) (size : Size) (num
   gone = unlink limit (n .nodes) x
 
   abbrev made : NewNodes
-  made = newAt (n .nodes) gone x shape size number last
+  made = newNodesAt (n .nodes) gone x shape size number last
 
   abbrev parent : ℕ
   parent = at (n .nodes) x .parent
@@ -45,12 +45,12 @@ module _ (n : LayoutNodes) (x : ℕ) (shape : InsertionShape) (size : Size) (num
   -- the nodes that the steps make
   pub new-by : (left : List Node) {places : List ℕ} {site : Site} {new : NewNodes} → places ≡ newPlaces left
       → site ≡ siteLeft (at (n .nodes) x) (at left parent) places number last → new ≡ newOf (at (n .nodes) x) site shape size
-      → new ≡ newAt (n .nodes) left x shape size number last
-  unfolding newAt siteOf
+      → new ≡ newNodesAt (n .nodes) left x shape size number last
+  unfolding newNodesAt siteOf
   new-by left p s e = rw (e, s, p) refl
 
   module _ (b : Bookable n x shape size number last) {left : List Node} {new : NewNodes} (l : left ≡ gone)
-      (e : new ≡ newAt (n .nodes) left x shape size number last) where
+      (e : new ≡ newNodesAt (n .nodes) left x shape size number last) where
     new-is : new ≡ made
     new-is = rw l at e
 
@@ -63,10 +63,10 @@ module _ (n : LayoutNodes) (x : ℕ) (shape : InsertionShape) (size : Size) (num
     plant-needs = (new-few, rw (new-is, new-at-count (n .nodes) gone x shape size number last) (b .sited))
 
     -- the free ones come into the free list that the piece has left
-    pub put-needs : {less : Listing} → less ≡ listing (cut (entriesOf (n .free)) x) →
+    pub put-needs : {less : Listing} → less ≡ listing (omit (entriesOf (n .free)) x) →
         Kept less × (new .count ≤ 5) × (less .count + new .count ≤ limit)
     put-needs c = (
-      kept-as (cut (entriesOf (n .free)) x) c (omega (arith, b .freeRoom)),
+      kept-as (omit (entriesOf (n .free)) x) c (omega (arith, b .freeRoom)),
       new-few,
       rw (c, new-is, new-at-count (n .nodes) gone x shape size number last) (b .freeRoom),
     )
@@ -82,10 +82,10 @@ module _ (n : LayoutNodes) (x : ℕ) (shape : InsertionShape) (size : Size) (num
 
   module _ (len : length (n .nodes) ≡ limit) {left table : List Node} {areas : List ℕ} {new : NewNodes} {less free fewer removable : Listing}
       (l : left ≡ gone)
-      (e : new ≡ newAt (n .nodes) left x shape size number last)
+      (e : new ≡ newNodesAt (n .nodes) left x shape size number last)
       (t : table ≡ appendEach limit left (those new))
       (a : areas ≡ areasOf table)
-      (c : less ≡ listing (cut (entriesOf (n .free)) x))
+      (c : less ≡ listing (omit (entriesOf (n .free)) x))
       (p : free ≡ listing (putAll (areaAt areas) (entriesOf less) (freesOf (those new))))
       (f : fewer ≡ listing (lessParent left parent (entriesOf (n .removable))))
       (r : removable ≡ listing (entriesOf fewer ++ enrolments (those new))) where
@@ -96,14 +96,14 @@ module _ (n : LayoutNodes) (x : ℕ) (shape : InsertionShape) (size : Size) (num
     column = ap areaAt a ∙ areas-are table table-length
 
     pub booked-by : record { nodes = record { nodes = table; free = free; removable = removable }; new = new }
-        ≡ booked n x shape size number last
-    unfolding booked bookedWith
+        ≡ bookedNodes n x shape size number last
+    unfolding bookedNodes bookedWith
     booked-by =
         rw (
           r,
           p,
           column,
-          entries-are (cut (entriesOf (n .free)) x) c,
+          entries-are (omit (entriesOf (n .free)) x) c,
           entries-are (lessParent left parent (entriesOf (n .removable))) f,
           t,
           e,

@@ -7,8 +7,8 @@ use lib.Dec.{leb}
 use lib.ListN.{replicate}
 use Rattle.piece.specs.declared.size.Size.{Size}
 use Rattle.piece.specs.declared.insertion_blueprint.InsertionShape.{InsertionShape}
-use Rattle.piece.specs.Insertion.{blockOf, listed, outside}
-use Rattle.tree.specs.ListSteps.{cut, putAll, strike}
+use Rattle.piece.specs.Insertion.{blockOf, nodesInOrder, outside}
+use Rattle.tree.specs.ListSteps.{omit, putAll, strike}
 use Rattle.table.specs.declared.Node.{Node}
 use Rattle.table.specs.Table.{at, unlink}
 use Rattle.table.specs.Unheld.{lowestFrom}
@@ -29,19 +29,19 @@ unfoldable pub newPlaces : List Node → List ℕ
 newPlaces t = lowestOf t 0 ∷ lowestOf t 1 ∷ lowestOf t 2 ∷ lowestOf t 3 ∷ lowestOf t 4 ∷ []
 
 -- no child hangs under the node
-abbrev pub bare : Node → Bool
-bare n = leb limit (n .first)
+abbrev pub nodeBare : Node → Bool
+nodeBare n = leb limit (n .first)
 
 -- no child hangs under q
 abbrev pub noChild : List Node → ℕ → Bool
-noChild t q = bare (at t q)
+noChild t q = nodeBare (at t q)
 
 -- the site that the node old leaves, where up is its parent when it has gone, and these are the places
 abbrev pub siteLeft : (old up : Node) → List ℕ → (number last : ℕ) → Site
 siteLeft old up places number last =
     record {
       under = old .parent;
-      alone = bare up;
+      alone = nodeBare up;
       level = old .datum .level;
       places = places;
       serial = last + 1;
@@ -56,15 +56,15 @@ siteOf t left x number last = siteLeft (at t x) (at left (at t x .parent)) (newP
 abbrev pub newOf : Node → Site → InsertionShape → Size → NewNodes
 newOf old site shape size =
     addAll site (record { list = replicate 5 noNew; count = 0 })
-    (listed outside (old .datum .cut) (blockOf shape (old .datum .cut) (old .datum .size) size))
+    (nodesInOrder outside (old .datum .cut) (blockOf shape (old .datum .cut) (old .datum .size) size))
 
 -- and at the site that the piece at x leaves
-unfoldable pub newAt : (t left : List Node) → ℕ → InsertionShape → Size → (number last : ℕ) → NewNodes
-newAt t left x shape size number last = newOf (at t x) (siteOf t left x number last) shape size
+unfoldable pub newNodesAt : (t left : List Node) → ℕ → InsertionShape → Size → (number last : ℕ) → NewNodes
+newNodesAt t left x shape size number last = newOf (at t x) (siteOf t left x number last) shape size
 
 -- "a parent that loses its last child is taken out": the parent is at q, and up is what it is then
 abbrev pub lessUp : Node → ℕ → List ℕ → List ℕ
-lessUp up q ys = cond (bare up) (strike ys q) ys
+lessUp up q ys = cond (nodeBare up) (strike ys q) ys
 
 abbrev pub lessParent : List Node → ℕ → List ℕ → List ℕ
 lessParent left q ys = lessUp (at left q) q ys
@@ -75,12 +75,12 @@ bookedWith n left x new =
     record {
       nodes = record {
         nodes = t;
-        free = listing (putAll (areaIn t) (cut (entriesOf (n .free)) x) (freesOf (those new)));
+        free = listing (putAll (areaIn t) (omit (entriesOf (n .free)) x) (freesOf (those new)));
         removable = listing (lessParent left (at (n .nodes) x .parent) (entriesOf (n .removable)) ++ enrolments (those new));
       };
       new = new;
     }
 
-unfoldable pub booked : LayoutNodes → ℕ → InsertionShape → Size → (number last : ℕ) → Booked
-booked n x shape size number last =
-    let left = unlink limit (n .nodes) x in bookedWith n left x (newAt (n .nodes) left x shape size number last)
+unfoldable pub bookedNodes : LayoutNodes → ℕ → InsertionShape → Size → (number last : ℕ) → Booked
+bookedNodes n x shape size number last =
+    let left = unlink limit (n .nodes) x in bookedWith n left x (newNodesAt (n .nodes) left x shape size number last)

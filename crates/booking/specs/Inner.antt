@@ -6,12 +6,12 @@ use Rattle.piece.specs.declared.size.Size.{Size}
 use Rattle.piece.specs.declared.insertion_blueprint.InsertionShape.{InsertionShape}
 use Rattle.piece.specs.Insertion.{newNodes}
 use Rattle.lists.specs.Lists.{limit}
-use Rattle.tree.specs.ListSteps.{cut}
+use Rattle.tree.specs.ListSteps.{omit}
 use Rattle.table.specs.Table.{at, unlink}
 use Rattle.register.specs.declared.LayoutNodes.{LayoutNodes}
 use Rattle.register.specs.Listings.{Kept, entriesOf}
 use Rattle.booking.specs.NewNodes.{enrolments, noNew, those}
-use Rattle.booking.specs.Book.{lessParent, newAt}
+use Rattle.booking.specs.Book.{lessParent, newNodesAt}
 
 -- `book`: that no index is out of bounds and no number overflows
 pub record Bookable (n : LayoutNodes) (x : ℕ) (shape : InsertionShape) (size : Size) (number last : ℕ) : Type 0 where
@@ -20,10 +20,10 @@ pub record Bookable (n : LayoutNodes) (x : ℕ) (shape : InsertionShape) (size :
   pub freeKept : Kept (n .free)
   pub removableKept : Kept (n .removable)
   pub sited : (i : ℕ) → i < newNodes shape
-      → let m = getD (newAt (n .nodes) (unlink limit (n .nodes) x) x shape size number last .list) i noNew in (m .under < limit) × (m .place < limit)
-  pub freeRoom : length (cut (entriesOf (n .free)) x) + newNodes shape ≤ limit
+      → let m = getD (newNodesAt (n .nodes) (unlink limit (n .nodes) x) x shape size number last .list) i noNew in (m .under < limit) × (m .place < limit)
+  pub freeRoom : length (omit (entriesOf (n .free)) x) + newNodes shape ≤ limit
   pub removableRoom : length
       (lessParent (unlink limit (n .nodes) x) (at (n .nodes) x .parent) (entriesOf (n .removable))
-      ++ enrolments (those (newAt (n .nodes) (unlink limit (n .nodes) x) x shape size number last)))
+      ++ enrolments (those (newNodesAt (n .nodes) (unlink limit (n .nodes) x) x shape size number last)))
       ≤ limit
   pub spent : last ≤ 1000000

@@ -72,12 +72,12 @@ nextNode s m n =
     (siteNode s (m .count) (getD (m .list) (n .parent) noNew .place) (eqb (n .parent + 1) (m .count))
     (deeper (getD (m .list) (n .parent) noNew .datum .level)) n)
 
-abbrev pub add : Site → NewNodes → InsertionNode → NewNodes
-add s m n = record { list = set (m .list) (m .count) (nextNode s m n); count = m .count + 1 }
+abbrev pub addNode : Site → NewNodes → InsertionNode → NewNodes
+addNode s m n = record { list = set (m .list) (m .count) (nextNode s m n); count = m .count + 1 }
 
 abbrev pub addAll : Site → NewNodes → List InsertionNode → NewNodes
 addAll s m [] = m
-addAll s m (n ∷ ns) = addAll s (add s m n) ns
+addAll s m (n ∷ ns) = addAll s (addNode s m n) ns
 
 -- ---- what becomes of them
 

@@ -2,7 +2,7 @@
 ghost use mathlib.Core.Path.{_≡_};
 ghost use Prim.Native.Nat.{_+_, _≤_};
 ghost use Rattle.register.specs.Listings.{Kept, entriesOf, listing};
-ghost use Rattle.booking.specs.Book.{bare, booked, lessUp, newOf, siteLeft};
+ghost use Rattle.booking.specs.Book.{nodeBare, bookedNodes, lessUp, newOf, siteLeft};
 ghost use Rattle.booking.specs.Inner.{Bookable};
 use crate::new_nodes::NewNodes;
 use crate::new_nodes::Site;
@@ -32,7 +32,7 @@ pub struct Booked {
 
 // No child hangs under the node.
 fn no_child(up: Node) -> bool
-    ensures { λ r. ⌜ r ≡ bare up ⌝ }
+    ensures { λ r. ⌜ r ≡ nodeBare up ⌝ }
 {
     NONE <= up.first
 }
@@ -88,7 +88,7 @@ pub fn book(
     last: u32,
 ) -> Booked
     requires { ⌜ Bookable nodes x shape size number last ⌝ }
-    ensures { λ r. ⌜ r ≡ booked nodes x shape size number last ⌝ }
+    ensures { λ r. ⌜ r ≡ bookedNodes nodes x shape size number last ⌝ }
 {
     let was = nodes.nodes;
     let i = x as usize;
@@ -128,7 +128,7 @@ pub fn book(
     }
     let areas = areas_of(t);
     let was_free = nodes.free;
-    let less = was_free.cut(x);
+    let less = was_free.omit(x);
     let free = put_frees(less, &areas, new);
     let was_removable = nodes.removable;
     let fewer = less_parent(up, old.parent, was_removable);

@@ -154,7 +154,7 @@ impl NewNodes {
 
     fn add(self, site: Site, n: InsertionNode) -> NewNodes
         requires { ⌜ (self .count < 5) × (site .serial + 5 ≤ 4294967295) ⌝ }
-        ensures { λ r. ⌜ r ≡ spec.add site self n ⌝ }
+        ensures { λ r. ⌜ r ≡ spec.addNode site self n ⌝ }
     {
         let new = self.next(site, n);
         let mut list = self.list;

@@ -9,7 +9,7 @@ ghost use Rattle.session.specs.Listener.{Turns};
 use libc::STDIN_FILENO;
 use libc::STDOUT_FILENO;
 use pipes::Came;
-use session::LONGEST;
+use session::LONGEST_ANSWER;
 use session::listener::Listener;
 
 // The listener after a chunk, and whether all its answers could be written.
@@ -19,7 +19,7 @@ struct Served {
 }
 
 // Writes an answer: the first count characters of a turn's line. With none it writes nothing.
-fn say(line: [u8; LONGEST], count: usize) -> bool
+fn say(line: [u8; LONGEST_ANSWER], count: usize) -> bool
     requires { ⌜ count ≤ longest ⌝ }
 {
     pipes::write_whole(STDOUT_FILENO, &line[..count], b"counter: writing")

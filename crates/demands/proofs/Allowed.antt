@@ -26,10 +26,10 @@ use Rattle.layout.proofs.Exactly.{sound-shown}
 use Rattle.layout.proofs.Listed.{piece-is}
 use Rattle.layout.proofs.Marks.{names-sought}
 use Rattle.layout.proofs.RemoveEnds.{long-enough, may-go}
-use Rattle.demands.specs.Life.{Names}
+use Rattle.demands.specs.Life.{NamesPiece}
 use Rattle.demands.specs.Calls.{InsertAccepted, RemoveAccepted}
 
-module _ (l : Layout) (m : Mark) (named : Names l m) where
+module _ (l : Layout) (m : Mark) (named : NamesPiece l m) where
   -- refusals 4 and 5 do not apply
   found : SoundLayout l → soughtOf l m ≡ sought.Piece (pieceAt l (m .place))
   found sound =

@@ -32,7 +32,7 @@ use Rattle.layout.specs.SoundLayout.{SoundLayout, Sized}
 use Rattle.layout.specs.Insert.{InsertDone, InsertSays, bookingFor, pieceAt}
 use Rattle.layout.specs.Inner.{Insertable}
 use Rattle.looks.specs.Written.{snapshotBytes}
-use Rattle.demands.specs.Life.{Names}
+use Rattle.demands.specs.Life.{NamesPiece}
 use Rattle.demands.specs.Calls.{InsertAccepted, SameTree}
 use Rattle.demands.proofs.Outcomes.{InsertMeans, accepted-insert, insert-names}
 use Rattle.demands.proofs.Leaves.{Leaves, piece-now, names-left, names-stay, insert-leaves}
@@ -97,7 +97,7 @@ same-insertable l k x p r s can sized sound there piece settings room spent =
 module _ (l : Layout) (sized : Sized l)
     -- the two bookings: a part each, in its rotation and shape, in the pieces that the marks m and m′ name
     (m : Mark) (p : PartType) (r : Rotation) (s : InsertionShape)
-    (m′ : Mark) (p′ : PartType) (r′ : Rotation) (s′ : InsertionShape) (named : Names l m′)
+    (m′ : Mark) (p′ : PartType) (r′ : Rotation) (s′ : InsertionShape) (named : NamesPiece l m′)
     -- the first and then the second are accepted; c and d answer them the other way round
     (a b c d : Inserted) (one : InsertAccepted l m p r s a) (then : InsertAccepted (a .layout) m′ p′ r′ s′ b) where
   abbrev x : ℕ
@@ -144,7 +144,7 @@ module _ (l : Layout) (sized : Sized l)
         less-keeps limit (l .settings) (tree l) (k .insertable .sound .sound) y (pieceAt l y) (k .insertable .there) (k .insertable .free)
         x (pieceAt l x) (i .insertable .there) apart
 
-    names : Names (c .layout) m
+    names : NamesPiece (c .layout) m
     names = names-stay leaves′ m (insert-names i) first-left
 
     -- then the first may be made

@@ -29,10 +29,10 @@ use Rattle.frames.specs.Answers.{Answer, refused}
 use Rattle.session.specs.declared.Session.{Session}
 use Rattle.session.specs.declared.listener.Listener.{Listener}
 use Rattle.session.specs.Session.{started, Reply, Answers, afterOffers, afterInsert, afterRemove}
-use Rattle.session.specs.Listener.{askedIn, Runs, none, more, Served, opening}
+use Rattle.session.specs.Listener.{askedIn, Runs, none, more, Served, startListener}
 use Rattle.session.proofs.Decided.{answers-once}
 use Rattle.session.proofs.Laws.{served-run}
-use Rattle.demands.specs.Life.{Names}
+use Rattle.demands.specs.Life.{NamesPiece}
 use Rattle.demands.specs.Counter.{marksWritten, opens, openings, OpenedOnce, AllDecline, Lives, GoesOn}
 use Rattle.demands.specs.Counter.{Carries, offersOn, insertIn, removeOf, Refuses, Lasts, names, gone, elsewhere}
 use Rattle.demands.proofs.Lives.{states-sound}
@@ -131,10 +131,10 @@ unfolding Once
 once-after n {s} {t} {a} ns g w (inr y) =
     inr (opened-after n g w (λ o. y .1 (Memᴰ·append-left ns o)) (y .0), λ h. y .1 (Memᴰ·append-right (opens a) h))
 once-after n {s} {t} {a} ns g w (inl y) =
-    ⊎-elim opening (λ z. inl (unopened-after n g w (λ o. List·Memᴰ·not-nil (rw (z .0) at o)) (y .0), rw (z .0) at (y .1))) (opens-or-not g w)
+    ⊎-elim startListener (λ z. inl (unopened-after n g w (λ o. List·Memᴰ·not-nil (rw (z .0) at o)) (y .0), rw (z .0) at (y .1))) (opens-or-not g w)
   where
-    opening : Opens s t a → Once n t ns
-    opening o = go (eqb (o .mark .layout) n) refl (rw (ap opens (o .answer)) at (y .1))
+    startListener : Opens s t a → Once n t ns
+    startListener o = go (eqb (o .mark .layout) n) refl (rw (ap opens (o .answer)) at (y .1))
       where
         go : (b : Bool) → eqb (o .mark .layout) n ≡ b → OpenedOnce n (o .mark .layout ∷ ns) → Once n t ns
         go true e z =
@@ -209,7 +209,7 @@ a-run-is-a-life {t} {xs = xs} run once =
 
 -- the mark k named a piece of the state u, whose number is not opened again
 module _ {u v : Session} {ls : List Layout} {lines : List Line} {ys : List Answer} (h : Lives u ls) (shaped : Shaped u) (run : Runs u lines ys v) (k : Mark)
-    (named : Names (u .layout) k) (never : List·Memᴰ (k .layout) (openings ys) → ⊥) where
+    (named : NamesPiece (u .layout) k) (never : List·Memᴰ (k .layout) (openings ys) → ⊥) where
   lasts : Lasts u ys v k
   unfolding Last
   lasts = ⊎-elim (λ z. one-life (z .0)) another (last-opened shaped run)
@@ -275,7 +275,7 @@ through (x ∷ xs) a ys (more {line = line} step run) =
     }
 
 -- The listener, however its input was cut: the marks of each of its answers last.
-pub marks-last-in-chunks : {d : Listener} {cs : List (List ℕ)} (xs : List Answer) (a : Answer) (ys : List Answer) → Served opening cs (xs ++ (a ∷ ys)) d
+pub marks-last-in-chunks : {d : Listener} {cs : List (List ℕ)} (xs : List Answer) (a : Answer) (ys : List Answer) → Served startListener cs (xs ++ (a ∷ ys)) d
     → (z : Through started (feeds empty cs .lines) xs a ys (d .session))
     × ((k : Mark) → List·Memᴰ k (marksWritten a) → OpenedOnce (k .layout) (openings (xs ++ (a ∷ ys))) → Lasts (z .to) ys (d .session) k)
 marks-last-in-chunks xs a ys served =

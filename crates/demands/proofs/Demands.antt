@@ -37,7 +37,7 @@ use Rattle.layout.specs.Restore.{restoreOf}
 use Rattle.layout.proofs.Refusals as refusals
 use Rattle.looks.specs.declared.replies.CountAnswer.the-variants as counts
 use Rattle.looks.specs.Answers.{offersCall}
-use Rattle.looks.specs.Written.{answerTo, leftIn}
+use Rattle.looks.specs.Written.{answerTo, leftInBuffer}
 use Rattle.looks.proofs.Refusals as looking
 use Rattle.reasons.specs.Answers.{whyCall}
 use Rattle.lines.specs.Text.{Line}
@@ -48,7 +48,7 @@ use Rattle.frames.specs.Answers.{Answer, opened}
 use Rattle.session.specs.declared.Session.{Session}
 use Rattle.session.specs.Session.{Answers, started}
 use Rattle.session.specs.Listener.{Runs}
-use Rattle.demands.specs.Life.{Given, Later, Life, Names, OneOf, SamePiece, openedOn, stock}
+use Rattle.demands.specs.Life.{Given, Later, Life, NamesPiece, OneOf, SamePiece, openedOn, stock}
 use Rattle.demands.specs.Calls.{AreasCover, InsertAccepted, RemoveAccepted, SameTree}
 use Rattle.demands.specs.Examined.{Examined}
 use Rattle.demands.specs.Counter.{Lasts, Lives, OpenedOnce, marksWritten, openings}
@@ -69,7 +69,7 @@ use Rattle.demands.proofs.Examined as examined
 
 -- k is the state in which the mark was answered, l that state or a later one
 pub a-mark-names-its-piece-or-is-gone : {ls : List Layout} → Life ls → (k l : Layout) → Later k l ls → (m : Mark) → Given k m
-    → (soughtOf l m ≡ sought.Refused Gone) ⊎ (Names l m × SamePiece k l m)
+    → (soughtOf l m ≡ sought.Refused Gone) ⊎ (NamesPiece l m × SamePiece k l m)
 a-mark-names-its-piece-or-is-gone life k l later m g = marks.marks-last life k l later m (given.given-names life k l later m g)
 
 -- "refused as gone": refusal 5, by each call that takes a mark, unless the part asked for is refused first (3)
@@ -109,7 +109,7 @@ a-mark-at-the-counter = counter.marks-last-at-the-counter
 -- a second opening of the number answers the same mark, and it names a piece of the new sheet: so the law is of a number that was opened once
 pub a-second-opening : (s t u v : Session) (o : Opening) (m : Mark) → Answers s (OfLayout (Open o)) t (opened m)
     → (o′ : Opening) (m′ : Mark) → o′ .number ≡ o .number → Answers u (OfLayout (Open o′)) v (opened m′)
-    → (m′ ≡ m) × Names (v .layout) m × (SamePiece (t .layout) (v .layout) m → o′ .settings .sheet ≡ o .settings .sheet)
+    → (m′ ≡ m) × NamesPiece (v .layout) m × (SamePiece (t .layout) (v .layout) m → o′ .settings .sheet ≡ o .settings .sheet)
 a-second-opening = reopened.the-same-number
 
 -- ---- Demand 1, answers: "A refusal gives its number, the layout as it came, lent memory untouched." (Every call ends with an answer on every input: its
@@ -134,7 +134,7 @@ pub a-refused-opening : (o : Opening) (e : Refusal)
 a-refused-opening = refusals.refused-open
 
 -- the calls that write into a lent buffer and hand no layout back, by what each writes: `snapshotBytes l`, `heldNumbers l` and `sawBytes l`
-pub a-refused-writing : (l : Layout) (what out : List ℕ) (e : Refusal) → answerTo l what (length out) ≡ counts.Refused e → leftIn l what out ≡ out
+pub a-refused-writing : (l : Layout) (what out : List ℕ) (e : Refusal) → answerTo l what (length out) ≡ counts.Refused e → leftInBuffer l what out ≡ out
 a-refused-writing = looking.refused-writing
 
 -- "examines the layout it is handed first": specs/Examined.antt lists what every public call answers to a layout that isn't sound, refusal 1
@@ -152,13 +152,13 @@ booking-and-removing = booked.booked-then-removed
 -- same tree: of every answer that meets the contract, and there is one (SomeAnswer) and no other (UniqueAnswers). That the pieces are different, and
 -- the second not inside the first, follows: else its mark would be gone.
 pub bookings-commute : (l : Layout) → Sized l → (m : Mark) (p : PartType) (r : Rotation) (s : InsertionShape)
-    (m′ : Mark) (p′ : PartType) (r′ : Rotation) (s′ : InsertionShape) → Names l m′ → (a b c d : Inserted)
+    (m′ : Mark) (p′ : PartType) (r′ : Rotation) (s′ : InsertionShape) → NamesPiece l m′ → (a b c d : Inserted)
     → InsertAccepted l m p r s a → InsertAccepted (a .layout) m′ p′ r′ s′ b
     → InsertSays l m′ p′ r′ s′ c → InsertSays (c .layout) m p r s d
     → InsertAccepted l m′ p′ r′ s′ c × InsertAccepted (c .layout) m p r s d × SameTree (b .layout) (d .layout)
 bookings-commute = bookings.inserts-commute
 
-pub removals-commute : (l : Layout) → Sized l → (m m′ : Mark) → Names l m′ → (Inside (m′ .place) (m .place) (tree l) → ⊥)
+pub removals-commute : (l : Layout) → Sized l → (m m′ : Mark) → NamesPiece l m′ → (Inside (m′ .place) (m .place) (tree l) → ⊥)
     → (room room′ : ℕ) (a b c d : Removed) → RemoveAccepted l m room a → RemoveAccepted (a .layout) m′ room′ b
     → RemoveSays l m′ room′ c → RemoveSays (c .layout) m room d
     → RemoveAccepted l m′ room′ c × RemoveAccepted (c .layout) m room d × SameTree (b .layout) (d .layout)

@@ -34,7 +34,7 @@ use Rattle.layout.specs.Insert.{bookingFor, pieceAt, InsertDone}
 use Rattle.layout.specs.Remove.{placeFor, RemoveDone}
 use Rattle.layout.proofs.Listed.{piece-is}
 use Rattle.layout.specs.Inner.{Insertable, Takeable}
-use Rattle.demands.specs.Life.{Names}
+use Rattle.demands.specs.Life.{NamesPiece}
 use Rattle.demands.proofs.Outcomes.{insertable-fresh}
 
 -- of the layout l the pieces w are left in n
@@ -52,7 +52,7 @@ module _ {l n : Layout} {w : Tree} (c : Leaves l n w) where
   piece-now i e h = piece-is (n .nodes) (tree n) (c .after .holds) i e (c .stays i e h)
 
   -- a mark that names a piece of both names one that is left
-  pub names-left : (m : Mark) → Names l m → Names n m → At (m .place) (pieceAt l (m .place)) w
+  pub names-left : (m : Mark) → NamesPiece l m → NamesPiece n m → At (m .place) (pieceAt l (m .place)) w
   names-left m old new =
       let y = m .place in
       let e = pieceAt n y in
@@ -63,7 +63,7 @@ module _ {l n : Layout} {w : Tree} (c : Leaves l n w) where
       (λ z. absurd (omega arith)) (c .pieces y e (new .there))
 
   -- what is left keeps its mark
-  pub names-stay : (m : Mark) → Names l m → At (m .place) (pieceAt l (m .place)) w → Names n m
+  pub names-stay : (m : Mark) → NamesPiece l m → At (m .place) (pieceAt l (m .place)) w → NamesPiece n m
   names-stay m old h =
       let now = piece-now (m .place) (pieceAt l (m .place)) h in
       record {

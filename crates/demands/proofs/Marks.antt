@@ -25,7 +25,7 @@ use Rattle.layout.proofs.Marks.{sought-names}
 use Rattle.layout.proofs.Ways.{onward, ended}
 use Rattle.looks.specs.Answers.{offersCall}
 use Rattle.reasons.specs.Answers.{whyCall}
-use Rattle.demands.specs.Life.{OneOf, Life, Later, Names, SamePiece}
+use Rattle.demands.specs.Life.{OneOf, Life, Later, NamesPiece, SamePiece}
 use Rattle.demands.proofs.Lives.{states-sound, one-number, one-piece}
 
 -- both are states of the life
@@ -35,11 +35,11 @@ later-both k l (h ∷ hs) (inl y) = (y .1, inl (y .0))
 later-both k l (h ∷ hs) (inr o) = let z = later-both k l hs o in (inr (z .0), inr (z .1))
 
 -- a mark of this layout is gone, or names a piece
-gone-or-names : (l : Layout) → SoundLayout l → (m : Mark) → m .layout ≡ l .number → (soughtOf l m ≡ sought.Refused Gone) ⊎ Names l m
+gone-or-names : (l : Layout) → SoundLayout l → (m : Mark) → m .layout ≡ l .number → (soughtOf l m ≡ sought.Refused Gone) ⊎ NamesPiece l m
 unfolding soughtOf
 gone-or-names l sound m same = go (goneB l m) refl
   where
-    go : (b : Bool) → goneB l m ≡ b → (soughtOf l m ≡ sought.Refused Gone) ⊎ Names l m
+    go : (b : Bool) → goneB l m ≡ b → (soughtOf l m ≡ sought.Refused Gone) ⊎ NamesPiece l m
     go true e = inl (sym (onward _ (eq-eqb (m .layout) (l .number) same) (onward _ e refl)))
     go false e =
         let found : soughtOf l m ≡ sought.Piece (pieceAt l (m .place)) =
@@ -49,14 +49,14 @@ gone-or-names l sound m same = go (goneB l m) refl
         inr (record { number = same; there = n .there; serial = n .serial })
 
 -- A mark that named a piece of a state names the same piece of every later state, or is gone there.
-pub marks-last : {ls : List Layout} → Life ls → (k l : Layout) → Later k l ls → (m : Mark) → Names k m
-    → (soughtOf l m ≡ sought.Refused Gone) ⊎ (Names l m × SamePiece k l m)
+pub marks-last : {ls : List Layout} → Life ls → (k l : Layout) → Later k l ls → (m : Mark) → NamesPiece k m
+    → (soughtOf l m ≡ sought.Refused Gone) ⊎ (NamesPiece l m × SamePiece k l m)
 marks-last {ls} life k l later m named =
     let o = later-both k l ls later in
     let number = named .number ∙ one-number life k l (o .0) (o .1) in
     ⊎-elim inl (λ n. inr (n, same o n)) (gone-or-names l (states-sound life l (o .1) .0) m number)
   where
-    same : OneOf k ls × OneOf l ls → Names l m → SamePiece k l m
+    same : OneOf k ls × OneOf l ls → NamesPiece l m → SamePiece k l m
     same o n =
         let z =
         one-piece life k l (o .0) (o .1) (m .place) (m .place) (pieceAt k (m .place)) (pieceAt l (m .place)) (named .there) (n .there)

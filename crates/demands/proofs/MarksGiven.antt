@@ -4,12 +4,12 @@ use mathlib.Core.List.{List}
 use Rattle.answers.specs.declared.Mark.{Mark}
 use Rattle.layout.specs.declared.layout.Layout.{Layout}
 use Rattle.layout.specs.SoundLayout.{SoundLayout, Sized}
-use Rattle.demands.specs.Life.{Given, byOpen, byInsertFirst, byInsertPart, byInsertFree, byRemove, byFreeList, byRemovableList, Later, Life, Names}
+use Rattle.demands.specs.Life.{Given, byOpen, byInsertFirst, byInsertPart, byInsertFree, byRemove, byFreeList, byRemovableList, Later, Life, NamesPiece}
 use Rattle.demands.proofs.Lives.{states-sound}
 use Rattle.demands.proofs.Marks.{later-both}
 use Rattle.demands.proofs.MarksNamed.{open-mark-names, insert-marks-name, remove-mark-names, free-position-names, removable-position-names}
 
-pub named : {k : Layout} {m : Mark} → Sized k → SoundLayout k → Given k m → Names k m
+pub named : {k : Layout} {m : Mark} → Sized k → SoundLayout k → Given k m → NamesPiece k m
 named sized sound (byOpen o m h) = open-mark-names o m h .names
 named sized sound (byInsertFirst l n p r s a w h d) = insert-marks-name l n p r s a w h d .first
 named sized sound (byInsertPart l n p r s a w h d) = insert-marks-name l n p r s a w h d .part .names
@@ -18,6 +18,6 @@ named sized sound (byRemove l n room a w h d) = remove-mark-names l n room a w h
 named sized sound (byFreeList l i m h) = free-position-names l sized sound i m h .names
 named sized sound (byRemovableList l i m h) = removable-position-names l sized sound i m h .0
 
-pub given-names : {ls : List Layout} → Life ls → (k l : Layout) → Later k l ls → (m : Mark) → Given k m → Names k m
+pub given-names : {ls : List Layout} → Life ls → (k l : Layout) → Later k l ls → (m : Mark) → Given k m → NamesPiece k m
 given-names {ls} life k l later m g =
     let h = states-sound life k (later-both k l ls later .0) in named (h .1) (h .0) g

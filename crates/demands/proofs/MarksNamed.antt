@@ -50,12 +50,12 @@ use Rattle.looks.specs.declared.replies.MarkAnswer.{MarkAnswer}
 use Rattle.looks.specs.declared.replies.MarkAnswer.the-variants as answer
 use Rattle.looks.specs.Answers.{freeMarkOf, removableMarkOf}
 use Rattle.looks.proofs.ListMarks.{free-mark-names, removable-mark-names}
-use Rattle.demands.specs.Life.{Names}
+use Rattle.demands.specs.Life.{NamesPiece}
 use Rattle.demands.proofs.Outcomes.{opened-so, accepted-insert, accepted-remove}
 
 -- the mark names a piece of this kind
 pub record NamesKind (k : Kind) (l : Layout) (m : Mark) : Type 0 where
-  pub names : Names l m
+  pub names : NamesPiece l m
   pub kind : pieceAt l (m .place) .kind ≡ k
 
 -- ---- the piece d of a sound layout has the mark
@@ -65,7 +65,7 @@ module _ (l : Layout) (sound : SoundLayout l) (m : Mark) (d : Datum) (number : m
   is : pieceAt l (m .place) ≡ d
   is = piece-is (l .nodes) (tree l) (sound .holds) (m .place) d there
 
-  named : Names l m
+  named : NamesPiece l m
   named = record { number = number; there = rw is there; serial = ap (λ (e : Datum). e .serial) is ∙ serial }
 
   kind-named : (k : Kind) → d .kind ≡ k → NamesKind k l m
@@ -93,7 +93,7 @@ is-part Structure h = absurd (clash h)
 
 -- the marks that an accepted booking in the piece at x answers: the first of the new nodes, the part, and the free pieces
 pub record BookedMarks (l : Layout) (x : ℕ) (p : PartType) (r : Rotation) (s : InsertionShape) (a : Inserted) : Type 0 where
-  pub first : Names (a .layout) (a .marks .first)
+  pub first : NamesPiece (a .layout) (a .marks .first)
   pub firstIs : a .marks .first ≡ record { layout = l .number; place = newPlace limit (less x (tree l)) 0; serial = l .serial + 1 }
   pub part : NamesKind Part (a .layout) (a .marks .part)
   pub partIs : At (a .marks .part .place) (pieceAt (a .layout) (a .marks .part .place)) (block (bookingFor l x p r s) (pieceAt l x))
@@ -118,7 +118,7 @@ module _ (l : Layout) (x : ℕ) (p : PartType) (r : Rotation) (s : InsertionShap
     number : k .layout ≡ a .layout .number
     number = o .layout ∙ sym (done .next .number)
 
-    of-names : Names (a .layout) k
+    of-names : NamesPiece (a .layout) k
     of-names = named (a .layout) (done .next .sound) k (o .piece) number here (o .serial)
 
     of-kind : (c : Kind) → o .piece .kind ≡ c → NamesKind c (a .layout) k
@@ -188,7 +188,7 @@ module _ (l : Layout) (sized : Sized l) (sound : SoundLayout l) (k : ℕ) (m : M
       (kind-named l sound (z .0) (z .1) (z .3 .layout) (z .3 .there) (z .3 .serial) Free (z .4))
 
   -- a part or a structure
-  pub removable-position-names : removableMarkOf l k ≡ answer.Found m → Names l m × (isFree (pieceAt l (m .place) .kind) ≡ false)
+  pub removable-position-names : removableMarkOf l k ≡ answer.Found m → NamesPiece l m × (isFree (pieceAt l (m .place) .kind) ≡ false)
   unfolding removableMarkOf
   removable-position-names h =
       let b = ltb-true k (l .removables) (within (soundB l) (ltb k (l .removables)) _ m _ _ h) in

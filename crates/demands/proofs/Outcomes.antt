@@ -41,7 +41,7 @@ use Rattle.layout.proofs.Marks.{sought-names}
 use Rattle.layout.proofs.Admitted.{admitted, insertable, passed}
 use Rattle.layout.proofs.Inserted.{insert-accepted}
 use Rattle.layout.proofs.Gone.{may-take, none-passes, remove-accepted}
-use Rattle.demands.specs.Life.{Names}
+use Rattle.demands.specs.Life.{NamesPiece}
 use Rattle.demands.specs.Calls.{InsertAccepted, RemoveAccepted}
 
 -- ---- the opening
@@ -104,7 +104,7 @@ accepted-insert l m p r s a sized h =
     }
 
 -- its mark names the free piece that it takes
-pub insert-names : {l : Layout} {m : Mark} {p : PartType} {r : Rotation} {s : InsertionShape} {a : Inserted} → InsertMeans l m p r s a → Names l m
+pub insert-names : {l : Layout} {m : Mark} {p : PartType} {r : Rotation} {s : InsertionShape} {a : Inserted} → InsertMeans l m p r s a → NamesPiece l m
 insert-names i = record { number = i .number; there = i .insertable .there; serial = i .serial }
 
 -- ---- `remove`
@@ -150,7 +150,7 @@ accepted-remove l m room a sized h =
     }
 
 -- its mark names the piece that goes
-pub remove-names : {l : Layout} {m : Mark} {room : ℕ} {a : Removed} → RemoveMeans l m room a → Names l m
+pub remove-names : {l : Layout} {m : Mark} {room : ℕ} {a : Removed} → RemoveMeans l m room a → NamesPiece l m
 remove-names {l} {m} i =
     let o = i .takeable .removable in
     let is = piece-is (l .nodes) (tree l) (i .takeable .sound .holds) (m .place) (o .piece) (o .there) in

@@ -27,7 +27,7 @@ use Rattle.layout.specs.Remove.{RemoveDone, RemoveSays, numbersOut, placeFor}
 use Rattle.layout.specs.Inner.{Takeable}
 use Rattle.layout.proofs.Listed.{piece-is}
 use Rattle.looks.specs.Written.{snapshotBytes}
-use Rattle.demands.specs.Life.{Names}
+use Rattle.demands.specs.Life.{NamesPiece}
 use Rattle.demands.specs.Calls.{RemoveAccepted, SameTree}
 use Rattle.demands.proofs.Outcomes.{RemoveMeans, accepted-remove, remove-names}
 use Rattle.demands.proofs.Leaves.{Leaves, piece-now, names-left, names-stay, new-unheld, remove-leaves}
@@ -64,7 +64,7 @@ module _ (l : Layout) (x : ℕ) (can : Takeable l x) (y : ℕ) (e : Datum) (stay
 
 module _ (l : Layout) (sized : Sized l)
     -- the two removals: of the pieces that the marks m and m′ name, the first not inside the second, into buffers of these rooms
-    (m m′ : Mark) (named : Names l m′) (outside : Inside (m′ .place) (m .place) (tree l) → ⊥) (room room′ : ℕ)
+    (m m′ : Mark) (named : NamesPiece l m′) (outside : Inside (m′ .place) (m .place) (tree l) → ⊥) (room room′ : ℕ)
     -- the first and then the second are accepted; c and d answer them the other way round
     (a b c d : Removed) (one : RemoveAccepted l m room a) (then : RemoveAccepted (a .layout) m′ room′ b) where
   abbrev x : ℕ
@@ -130,7 +130,7 @@ module _ (l : Layout) (sized : Sized l)
     leaves′ : Leaves l (c .layout) (cleared y (tree l))
     leaves′ = remove-leaves l y (k .takeable) c (k .done)
 
-    names : Names (c .layout) m
+    names : NamesPiece (c .layout) m
     names = names-stay leaves′ m (remove-names i) first-left
 
     -- then the first may be made

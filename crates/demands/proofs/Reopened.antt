@@ -29,7 +29,7 @@ use Rattle.frames.specs.Answers.{opened, done}
 use Rattle.session.specs.declared.Session.{Session}
 use Rattle.session.specs.Session.{Reply, withLayout, reply, openedBy, afterOpen, afterRestore, Answers}
 use Rattle.session.proofs.Kept.{kept-after}
-use Rattle.demands.specs.Life.{Names, SamePiece}
+use Rattle.demands.specs.Life.{NamesPiece, SamePiece}
 use Rattle.demands.specs.Counter.{Refuses}
 use Rattle.demands.proofs.Outcomes.{opened-so}
 use Rattle.demands.proofs.MarksNamed.{open-mark-names}
@@ -79,7 +79,7 @@ another-number s t o m h k other =
 -- OF THE SAME NUMBER: it answers the same mark, which names a piece of the new layout; and that is the first one's only if the sheet has its size
 pub the-same-number : (s t u v : Session) (o : Opening) (m : Mark) → Answers s (OfLayout (Open o)) t (opened m)
     → (o′ : Opening) (m′ : Mark) → o′ .number ≡ o .number → Answers u (OfLayout (Open o′)) v (opened m′)
-    → (m′ ≡ m) × Names (v .layout) m × (SamePiece (t .layout) (v .layout) m → o′ .settings .sheet ≡ o .settings .sheet)
+    → (m′ ≡ m) × NamesPiece (v .layout) m × (SamePiece (t .layout) (v .layout) m → o′ .settings .sheet ≡ o .settings .sheet)
 the-same-number s t u v o m h o′ m′ number h′ =
     let z = accepted o s t m h in
     let y = accepted o′ u v m′ h′ in

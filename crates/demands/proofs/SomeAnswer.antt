@@ -20,11 +20,11 @@ use Rattle.walks.proofs.Entries.{entries-take}
 use Rattle.booking.specs.declared.book.Booked.{Booked}
 use Rattle.booking.specs.NewNodes.{those}
 use Rattle.booking.specs.Marks.{newMarks}
-use Rattle.booking.specs.Book.{booked}
+use Rattle.booking.specs.Book.{bookedNodes}
 use Rattle.removal.specs.declared.going.Going.{Going}
 use Rattle.removal.specs.declared.remove.Cleared.{Cleared}
 use Rattle.removal.specs.Going.{goingOf, places, areaAlong}
-use Rattle.removal.specs.Remove.{removed}
+use Rattle.removal.specs.Remove.{removedNodes}
 use Rattle.removal.proofs.Gone.{going-placed}
 use Rattle.answers.specs.declared.Mark.{Mark}
 use Rattle.answers.specs.declared.Refusal.{Refusal}
@@ -50,7 +50,7 @@ module _ (l : Layout) (m : Mark) (p : PartType) (r : Rotation) (s : InsertionSha
 
   -- what the steps of a booking make
   made : Booked
-  made = booked (nodesOf l) (m .place) s size (p .number) (l .serial)
+  made = bookedNodes (nodesOf l) (m .place) s size (p .number) (l .serial)
 
   answer : Inserted
   answer =
@@ -85,7 +85,7 @@ module _ (l : Layout) (m : Mark) (room : ℕ) where
   going = record { order = all; count = length all }
 
   left : Cleared
-  left = removed (nodesOf l) (places going) x (l .serial)
+  left = removedNodes (nodesOf l) (places going) x (l .serial)
 
   reply : Removed
   reply =

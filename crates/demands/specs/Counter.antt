@@ -25,7 +25,7 @@ use Rattle.frames.specs.declared.Request.the-variants.{OfLayout}
 use Rattle.frames.specs.Answers.{Answer, refused, opened, offered, inserted, removed, done, reported, malformed}
 use Rattle.session.specs.declared.Session.{Session}
 use Rattle.session.specs.Session.{Answers}
-use Rattle.demands.specs.Life.{OneOf, Life, Names, SamePiece}
+use Rattle.demands.specs.Life.{OneOf, Life, NamesPiece, SamePiece}
 
 -- ---- answers
 
@@ -110,7 +110,7 @@ pub record Refuses (e : Refusal) (s : Session) (k : Mark) : Type 0 where
 -- what has become, in the state v, of a mark that was written in the state u, ys being the answers since then
 pub data Lasts (u : Session) (ys : List Answer) (v : Session) (k : Mark) : Type 0 where
   -- it names the piece that it was written for
-  names : Names (v .layout) k → SamePiece (u .layout) (v .layout) k → Lasts u ys v k
+  names : NamesPiece (v .layout) k → SamePiece (u .layout) (v .layout) k → Lasts u ys v k
   -- the piece is gone: refusal 5
   gone : Refuses Gone v k → Lasts u ys v k
   -- another layout was opened since: refusal 4

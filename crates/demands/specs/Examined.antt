@@ -25,7 +25,7 @@ use Rattle.looks.specs.declared.replies.LightAnswer.the-variants as lights
 use Rattle.looks.specs.declared.replies.MarkAnswer.the-variants as marks
 use Rattle.looks.specs.Answers.{usedAreaOf, freeAreaOf, nodesHeldOf, sheetUsageOf, treeUsageOf, isEmptyOf, freeMarkOf, removableMarkOf, lightOf}
 use Rattle.looks.specs.Answers.{offersCall, refusedOffers}
-use Rattle.looks.specs.Written.{answerTo, heldNumbers, leftIn, snapshotBytes}
+use Rattle.looks.specs.Written.{answerTo, heldNumbers, leftInBuffer, snapshotBytes}
 use Rattle.saw.specs.Written.{sawBytes}
 use Rattle.reasons.specs.Answers.{refusedWhy, whyCall}
 use Rattle.frames.specs.declared.Request.{Request}
@@ -38,7 +38,7 @@ use Rattle.session.specs.Replies.{both}
 -- of a call that would write this into a lent buffer
 pub record NothingWritten (l : Layout) (what : List ℕ) : Type 0 where
   pub answer : (room : ℕ) → answerTo l what room ≡ counts.Refused NotSound
-  pub buffer : (out : List ℕ) → leftIn l what out ≡ out
+  pub buffer : (out : List ℕ) → leftInBuffer l what out ≡ out
 
 pub record Examined (l : Layout) : Type 0 where
   -- crate layout; `restore` examines both that it is handed, and `free_piece` is the head of every call on a free piece

@@ -68,7 +68,7 @@ Later k l [] = ⊥
 Later k l (h ∷ hs) = ((l ≡ h) × OneOf k (h ∷ hs)) ⊎ Later k l hs
 
 -- the mark names a piece of the layout
-pub record Names (l : Layout) (m : Mark) : Type 0 where
+pub record NamesPiece (l : Layout) (m : Mark) : Type 0 where
   pub number : m .layout ≡ l .number
   pub there : At (m .place) (pieceAt l (m .place)) (tree l)
   pub serial : pieceAt l (m .place) .serial ≡ m .serial

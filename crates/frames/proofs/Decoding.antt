@@ -10,13 +10,13 @@ use lib.Seq.{take-suc, take-all, length-take-le, split-at}
 use borrow.Author.Tests.{lt-ltb, le-ltb}
 use Rattle.hex.specs.Hex.{pairOf}
 use Rattle.frames.specs.Bytes.{pairs, allBytes, total}
-use Rattle.frames.specs.Inner.{held, Decodes}
+use Rattle.frames.specs.Inner.{paddedBytes, Decodes}
 use Rattle.frames.proofs.Lists.{sets-append, length-pairs, pair-at, total-append, all-append}
 
 -- the first i bytes are read
 pub record Read (line bytes : List ℕ) (sum i : ℕ) : Type 0 where
   pub within : i ≤ length line / 2
-  pub stored : bytes ≡ held (take i (pairs line))
+  pub stored : bytes ≡ paddedBytes (take i (pairs line))
   pub added : sum ≡ total (take i (pairs line)) % 256
   pub digits : allBytes (take i (pairs line)) ≡ true
 
@@ -47,9 +47,9 @@ module _ (line bytes : List ℕ) (sum i : ℕ) (r : Read line bytes sum i) (more
       within = omega arith;
       stored =
           ap (λ (l : List ℕ). set l i b) (r .stored)
-          ∙ ap (λ (k : ℕ). set (held (take i (pairs line))) k b) (sym length-read ∙ omega arith)
+          ∙ ap (λ (k : ℕ). set (paddedBytes (take i (pairs line))) k b) (sym length-read ∙ omega arith)
           ∙ sym (sets-append (take i (pairs line)) (b ∷ []) (replicate 32 0) 0)
-          ∙ ap held (sym taken);
+          ∙ ap paddedBytes (sym taken);
       added = omega (arith, ap total taken, total-append (take i (pairs line)) (b ∷ []), r .added);
       digits = ap allBytes taken ∙ all-append (take i (pairs line)) (b ∷ []) ∙ simp (r .digits, lt-ltb b 256 small);
     }
@@ -74,6 +74,6 @@ decoded line bytes sum i r h =
     let all : take i (pairs line) ≡ pairs line = take-all i (pairs line) (omega (arith, length-pairs line)) in
     record {
       good = sym (ap allBytes (sym all) ∙ r .digits);
-      bytes = λ t. r .stored ∙ ap held all;
+      bytes = λ t. r .stored ∙ ap paddedBytes all;
       sum = λ t. r .added ∙ ap (λ (l : List ℕ). total l % 256) all;
     }

@@ -13,7 +13,7 @@ use Rattle.answers.specs.declared.Mark.{Mark}
 use Rattle.frames.specs.declared.Ask.the-variants.{Insert}
 use Rattle.frames.specs.declared.Request.the-variants.{OfLayout}
 use Rattle.frames.specs.Fields.{markAt, partAt}
-use Rattle.frames.specs.Requests.{insertOf}
+use Rattle.frames.specs.Requests.{readInsert}
 
 pub serial-place : (i : ℕ) → i + 2 + 1 ≡ i + 3
 serial-place i = omega arith
@@ -23,14 +23,14 @@ turn-place i = omega arith
 
 module _ (b : List ℕ) where
   all-listed : getD b 18 0 ≤ 2 → getD b 19 0 ≤ 1 → 1 ≤ getD b 20 0 → getD b 20 0 ≤ 4
-      → insertOf b ≡ OfLayout (Insert (markAt b 1) (partAt b 8) (rotationOf (getD b 19 0)) (shapeOf (getD b 20 0)))
-  unfolding insertOf
+      → readInsert b ≡ OfLayout (Insert (markAt b 1) (partAt b 8) (rotationOf (getD b 19 0)) (shapeOf (getD b 20 0)))
+  unfolding readInsert
   all-listed t r s u = rw (le-leb (getD b 18 0) 2 t, le-leb (getD b 19 0) 1 r, le-leb 1 (getD b 20 0) s, le-leb (getD b 20 0) 4 u) refl
 
   pub insert-read : (m : Mark) (p : PartType) (r : Rotation) (s : InsertionShape)
       → getD b 18 0 ≤ 2 → getD b 19 0 ≤ 1 → 1 ≤ getD b 20 0 → getD b 20 0 ≤ 4
       → m ≡ markAt b 1 → p ≡ partAt b 8 → r ≡ rotationOf (getD b 19 0) → s ≡ shapeOf (getD b 20 0)
-      → OfLayout (Insert m p r s) ≡ insertOf b
+      → OfLayout (Insert m p r s) ≡ readInsert b
   insert-read m p r s t n o u hm hp hr hs =
       let e : OfLayout (Insert m p r s) ≡ OfLayout (Insert (markAt b 1) (partAt b 8) (rotationOf (getD b 19 0)) (shapeOf (getD b 20 0))) = cc in
       e ∙ sym (all-listed t n o u)

@@ -13,7 +13,7 @@ use Rattle.piece.specs.declared.parttype.PartType.{PartType}
 use Rattle.piece.proofs.Numbers.{turn-small}
 use Rattle.answers.specs.declared.Mark.{Mark}
 use Rattle.frames.specs.Bytes.{allBytes, two, four}
-use Rattle.frames.specs.Fields.{Width, single, double, quad, Field, markFields, partFields, sizeOf, widths, valueAt, values, bytesIn, written}
+use Rattle.frames.specs.Fields.{Width, single, double, quad, Field, markFields, partFields, sizeOf, widths, valueAt, values, fieldBytes, written}
 use Rattle.frames.specs.Fields.{markNos, partNos, markBytes}
 use Rattle.frames.specs.Ranges.{MarkFits, PartFits}
 use Rattle.frames.proofs.Laws.{first-true, second-true, AreBytes, no-bytes, then, join, are-two, are-four}
@@ -66,10 +66,10 @@ values-drop (f ∷ fs) b i =
     ∙ ap (values fs b) (omega arith))
 
 -- ---- numbers that fit, as bytes and back
-past : (fs : List Field) (w : Width) (v : ℕ) (rest : List ℕ) → values fs (bytesIn w v ++ rest) (0 + sizeOf w) ≡ values fs rest 0
-past fs single v rest = sym (values-drop fs (bytesIn single v ++ rest) 1)
-past fs double v rest = sym (values-drop fs (bytesIn double v ++ rest) 2)
-past fs quad v rest = sym (values-drop fs (bytesIn quad v ++ rest) 4)
+past : (fs : List Field) (w : Width) (v : ℕ) (rest : List ℕ) → values fs (fieldBytes w v ++ rest) (0 + sizeOf w) ≡ values fs rest 0
+past fs single v rest = sym (values-drop fs (fieldBytes single v ++ rest) 1)
+past fs double v rest = sym (values-drop fs (fieldBytes double v ++ rest) 2)
+past fs quad v rest = sym (values-drop fs (fieldBytes quad v ++ rest) 4)
 
 two-back : (n : ℕ) → n / 256 * 256 + n % 256 ≡ n
 two-back n = omega arith
@@ -77,7 +77,7 @@ two-back n = omega arith
 four-back : (n : ℕ) → n / 65536 * 65536 + n % 65536 ≡ n
 four-back n = omega arith
 
-value-back : (w : Width) (v : ℕ) (rest : List ℕ) → v < boundOf w → valueAt w (bytesIn w v ++ rest) 0 ≡ v
+value-back : (w : Width) (v : ℕ) (rest : List ℕ) → v < boundOf w → valueAt w (fieldBytes w v ++ rest) 0 ≡ v
 value-back single v rest h = omega arith
 value-back double v rest h = two-back v
 value-back quad v rest h = simp (two-back, four-back)
@@ -85,10 +85,10 @@ value-back quad v rest h = simp (two-back, four-back)
 pub values-back : {fs : List Field} {vs : List ℕ} → Fits fs vs → (rest : List ℕ) → values fs (written fs vs ++ rest) 0 ≡ vs
 values-back none rest = refl
 values-back (more {f} {fs} {v} {vs} h hs) rest =
-    ap (λ (l : List ℕ). values (f ∷ fs) l 0) (append-assoc (bytesIn (f .width) v) (written fs vs) rest)
+    ap (λ (l : List ℕ). values (f ∷ fs) l 0) (append-assoc (fieldBytes (f .width) v) (written fs vs) rest)
     ∙ ap₂ cons (value-back (f .width) v (written fs vs ++ rest) h) (past fs (f .width) v (written fs vs ++ rest) ∙ values-back hs rest)
 
-length-in : (w : Width) (v : ℕ) → length (bytesIn w v) ≡ sizeOf w
+length-in : (w : Width) (v : ℕ) → length (fieldBytes w v) ≡ sizeOf w
 length-in single v = refl
 length-in double v = refl
 length-in quad v = refl
@@ -96,9 +96,9 @@ length-in quad v = refl
 pub length-written : {fs : List Field} {vs : List ℕ} → Fits fs vs → length (written fs vs) ≡ widths fs
 length-written none = refl
 length-written (more {f} {fs} {v} {vs} h hs) =
-    omega (arith, length-append (bytesIn (f .width) v) (written fs vs), length-in (f .width) v, length-written hs)
+    omega (arith, length-append (fieldBytes (f .width) v) (written fs vs), length-in (f .width) v, length-written hs)
 
-are-in : (w : Width) (v : ℕ) → v < boundOf w → AreBytes (bytesIn w v)
+are-in : (w : Width) (v : ℕ) → v < boundOf w → AreBytes (fieldBytes w v)
 are-in single v h = then (omega arith) no-bytes
 are-in double v h = are-two v h
 are-in quad v h = are-four v h
@@ -137,7 +137,7 @@ four-of x y h =
 
 -- a field, and what is left behind it
 field-back : (w : Width) (c : List ℕ) → allBytes c ≡ true → sizeOf w ≤ length c
-    → (bytesIn w (valueAt w c 0) ++ drop (0 + sizeOf w) c ≡ c) × (valueAt w c 0 < boundOf w)
+    → (fieldBytes w (valueAt w c 0) ++ drop (0 + sizeOf w) c ≡ c) × (valueAt w c 0 < boundOf w)
 field-back single [] a h = absurd (omega arith)
 field-back single (x ∷ c) a h = let s = byte-at (x ∷ c) a 0 in (ap (λ (k : ℕ). k ∷ c) (omega arith), s)
 field-back double [] a h = absurd (omega arith)
@@ -178,8 +178,8 @@ whole (f ∷ fs) c a n =
       small = z .small;
       shown =
           sym (w .0)
-          ∙ ap (λ (l : List ℕ). bytesIn (f .width) (valueAt (f .width) c 0) ++ l)
+          ∙ ap (λ (l : List ℕ). fieldBytes (f .width) (valueAt (f .width) c 0) ++ l)
           (z .shown ∙ ap (λ (vs : List ℕ). written fs vs ++ (z .last ∷ [])) same)
-          ∙ sym (append-assoc (bytesIn (f .width) (valueAt (f .width) c 0)) (written fs (values fs c s)) (z .last ∷ []));
+          ∙ sym (append-assoc (fieldBytes (f .width) (valueAt (f .width) c 0)) (written fs (values fs c s)) (z .last ∷ []));
       fits = more (w .1) (rw same at (z .fits));
     }

@@ -16,8 +16,8 @@ use Rattle.frames.specs.declared.Ask.the-variants.{Report}
 use Rattle.frames.specs.declared.Request.{Request}
 use Rattle.frames.specs.declared.Request.the-variants.{OfLayout, Keep, Restore, Malformed}
 use Rattle.frames.specs.Bytes.{pairs, allBytes, charsOf, total, checkOf, framed}
-use Rattle.frames.specs.Fields.{widths, values, allListed, given}
-use Rattle.frames.specs.Requests.{Form, openForm, offersForm, insertForm, removeForm, bare, formOf, lengthOf, readAs, askedBy}
+use Rattle.frames.specs.Fields.{widths, values, allListed, appliedTo}
+use Rattle.frames.specs.Requests.{Form, openForm, offersForm, insertForm, removeForm, bareForm, formOf, lengthOf, readAs, askedBy}
 use Rattle.frames.specs.Requests.{wellFormed, requestOf, carried, carriedBy, frameOf}
 use Rattle.frames.specs.Ranges.{RequestFits}
 use Rattle.frames.proofs.Lists.{total-append}
@@ -104,7 +104,7 @@ record Means (op : ℕ) (f : Form) (vs : List ℕ) (q : Request) : Type 0 where
   fits : RequestFits q
 
 abbrev Meant : ℕ → Form → Type 0
-Meant op f = (vs : List ℕ) → Fits (f .fields) vs → allListed (f .fields) vs ≡ true → Means op f vs (given (f .fields) (f .asks) vs)
+Meant op f = (vs : List ℕ) → Fits (f .fields) vs → allListed (f .fields) vs ≡ true → Means op f vs (appliedTo (f .fields) (f .asks) vs)
 
 open-meant : Meant 1 openForm
 unfolding carriedBy
@@ -138,7 +138,7 @@ remove-meant : Meant 4 removeForm
 unfolding carriedBy
 remove-meant vs (more a (more b (more c none))) h = record { carries = inr refl; fits = record { layout = a; place = b; serial = c } }
 
-bare-meant : (op : ℕ) (q : Request) → (q ≡ Malformed) ⊎ (carriedBy q ≡ op ∷ []) → RequestFits q → Meant op (bare q)
+bare-meant : (op : ℕ) (q : Request) → (q ≡ Malformed) ⊎ (carriedBy q ≡ op ∷ []) → RequestFits q → Meant op (bareForm q)
 bare-meant op q c f vs none h = record { carries = c; fits = f }
 
 form-meant : (op : ℕ) → Meant op (formOf op)

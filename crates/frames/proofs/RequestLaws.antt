@@ -13,7 +13,7 @@ use Rattle.frames.specs.declared.Request.{Request}
 use Rattle.frames.specs.declared.Request.the-variants.{OfLayout, Keep, Restore, Malformed}
 use Rattle.frames.specs.Bytes.{pairs, allBytes, charsOf, total, checkOf, framed}
 use Rattle.frames.specs.Fields.{widths, values}
-use Rattle.frames.specs.Requests.{Form, openForm, offersForm, insertForm, removeForm, bare, formOf, lengthOf, made, readAs, askedBy}
+use Rattle.frames.specs.Requests.{Form, openForm, offersForm, insertForm, removeForm, bareForm, formOf, lengthOf, requestMade, readAs, askedBy}
 use Rattle.frames.specs.Requests.{wellFormed, requestOf, carried, carriedBy, frameOf}
 use Rattle.frames.specs.Ranges.{RequestFits}
 use Rattle.frames.proofs.Lists.{length-chars}
@@ -52,13 +52,13 @@ module _ (op : ℕ) (f : Form) (vs : List ℕ) (is : formOf op ≡ f) (small : o
   read : values (f .fields) (framed bytes) 1 ≡ vs
   read = sym (values-drop (f .fields) (framed bytes) 1) ∙ values-back fits (checkOf bytes ∷ [])
 
-  asks : 2 + widths (f .fields) ≤ 32 → requestOf (charsOf (framed bytes)) ≡ made f vs
+  asks : 2 + widths (f .fields) ≤ 32 → requestOf (charsOf (framed bytes)) ≡ requestMade f vs
   unfolding askedBy lengthOf
   asks short =
       line-asks (framed bytes) (are-framed (then small (are-written fits)) .tested) (omega (arith, long)) (framed-adds bytes)
       (long ∙ ap (λ (g : Form). 2 + widths (g .fields)) (sym is))
       ∙ ap (λ (g : Form). readAs g (framed bytes)) is
-      ∙ ap (made f) read
+      ∙ ap (requestMade f) read
 
 -- ---- each op
 -- the line of no bytes but a check
@@ -78,7 +78,7 @@ request-back (OfLayout (Insert m p r s)) f =
     asks 3 insertForm _ refl (omega arith) (mark-fits (part-fits (more (rotation-small r) (more (shape-small s) none)) p (f .1)) m (f .0)) (omega arith)
     ∙ rw (turn-listed (p .turn), rotation-listed r, shape-listed s, turn-back (p .turn), rotation-back r, shape-back s) refl
 request-back (OfLayout (Remove m)) f = asks 4 removeForm _ refl (omega arith) (mark-fits none m f) (omega arith)
-request-back (OfLayout Report) f = asks 7 (bare (OfLayout Report)) [] refl (omega arith) none (omega arith)
-request-back Keep f = asks 5 (bare Keep) [] refl (omega arith) none (omega arith)
-request-back Restore f = asks 6 (bare Restore) [] refl (omega arith) none (omega arith)
+request-back (OfLayout Report) f = asks 7 (bareForm (OfLayout Report)) [] refl (omega arith) none (omega arith)
+request-back Keep f = asks 5 (bareForm Keep) [] refl (omega arith) none (omega arith)
+request-back Restore f = asks 6 (bareForm Restore) [] refl (omega arith) none (omega arith)
 request-back Malformed f = malformed-back

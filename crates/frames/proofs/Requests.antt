@@ -9,8 +9,8 @@ use lib.Seq.{sets-eq, getD-drop}
 use borrow.Author.Tests.{le-leb, lt-leb, eq-eqb, ne-eqb}
 use Rattle.frames.specs.declared.Request.the-variants.{Malformed}
 use Rattle.frames.specs.Bytes.{pairs, allBytes, total}
-use Rattle.frames.specs.Inner.{held}
-use Rattle.frames.specs.Requests.{formOf, made, lengthOf, askedBy, wellFormed, requestOf}
+use Rattle.frames.specs.Inner.{paddedBytes}
+use Rattle.frames.specs.Requests.{formOf, requestMade, lengthOf, askedBy, wellFormed, requestOf}
 use Rattle.frames.proofs.Lists.{length-pairs}
 use Rattle.frames.proofs.Forms.{values-same}
 
@@ -24,7 +24,7 @@ with-zeros [] z none i = none i
 with-zeros (x ∷ b) z none zero = refl
 with-zeros (x ∷ b) z none (suc i) = with-zeros b z none i
 
-pub held-at : (b : List ℕ) → length b ≤ 32 → (i : ℕ) → getD (held b) i 0 ≡ getD b i 0
+pub held-at : (b : List ℕ) → length b ≤ 32 → (i : ℕ) → getD (paddedBytes b) i 0 ≡ getD b i 0
 held-at b h i =
     ap (λ (l : List ℕ). getD l i 0) (sets-eq b (replicate 32 0) 0 (omega arith))
     ∙ with-zeros b (drop (0 + length b) (replicate 32 0))
@@ -33,7 +33,7 @@ held-at b h i =
 -- only the bytes count, by their places
 asked-same : (x b : List ℕ) → ((i : ℕ) → getD x i 0 ≡ getD b i 0) → (op : ℕ) → askedBy op x ≡ askedBy op b
 unfolding askedBy
-asked-same x b same op = ap (made (formOf op)) (values-same x b same (formOf op .fields) 1)
+asked-same x b same op = ap (requestMade (formOf op)) (values-same x b same (formOf op .fields) 1)
 
 module _ (line : List ℕ) where
   pub too-long : 64 < length line → Malformed ≡ requestOf line
@@ -59,10 +59,10 @@ module _ (line : List ℕ) where
           short-bytes : length (pairs line) ≤ 32
           short-bytes = omega (arith, length-pairs line)
 
-          first : getD (held (pairs line)) 0 0 ≡ getD (pairs line) 0 0
+          first : getD (paddedBytes (pairs line)) 0 0 ≡ getD (pairs line) 0 0
           first = held-at (pairs line) short-bytes 0
 
-          pub wrong-length : (length line / 2 ≡ lengthOf (getD (held (pairs line)) 0 0) → ⊥) → Malformed ≡ requestOf line
+          pub wrong-length : (length line / 2 ≡ lengthOf (getD (paddedBytes (pairs line)) 0 0) → ⊥) → Malformed ≡ requestOf line
           unfolding requestOf wellFormed
           wrong-length h =
               let no : length (pairs line) ≡ lengthOf (getD (pairs line) 0 0) → ⊥ = λ e. h (sym (length-pairs line) ∙ e ∙ ap lengthOf (sym first)) in
@@ -74,13 +74,13 @@ module _ (line : List ℕ) where
                 ne-eqb (length (pairs line)) (lengthOf (getD (pairs line) 0 0)) no,
               ) refl
 
-          pub well : length line / 2 ≡ lengthOf (getD (held (pairs line)) 0 0)
-              → askedBy (getD (held (pairs line)) 0 0) (held (pairs line)) ≡ requestOf line
+          pub well : length line / 2 ≡ lengthOf (getD (paddedBytes (pairs line)) 0 0)
+              → askedBy (getD (paddedBytes (pairs line)) 0 0) (paddedBytes (pairs line)) ≡ requestOf line
           unfolding requestOf wellFormed
           well h =
               let yes : length (pairs line) ≡ lengthOf (getD (pairs line) 0 0) = length-pairs line ∙ h ∙ ap lengthOf first in
-              let same : askedBy (getD (held (pairs line)) 0 0) (held (pairs line)) ≡ askedBy (getD (pairs line) 0 0) (pairs line) =
-              asked-same (held (pairs line)) (pairs line) (held-at (pairs line) short-bytes) (getD (held (pairs line)) 0 0)
+              let same : askedBy (getD (paddedBytes (pairs line)) 0 0) (paddedBytes (pairs line)) ≡ askedBy (getD (pairs line) 0 0) (pairs line) =
+              asked-same (paddedBytes (pairs line)) (pairs line) (held-at (pairs line) short-bytes) (getD (paddedBytes (pairs line)) 0 0)
               ∙ ap (λ (op : ℕ). askedBy op (pairs line)) first in
               same ∙ sym (rw (
                 le-leb (length line) 64 short,

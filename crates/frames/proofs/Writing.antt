@@ -9,10 +9,10 @@ use lib.ListN.{length, getD, set, take, length-append}
 use lib.Seq.{sets, length-sets, take-suc, length-take-le}
 use Rattle.hex.specs.Hex.{letterOf}
 use Rattle.frames.specs.declared.write.Pen.{Pen}
-use Rattle.frames.specs.Bytes.{charsOf, total, checkOf, framed, lineOf}
+use Rattle.frames.specs.Bytes.{charsOf, total, checkOf, framed, lineOfBytes}
 use Rattle.frames.specs.Answers.{Answer, each, contentOf, answerLine}
-use Rattle.frames.specs.Writing.{Answered}
-use Rattle.frames.specs.Inner.{start, ending, Wrote}
+use Rattle.frames.specs.Writing.{AnswerPut}
+use Rattle.frames.specs.Inner.{freshPen, ending, Wrote}
 use Rattle.frames.proofs.Lists.{sets-append, total-append, chars-append, length-chars}
 
 module _ {l m n a b : List ℕ} {p q r : Pen} where
@@ -113,15 +113,15 @@ unfolding charsOf
 length-ending s = refl
 
 -- an answer's end has room
-pub end-room : {l m bs : List ℕ} {q : Pen} → Wrote l start bs m q → 2 * length bs + 3 ≤ length l → q .at + 3 ≤ length m
+pub end-room : {l m bs : List ℕ} {q : Pen} → Wrote l freshPen bs m q → 2 * length bs + 3 ≤ length l → q .at + 3 ≤ length m
 end-room w h = omega (arith, w .moved, same-room w)
 
-pub answered : {l m n bs : List ℕ} {p : Pen} {r : ℕ} (a : Answer) → contentOf a ≡ bs → Wrote l start bs m p
-    → (r ≡ p .at + 3) × (n ≡ sets m (p .at) (ending (p .sum))) → Answered l a n r
+pub answered : {l m n bs : List ℕ} {p : Pen} {r : ℕ} (a : Answer) → contentOf a ≡ bs → Wrote l freshPen bs m p
+    → (r ≡ p .at + 3) × (n ≡ sets m (p .at) (ending (p .sum))) → AnswerPut l a n r
 answered {l} {m} {n} {bs} {p} {r} a e w f =
     let same : checkOf bs ≡ (256 - p .sum % 256) % 256 = omega (arith, w .added) in
     let shown : answerLine a ≡ charsOf bs ++ ending (p .sum) =
-    ap (λ (c : List ℕ). lineOf (framed c)) e
+    ap (λ (c : List ℕ). lineOfBytes (framed c)) e
     ∙ ap (λ (c : List ℕ). c ++ (10 ∷ [])) (chars-append bs (checkOf bs ∷ []))
     ∙ append-assoc (charsOf bs) (charsOf (checkOf bs ∷ [])) (10 ∷ [])
     ∙ ap (λ (k : ℕ). charsOf bs ++ (charsOf (k ∷ []) ++ (10 ∷ []))) same in

@@ -8,7 +8,7 @@ use Rattle.piece.specs.Numbers.{rotationNo, shapeNo}
 use Rattle.answers.specs.declared.Mark.{Mark}
 use Rattle.answers.specs.declared.Refusal.{Refusal}
 use Rattle.answers.specs.Refusals.{refusalNo}
-use Rattle.frames.specs.Bytes.{framed, lineOf, two, eight}
+use Rattle.frames.specs.Bytes.{framed, lineOfBytes, two, eight}
 use Rattle.frames.specs.Fields.{markBytes}
 
 pub data Answer : Type 0 where
@@ -50,4 +50,4 @@ abbrev pub answerBytes : Answer → List ℕ
 answerBytes a = framed (contentOf a)
 
 abbrev pub answerLine : Answer → List ℕ
-answerLine a = lineOf (answerBytes a)
+answerLine a = lineOfBytes (answerBytes a)

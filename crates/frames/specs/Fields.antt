@@ -73,25 +73,25 @@ allListed (f ∷ fs) [] = true
 allListed (f ∷ fs) (v ∷ vs) = f .listed v && allListed fs vs
 
 -- a byte's low part is written
-abbrev pub bytesIn : Width → ℕ → List ℕ
-bytesIn single n = (n % 256) ∷ []
-bytesIn double n = two n
-bytesIn quad n = four n
+abbrev pub fieldBytes : Width → ℕ → List ℕ
+fieldBytes single n = (n % 256) ∷ []
+fieldBytes double n = two n
+fieldBytes quad n = four n
 
 abbrev pub written : List Field → List ℕ → List ℕ
 written [] vs = []
 written (f ∷ fs) [] = []
-written (f ∷ fs) (v ∷ vs) = bytesIn (f .width) v ++ written fs vs
+written (f ∷ fs) (v ∷ vs) = fieldBytes (f .width) v ++ written fs vs
 
 -- what takes the numbers of the fields, one after another; and what it makes of them
-abbrev pub Takes : Type 0 → List Field → Type 0
-Takes A [] = A
-Takes A (f ∷ fs) = ℕ → Takes A fs
+abbrev pub Taking : Type 0 → List Field → Type 0
+Taking A [] = A
+Taking A (f ∷ fs) = ℕ → Taking A fs
 
-abbrev pub given : {A : Type 0} (fs : List Field) → Takes A fs → List ℕ → A
-given [] a vs = a
-given (f ∷ fs) k [] = given fs (k 0) []
-given (f ∷ fs) k (v ∷ vs) = given fs (k v) vs
+abbrev pub appliedTo : {A : Type 0} (fs : List Field) → Taking A fs → List ℕ → A
+appliedTo [] a vs = a
+appliedTo (f ∷ fs) k [] = appliedTo fs (k 0) []
+appliedTo (f ∷ fs) k (v ∷ vs) = appliedTo fs (k v) vs
 
 -- ---- a size, an opening, a mark and a part, from their numbers and back
 abbrev pub aSize : ℕ → ℕ → Size
@@ -120,10 +120,10 @@ markBytes m = written markFields (markNos m)
 
 -- what stands from the i-th byte on
 abbrev pub sizeAt : List ℕ → ℕ → Size
-sizeAt b i = given (fourBytes ∷ fourBytes ∷ []) aSize (values (fourBytes ∷ fourBytes ∷ []) b i)
+sizeAt b i = appliedTo (fourBytes ∷ fourBytes ∷ []) aSize (values (fourBytes ∷ fourBytes ∷ []) b i)
 
 abbrev pub markAt : List ℕ → ℕ → Mark
-markAt b i = given markFields aMark (values markFields b i)
+markAt b i = appliedTo markFields aMark (values markFields b i)
 
 abbrev pub partAt : List ℕ → ℕ → PartType
-partAt b i = given partFields aPart (values partFields b i)
+partAt b i = appliedTo partFields aPart (values partFields b i)

@@ -10,18 +10,18 @@ use Rattle.frames.specs.Bytes.{charsOf, total, pairs, allBytes}
 use Rattle.frames.specs.declared.read.Decoded.{Decoded}
 
 -- bytes as the code holds them, zero past the last of 32
-abbrev pub held : List ℕ → List ℕ
-held bs = sets (replicate 32 0) 0 bs
+abbrev pub paddedBytes : List ℕ → List ℕ
+paddedBytes bs = sets (replicate 32 0) 0 bs
 
 -- what `decode` answers
 pub record Decodes (line : List ℕ) (d : Decoded) : Type 0 where
   pub good : d .good ≡ allBytes (pairs line)
-  pub bytes : d .good ≡ true → d .bytes ≡ held (pairs line)
+  pub bytes : d .good ≡ true → d .bytes ≡ paddedBytes (pairs line)
   pub sum : d .good ≡ true → d .sum ≡ total (pairs line) % 256
 
 -- where a pen starts
-abbrev pub start : Pen
-start = record { at = 0; sum = 0 }
+abbrev pub freshPen : Pen
+freshPen = record { at = 0; sum = 0 }
 
 -- the check for bytes of this sum, and the newline
 abbrev pub ending : ℕ → List ℕ

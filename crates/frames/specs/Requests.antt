@@ -9,12 +9,12 @@ use Rattle.piece.specs.Numbers.{cutNo, rotationNo, shapeNo, cutOf, rotationOf, 
 use Rattle.frames.specs.declared.Request.{Request}
 use Rattle.frames.specs.declared.Request.the-variants.{OfLayout, Keep, Restore, Malformed}
 use Rattle.frames.specs.Bytes.{pairs, allBytes, charsOf, total, framed}
-use Rattle.frames.specs.Fields.{Field, byte, twoBytes, fourBytes, cutByte, rotationByte, shapeByte, markFields, partFields, widths, values, allListed, written, Takes, given, anOpening, aMark, aPart, openingNos, markNos, partNos}
+use Rattle.frames.specs.Fields.{Field, byte, twoBytes, fourBytes, cutByte, rotationByte, shapeByte, markFields, partFields, widths, values, allListed, written, Taking, appliedTo, anOpening, aMark, aPart, openingNos, markNos, partNos}
 
 -- ---- the table "op | carries": the fields of each op, said once, and the request that their numbers make
 pub record Form : Type 0 where
   pub fields : List Field
-  pub asks : Takes Request fields
+  pub asks : Taking Request fields
 
 abbrev pub openForm : Form
 openForm =
@@ -37,12 +37,12 @@ removeForm = record { fields = markFields; asks = λ l p s. OfLayout (Remove (aM
 abbrev pub bareOf : ℕ → Request
 bareOf op = cond (eqb op 5) Keep (cond (eqb op 6) Restore (cond (eqb op 7) (OfLayout Report) Malformed))
 
-abbrev pub bare : Request → Form
-bare q = record { fields = []; asks = q }
+abbrev pub bareForm : Request → Form
+bareForm q = record { fields = []; asks = q }
 
 unfoldable pub formOf : ℕ → Form
 formOf op =
-    cond (eqb op 1) openForm (cond (eqb op 2) offersForm (cond (eqb op 3) insertForm (cond (eqb op 4) removeForm (bare (bareOf op)))))
+    cond (eqb op 1) openForm (cond (eqb op 2) offersForm (cond (eqb op 3) insertForm (cond (eqb op 4) removeForm (bareForm (bareOf op)))))
 
 -- ---- what follows from it. The bytes of a frame, op and check among them
 abbrev pub formLength : Form → ℕ
@@ -52,23 +52,23 @@ unfoldable pub lengthOf : ℕ → ℕ
 lengthOf op = formLength (formOf op)
 
 -- what bytes ask, byte 0 being the op
-abbrev pub made : Form → List ℕ → Request
-made f vs = cond (allListed (f .fields) vs) (given (f .fields) (f .asks) vs) Malformed
+abbrev pub requestMade : Form → List ℕ → Request
+requestMade f vs = cond (allListed (f .fields) vs) (appliedTo (f .fields) (f .asks) vs) Malformed
 
 abbrev pub readAs : Form → List ℕ → Request
-readAs f b = made f (values (f .fields) b 1)
+readAs f b = requestMade f (values (f .fields) b 1)
 
-unfoldable pub openOf : List ℕ → Request
-openOf b = readAs openForm b
+unfoldable pub readOpen : List ℕ → Request
+readOpen b = readAs openForm b
 
-unfoldable pub offersOf : List ℕ → Request
-offersOf b = readAs offersForm b
+unfoldable pub readOffers : List ℕ → Request
+readOffers b = readAs offersForm b
 
-unfoldable pub insertOf : List ℕ → Request
-insertOf b = readAs insertForm b
+unfoldable pub readInsert : List ℕ → Request
+readInsert b = readAs insertForm b
 
-unfoldable pub removeOf : List ℕ → Request
-removeOf b = readAs removeForm b
+unfoldable pub readRemove : List ℕ → Request
+readRemove b = readAs removeForm b
 
 unfoldable pub askedBy : ℕ → List ℕ → Request
 askedBy op b = readAs (formOf op) b
@@ -95,9 +95,9 @@ carriedBy (OfLayout (Offers mark part)) = carried 2 offersForm (markNos mark ++ 
 carriedBy (OfLayout (Insert mark part rotation shape)) =
     carried 3 insertForm (markNos mark ++ (partNos part ++ (rotationNo rotation ∷ shapeNo shape ∷ [])))
 carriedBy (OfLayout (Remove mark)) = carried 4 removeForm (markNos mark)
-carriedBy (OfLayout Report) = carried 7 (bare (OfLayout Report)) []
-carriedBy Keep = carried 5 (bare Keep) []
-carriedBy Restore = carried 6 (bare Restore) []
+carriedBy (OfLayout Report) = carried 7 (bareForm (OfLayout Report)) []
+carriedBy Keep = carried 5 (bareForm Keep) []
+carriedBy Restore = carried 6 (bareForm Restore) []
 carriedBy Malformed = []
 
 abbrev pub frameOf : Request → List ℕ

@@ -7,6 +7,6 @@ use lib.Seq.{sets}
 use Rattle.frames.specs.Answers.{Answer, answerLine}
 
 -- the answer's line stands from the first place on, and nothing else changes; n characters, the newline among them
-pub record Answered (before : List ℕ) (a : Answer) (after : List ℕ) (n : ℕ) : Type 0 where
+pub record AnswerPut (before : List ℕ) (a : Answer) (after : List ℕ) (n : ℕ) : Type 0 where
   pub line : after ≡ sets before 0 (answerLine a)
   pub count : n ≡ length (answerLine a)

@@ -5,7 +5,7 @@ ghost use lib.ListN.{length};
 ghost use Rattle.frames.specs.Bytes.{twoAt, fourAt};
 ghost use Rattle.frames.specs.Inner.{Decodes};
 ghost use Rattle.frames.specs.Fields.{markFields, partFields, widths, sizeAt, markAt, partAt};
-ghost use Rattle.frames.specs.Requests.{openOf, offersOf, insertOf, removeOf, lengthOf, askedBy, requestOf};
+ghost use Rattle.frames.specs.Requests.{readOpen, readOffers, readInsert, readRemove, lengthOf, askedBy, requestOf};
 use crate::Ask;
 use crate::Request;
 use answers::Mark;
@@ -19,7 +19,7 @@ use piece::settings::Settings;
 use piece::size::Size;
 
 // The longest line, in characters.
-pub const LONGEST: usize = 64;
+pub const LONGEST_LINE: usize = 64;
 
 // The bytes of a field.
 const BYTE: usize = 1;
@@ -168,7 +168,7 @@ fn part_at(b: &[u8; 32], i: usize) -> PartType
 // One function for each op that carries something; it tests that a cut, a turn, a rotation and a shape are listed.
 
 fn open(b: &[u8; 32]) -> Request
-    ensures { λ r. ⌜ r ≡ openOf (now (b .entry)) ⌝ }
+    ensures { λ r. ⌜ r ≡ readOpen (now (b .entry)) ⌝ }
 {
     let cut = b[OPEN_CUT];
     if 1 < cut {
@@ -187,7 +187,7 @@ fn open(b: &[u8; 32]) -> Request
 }
 
 fn offers(b: &[u8; 32]) -> Request
-    ensures { λ r. ⌜ r ≡ offersOf (now (b .entry)) ⌝ }
+    ensures { λ r. ⌜ r ≡ readOffers (now (b .entry)) ⌝ }
 {
     let turn = b[OFFERS_TURN];
     if 2 < turn {
@@ -200,7 +200,7 @@ fn offers(b: &[u8; 32]) -> Request
 }
 
 fn insert(b: &[u8; 32]) -> Request
-    ensures { λ r. ⌜ r ≡ insertOf (now (b .entry)) ⌝ }
+    ensures { λ r. ⌜ r ≡ readInsert (now (b .entry)) ⌝ }
 {
     let turn = b[INSERT_TURN];
     let rotation = b[INSERT_ROTATION];
@@ -226,7 +226,7 @@ fn insert(b: &[u8; 32]) -> Request
 }
 
 fn remove(b: &[u8; 32]) -> Request
-    ensures { λ r. ⌜ r ≡ removeOf (now (b .entry)) ⌝ }
+    ensures { λ r. ⌜ r ≡ readRemove (now (b .entry)) ⌝ }
 {
     Request::OfLayout(Ask::Remove {
         mark: mark_at(b, FIRST),
@@ -266,7 +266,7 @@ pub fn request(line: &[u8]) -> Request
     ensures { λ r. ⌜ r ≡ requestOf (now (line .entry)) ⌝ }
 {
     let n = line.len();
-    if LONGEST < n {
+    if LONGEST_LINE < n {
         return Request::Malformed;
     }
     if n % 2 != 0 {

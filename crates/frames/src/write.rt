@@ -7,8 +7,8 @@ ghost use lib.Seq.{sets};
 ghost use Rattle.frames.specs.Bytes.{two, four, eight};
 ghost use Rattle.frames.specs.Fields.{markBytes};
 ghost use Rattle.frames.specs.Answers.{Answer, offerBytes, each};
-ghost use Rattle.frames.specs.Writing.{Answered};
-ghost use Rattle.frames.specs.Inner.{Wrote, start, ending};
+ghost use Rattle.frames.specs.Writing.{AnswerPut};
+ghost use Rattle.frames.specs.Inner.{Wrote, freshPen, ending};
 use answers::Mark;
 use answers::Refusal;
 use piece::insertion_option::Offer;
@@ -124,7 +124,7 @@ fn put_numbers(out: &mut [u8], pen: Pen, numbers: &[u16], count: usize) -> Pen
 
 fn begin(out: &mut [u8], op: u8, number: u8) -> Pen
     requires { ⌜ 4 ≤ length (now out) ⌝ }
-    ensures { λ r. ⌜ Wrote (now (out .entry)) start (op ∷ number ∷ []) (now (out .exit)) r ⌝ }
+    ensures { λ r. ⌜ Wrote (now (out .entry)) freshPen (op ∷ number ∷ []) (now (out .exit)) r ⌝ }
 {
     let pen = Pen { at: 0, sum: 0 };
     let next = put(out, pen, op);
@@ -143,7 +143,7 @@ fn end(out: &mut [u8], pen: Pen) -> usize
 
 pub fn refused(out: &mut [u8], op: u8, refusal: Refusal) -> usize
     requires { ⌜ 7 ≤ length (now out) ⌝ }
-    ensures { λ r. ⌜ Answered (now (out .entry)) (Answer.refused op refusal) (now (out .exit)) r ⌝ }
+    ensures { λ r. ⌜ AnswerPut (now (out .entry)) (Answer.refused op refusal) (now (out .exit)) r ⌝ }
 {
     let pen = begin(out, op, refusal.number());
     end(out, pen)
@@ -151,7 +151,7 @@ pub fn refused(out: &mut [u8], op: u8, refusal: Refusal) -> usize
 
 pub fn malformed(out: &mut [u8]) -> usize
     requires { ⌜ 7 ≤ length (now out) ⌝ }
-    ensures { λ r. ⌜ Answered (now (out .entry)) Answer.malformed (now (out .exit)) r ⌝ }
+    ensures { λ r. ⌜ AnswerPut (now (out .entry)) Answer.malformed (now (out .exit)) r ⌝ }
 {
     let pen = begin(out, 255, 14);
     end(out, pen)
@@ -159,7 +159,7 @@ pub fn malformed(out: &mut [u8]) -> usize
 
 pub fn done(out: &mut [u8], op: u8) -> usize
     requires { ⌜ 7 ≤ length (now out) ⌝ }
-    ensures { λ r. ⌜ Answered (now (out .entry)) (Answer.done op) (now (out .exit)) r ⌝ }
+    ensures { λ r. ⌜ AnswerPut (now (out .entry)) (Answer.done op) (now (out .exit)) r ⌝ }
 {
     let pen = begin(out, op, 0);
     end(out, pen)
@@ -167,7 +167,7 @@ pub fn done(out: &mut [u8], op: u8) -> usize
 
 pub fn opened(out: &mut [u8], mark: Mark) -> usize
     requires { ⌜ 21 ≤ length (now out) ⌝ }
-    ensures { λ r. ⌜ Answered (now (out .entry)) (Answer.opened mark) (now (out .exit)) r ⌝ }
+    ensures { λ r. ⌜ AnswerPut (now (out .entry)) (Answer.opened mark) (now (out .exit)) r ⌝ }
 {
     let pen = begin(out, 1, 0);
     let next = put_mark(out, pen, mark);
@@ -176,7 +176,7 @@ pub fn opened(out: &mut [u8], mark: Mark) -> usize
 
 pub fn offered(out: &mut [u8], offers: OfferList) -> usize
     requires { ⌜ (offers .count ≤ 4) × (9 + 4 * offers .count ≤ length (now out)) ⌝ }
-    ensures { λ r. ⌜ Answered (now (out .entry)) (Answer.offered (take (offers .count) (offers .list))) (now (out .exit)) r ⌝ }
+    ensures { λ r. ⌜ AnswerPut (now (out .entry)) (Answer.offered (take (offers .count) (offers .list))) (now (out .exit)) r ⌝ }
 {
     let pen = begin(out, 2, 0);
     let next = put_offers(out, pen, offers);
@@ -185,7 +185,7 @@ pub fn offered(out: &mut [u8], offers: OfferList) -> usize
 
 pub fn inserted(out: &mut [u8], first: Mark, part: Mark, frees: [Mark; 2], count: usize) -> usize
     requires { ⌜ (count ≤ 2) × (37 + 14 * count ≤ length (now out)) ⌝ }
-    ensures { λ r. ⌜ Answered (now (out .entry)) (Answer.inserted first part (take count frees)) (now (out .exit)) r ⌝ }
+    ensures { λ r. ⌜ AnswerPut (now (out .entry)) (Answer.inserted first part (take count frees)) (now (out .exit)) r ⌝ }
 {
     let pen = begin(out, 3, 0);
     let one = put_mark(out, pen, first);
@@ -196,7 +196,7 @@ pub fn inserted(out: &mut [u8], first: Mark, part: Mark, frees: [Mark; 2], count
 
 pub fn removed(out: &mut [u8], mark: Mark, numbers: &[u16], count: usize) -> usize
     requires { ⌜ (count ≤ 255) × (count ≤ length (now numbers)) × (23 + 4 * count ≤ length (now out)) ⌝ }
-    ensures { λ r. ⌜ Answered (now (out .entry)) (Answer.removed mark (take count (now (numbers .entry)))) (now (out .exit)) r ⌝ }
+    ensures { λ r. ⌜ AnswerPut (now (out .entry)) (Answer.removed mark (take count (now (numbers .entry)))) (now (out .exit)) r ⌝ }
 {
     let pen = begin(out, 4, 0);
     let one = put_mark(out, pen, mark);
@@ -206,7 +206,7 @@ pub fn removed(out: &mut [u8], mark: Mark, numbers: &[u16], count: usize) -> usi
 
 pub fn reported(out: &mut [u8], used: u64, nodes: u16, usage_bits: u64) -> usize
     requires { ⌜ 41 ≤ length (now out) ⌝ }
-    ensures { λ r. ⌜ Answered (now (out .entry)) (Answer.reported used nodes «usage_bits») (now (out .exit)) r ⌝ }
+    ensures { λ r. ⌜ AnswerPut (now (out .entry)) (Answer.reported used nodes «usage_bits») (now (out .exit)) r ⌝ }
 {
     let pen = begin(out, 7, 0);
     let one = put_eight(out, pen, used);

@@ -17,7 +17,7 @@ use looks::replies::LightAnswer;
 use looks::replies::MarkAnswer;
 use looks::replies::UsageAnswer;
 use piece::parttype::PartType;
-use session::LONGEST;
+use session::LONGEST_ANSWER;
 use table::LIMIT;
 
 // The bytes of the longest snapshot: 13 for each place.
@@ -33,10 +33,10 @@ fn missing(out: &mut [u8; ROOM], pen: Pen) -> Pen {
 }
 
 // The counter's line, without its newline.
-pub fn answer(out: &mut [u8; ROOM], pen: Pen, line: [u8; LONGEST], count: usize) -> Pen {
+pub fn answer(out: &mut [u8; ROOM], pen: Pen, line: [u8; LONGEST_ANSWER], count: usize) -> Pen {
     let mut p = pen;
     let mut i: usize = 0;
-    while i < LONGEST {
+    while i < LONGEST_ANSWER {
         if count <= i + 1 {
             break;
         }

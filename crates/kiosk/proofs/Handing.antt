@@ -21,7 +21,7 @@ use Rattle.layout.specs.Zero.{zeroLayout}
 use Rattle.layout.proofs.Exactly.{sound-says, zero-sized}
 use Rattle.looks.specs.declared.replies.CountAnswer.{CountAnswer}
 use Rattle.looks.specs.declared.replies.CountAnswer.the-variants.{Count, Refused}
-use Rattle.looks.specs.Written.{answerTo, leftIn}
+use Rattle.looks.specs.Written.{answerTo, leftInBuffer}
 use Rattle.saw.specs.Saw.{saw}
 use Rattle.saw.specs.Cuts.{cuts, boards}
 use Rattle.saw.specs.Read.{readCuts}
@@ -31,7 +31,7 @@ use Rattle.saw.proofs.CutBytes.{length-bytes}
 use Rattle.saw.proofs.Copied.{take-stored}
 use Rattle.saw.proofs.Layouts.{sawn-bytes}
 use Rattle.kiosk.specs.declared.records.LayoutRecord.{LayoutRecord}
-use Rattle.kiosk.specs.Records.{allListedB, nodeOf, fieldsOf, layoutOf}
+use Rattle.kiosk.specs.Records.{allListedB, nodeOfRecord, fieldsOf, layoutOf}
 use Rattle.kiosk.specs.Cuts.{Handed, listCount, listLeft}
 use Rattle.kiosk.proofs.records.LayoutRecord.{the-type}
 
@@ -48,7 +48,7 @@ record-sized r vs g = go (allListedB (r .nodes))
     go : (b : Bool) → Sized (cond b (fieldsOf r) zeroLayout)
     go true =
         record {
-          nodes = length-map (r .nodes) nodeOf ∙ sym (length-map (r .nodes) _) ∙ g .1 .1 .0 .1 .0 .1;
+          nodes = length-map (r .nodes) nodeOfRecord ∙ sym (length-map (r .nodes) _) ∙ g .1 .1 .0 .1 .0 .1;
           free = sym (length-map (r .free) _) ∙ g .1 .1 .1 .0 .1 .0 .1;
           removable = sym (length-map (r .removable) _) ∙ g .1 .1 .1 .1 .0 .1 .0 .1;
         }
@@ -70,7 +70,7 @@ module _ (l : Layout) (what before : List ℕ) (fits : soundB l ≡ true → len
       go true h = rw (le-leb (length what) (length before) (h refl)) refl
       go false h = refl
 
-  left-whole : leftIn l what before ≡ listLeft l what before
+  left-whole : leftInBuffer l what before ≡ listLeft l what before
   left-whole = go (soundB l) fits
     where
       go : (b : Bool) → (b ≡ true → length what ≤ length before)
@@ -80,7 +80,7 @@ module _ (l : Layout) (what before : List ℕ) (fits : soundB l ≡ true → len
 
 -- the call's answer a on the layout l of the record, and the bytes after it
 pub hands-out : (r : LayoutRecord) (vs : List Val) → Is (row the-type) r vs → (before after : List ℕ) → length before ≡ 9 * limit → {l : Layout}
-    → l ≡ layoutOf r → {a : CountAnswer} → a ≡ answerTo l (sawBytes l) (length before) → after ≡ leftIn l (sawBytes l) before
+    → l ≡ layoutOf r → {a : CountAnswer} → a ≡ answerTo l (sawBytes l) (length before) → after ≡ leftInBuffer l (sawBytes l) before
     → Handed r before after (said a)
 hands-out r vs g before after len at answers leaves =
     let fits : soundB (layoutOf r) ≡ true → length (sawBytes (layoutOf r)) ≤ length before =

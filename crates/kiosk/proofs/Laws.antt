@@ -18,7 +18,7 @@ use Rattle.frames.specs.Answers.{Answer, refused, answerLine}
 use Rattle.layout.specs.declared.layout.Layout.{Layout}
 use Rattle.layout.specs.Check.{soundB}
 use Rattle.session.specs.declared.Session.{Session}
-use Rattle.session.specs.Session.{Reply, reply, held, keptBy, afterKeep, Answers, opOf}
+use Rattle.session.specs.Session.{Reply, reply, paddedLine, keptBy, afterKeep, Answers, opOf}
 use Rattle.session.specs.Replies.{refusal}
 use Rattle.session.proofs.Decided.{answers-once}
 use Rattle.session.proofs.Kept.{kept-after}
@@ -39,7 +39,7 @@ answered-once {before} {line = line} a b =
     let e = answers-once (sessionOf before) (requestOf line) (a .steps .answers) (b .steps .answers) in
     let said : a .steps .answer ≡ b .steps .answer = ap (λ (r : Reply). r .answer) e in (
       a .left ∙ ap (λ (r : Reply). recordAfter before (refusal (r .answer)) (requestOf line) (r .session .layout)) e ∙ sym (b .left),
-      a .written ∙ a .steps .padded ∙ ap held said ∙ sym (b .steps .padded) ∙ sym (b .written),
+      a .written ∙ a .steps .padded ∙ ap paddedLine said ∙ sym (b .steps .padded) ∙ sym (b .written),
       a .counted ∙ a .steps .count ∙ ap (λ (x : Answer). length (answerLine x)) said ∙ sym (b .steps .count) ∙ sym (b .counted),
     )
 

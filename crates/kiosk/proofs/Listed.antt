@@ -25,7 +25,7 @@ use Rattle.session.specs.Session.{started}
 use Rattle.kiosk.specs.declared.records.NodeRecord.{NodeRecord}
 use Rattle.kiosk.specs.declared.records.LayoutRecord.{LayoutRecord}
 use Rattle.kiosk.specs.declared.records.SessionRecord.{SessionRecord}
-use Rattle.kiosk.specs.Records.{nodeOf, fieldsOf, layoutOf, sessionOf, nodeRecord, layoutRecord, recordOf, noRecord, noSession}
+use Rattle.kiosk.specs.Records.{nodeOfRecord, fieldsOf, layoutOf, sessionOf, nodeRecord, layoutRecord, recordOf, noRecord, noSession}
 use Rattle.kiosk.specs.Records.{Listed, listedB, AllListed, allListedB}
 
 -- ---- what the test says
@@ -91,14 +91,14 @@ layout-listed l i _ = rw (List·getD-map nodeRecord (l .nodes) i zeroNode) (node
 
 -- ---- a session, into a record and back
 
-node-back : (n : Node) → nodeOf (nodeRecord n) ≡ n
-unfolding nodeOf nodeRecord
+node-back : (n : Node) → nodeOfRecord (nodeRecord n) ≡ n
+unfolding nodeOfRecord nodeRecord
 node-back n = rw (kind-back, cut-back) refl
 
 fields-back : (l : Layout) → fieldsOf (layoutRecord l) ≡ l
 unfolding fieldsOf layoutRecord
 fields-back l =
-    rw (each-back nodeRecord nodeOf (λ _. Unit {0}) (λ n _. node-back n) zeroNode (l .nodes) (λ _ _. tt)) refl
+    rw (each-back nodeRecord nodeOfRecord (λ _. Unit {0}) (λ n _. node-back n) zeroNode (l .nodes) (λ _ _. tt)) refl
 
 pub layout-back : (l : Layout) → layoutOf (layoutRecord l) ≡ l
 layout-back l = listed-fields (layoutRecord l) (layout-listed l) ∙ fields-back l
@@ -108,13 +108,13 @@ session-back s = rw (layout-back (s .layout), layout-back (s .kept)) refl
 
 -- ---- a record, into a session and back
 
-node-stays : (r : NodeRecord) → Listed r → nodeRecord (nodeOf r) ≡ r
-unfolding nodeOf nodeRecord Listed
+node-stays : (r : NodeRecord) → Listed r → nodeRecord (nodeOfRecord r) ≡ r
+unfolding nodeOfRecord nodeRecord Listed
 node-stays r h = rw (kind-stays (r .datum .kind) (le-leb _ 2 (h .0)), cut-stays (r .datum .cut) (le-leb _ 1 (h .1))) refl
 
 fields-stay : (r : LayoutRecord) → AllListed (r .nodes) → layoutRecord (fieldsOf r) ≡ r
 unfolding fieldsOf layoutRecord
-fields-stay r h = rw (each-back nodeOf nodeRecord Listed node-stays noRecord (r .nodes) h) refl
+fields-stay r h = rw (each-back nodeOfRecord nodeRecord Listed node-stays noRecord (r .nodes) h) refl
 
 pub layout-stays : (r : LayoutRecord) → AllListed (r .nodes) → layoutRecord (layoutOf r) ≡ r
 layout-stays r h = ap layoutRecord (listed-fields r h) ∙ fields-stay r h

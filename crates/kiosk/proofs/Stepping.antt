@@ -19,7 +19,7 @@ use Rattle.session.specs.Replies.{both, refusal, Replies, Keeps, Restores}
 use Rattle.session.proofs.Ways.{keep-answers}
 use Rattle.kiosk.specs.declared.records.SessionRecord.{SessionRecord}
 use Rattle.kiosk.specs.Records.{layoutOf, sessionOf, layoutRecord}
-use Rattle.kiosk.specs.Step.{recordAfter, Answered, withLayout}
+use Rattle.kiosk.specs.Step.{recordAfter, Answered, recordWithLayout}
 use Rattle.kiosk.proofs.Listed.{sound-stays}
 
 -- keep refuses a layout that isn't sound, and no other
@@ -49,14 +49,14 @@ module _ (given : SessionRecord) (line : List ℕ) {l : Layout} (at : l ≡ layo
       }
 
   pub of-layout-answered : {ask : Ask} {r : Response} → OfLayout ask ≡ requestOf line → Replies l ask r
-      → Answered given line (cond (r .refused) given (withLayout given (r .layout))) (r .said .line) (r .said .count)
+      → Answered given line (cond (r .refused) given (recordWithLayout given (r .layout))) (r .said .line) (r .said .count)
   of-layout-answered {ask} {r} asks t =
       let s = rw at at t in
       let kept = layoutOf (given .kept) in
       answered (OfLayout ask) (both (r .layout) kept) asks (s .answers kept) (s .says) (s .refused) refl
 
   pub restore-answered : {k : Layout} {r : Response} → k ≡ layoutOf (given .kept) → Restore ≡ requestOf line → Restores l k r
-      → Answered given line (cond (r .refused) given (withLayout given (r .layout))) (r .said .line) (r .said .count)
+      → Answered given line (cond (r .refused) given (recordWithLayout given (r .layout))) (r .said .line) (r .said .count)
   restore-answered {k} {r} e asks t =
       let s = rw (at, e) at t in
       answered Restore (both (r .layout) (layoutOf (given .kept))) asks (s .answers) (s .says) (s .refused) refl

@@ -74,8 +74,8 @@ datumOf d =
       cut = cutOf (d .cut);
     }
 
-unfoldable pub nodeOf : NodeRecord → Node
-nodeOf r =
+unfoldable pub nodeOfRecord : NodeRecord → Node
+nodeOfRecord r =
     record {
       datum = datumOf (r .datum);
       parent = r .parent;
@@ -85,14 +85,14 @@ nodeOf r =
       next = r .next;
     }
 
-abbrev pub nodesOf : List NodeRecord → List Node
-nodesOf rs = map nodeOf rs
+abbrev pub nodesOfRecords : List NodeRecord → List Node
+nodesOfRecords rs = map nodeOfRecord rs
 
 -- field by field
 unfoldable pub fieldsOf : LayoutRecord → Layout
 fieldsOf r =
     record {
-      nodes = nodesOf (r .nodes);
+      nodes = nodesOfRecords (r .nodes);
       free = r .free;
       removable = r .removable;
       held = r .held;

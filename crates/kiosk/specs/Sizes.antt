@@ -12,12 +12,12 @@ abbrev pub datumBytes : ℕ
 datumBytes = upTo 4 (3 * 4 + 2 + 3 * 1)
 
 -- the datum, and five links of 2
-abbrev pub nodeBytes : ℕ
-nodeBytes = upTo 4 (datumBytes + 5 * 2)
+abbrev pub nodeRecordBytes : ℕ
+nodeRecordBytes = upTo 4 (datumBytes + 5 * 2)
 
 -- the nodes, two lists of places and three counts, 2 bytes each; used area 8; serial 4, number 2, stages 1; width and height 4 each
 abbrev pub layoutBytes : ℕ
-layoutBytes = upTo 8 (upTo 8 (limit * nodeBytes + 2 * (limit * 2) + 3 * 2) + 8 + upTo 4 (4 + 2 + 1) + 2 * 4)
+layoutBytes = upTo 8 (upTo 8 (limit * nodeRecordBytes + 2 * (limit * 2) + 3 * 2) + 8 + upTo 4 (4 + 2 + 1) + 2 * 4)
 
 -- the layout, and the kept one
 abbrev pub sessionBytes : ℕ

@@ -37,9 +37,9 @@ pub record Answered (before : SessionRecord) (line : List ℕ) (next : SessionRe
   pub counted : count ≡ stepped .count
 
 -- the record with the layout l, and what is kept as it was
-abbrev pub withLayout : SessionRecord → Layout → SessionRecord
-withLayout r l = record { layout = layoutRecord l; kept = r .kept }
+abbrev pub recordWithLayout : SessionRecord → Layout → SessionRecord
+recordWithLayout r l = record { layout = layoutRecord l; kept = r .kept }
 
 -- the record s, and what is said
-abbrev pub stepTo : SessionRecord → Said → SteppedRecord
-stepTo s said = record { session = s; line = said .line; count = said .count }
+abbrev pub recordStepTo : SessionRecord → Said → SteppedRecord
+recordStepTo s said = record { session = s; line = said .line; count = said .count }

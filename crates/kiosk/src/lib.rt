@@ -3,13 +3,13 @@
 // answers.
 ghost use mathlib.Core.Path.{_≡_};
 ghost use mathlib.Core.Bool.{cond};
-ghost use Rattle.kiosk.specs.Step.{Answered, stepTo, withLayout};
+ghost use Rattle.kiosk.specs.Step.{Answered, recordStepTo, recordWithLayout};
 use frames::Request;
 use frames::read::request;
 use records::SessionRecord;
 use records::layout_of;
 use records::layout_record;
-use session::LONGEST;
+use session::LONGEST_ANSWER;
 use session::replies::Response;
 use session::replies::Said;
 use session::replies::keep;
@@ -25,13 +25,13 @@ pub mod sizes; // sizes.rt: the sizes of what is lent
 #[repr(C)]
 pub struct SteppedRecord {
     pub session: SessionRecord,
-    pub line: [u8; LONGEST],
+    pub line: [u8; LONGEST_ANSWER],
     pub count: usize,
 }
 
 // The state as it is, and what is said.
 fn says(session: SessionRecord, said: Said) -> SteppedRecord
-    ensures { λ r. ⌜ r ≡ stepTo session said ⌝ }
+    ensures { λ r. ⌜ r ≡ recordStepTo session said ⌝ }
 {
     let line = said.line;
     SteppedRecord {
@@ -43,7 +43,7 @@ fn says(session: SessionRecord, said: Said) -> SteppedRecord
 
 // The state with the layout of an answer, and what that says. The kept record stays, and where the answer is a refusal both do.
 fn told(mut given: SessionRecord, answer: Response) -> SteppedRecord
-    ensures { λ r. ⌜ r ≡ stepTo (cond (answer .refused) given (withLayout given (answer .layout))) (answer .said) ⌝ }
+    ensures { λ r. ⌜ r ≡ recordStepTo (cond (answer .refused) given (recordWithLayout given (answer .layout))) (answer .said) ⌝ }
 {
     let said = answer.said;
     if answer.refused {
@@ -88,7 +88,7 @@ fn stepped(given: SessionRecord, line: &[u8]) -> SteppedRecord
 pub extern "C" fn nickelgrove_step(
     session: &mut SessionRecord,
     line: &[u8],
-    answer: &mut [u8; LONGEST],
+    answer: &mut [u8; LONGEST_ANSWER],
 ) -> usize
     ensures { λ r. ⌜ Answered (now (session .entry)) (now (line .entry)) (now (session .exit)) (now (answer .exit)) r ⌝ }
 {

@@ -5,7 +5,7 @@ ghost use mathlib.Core.Path.{_≡_};
 ghost use lib.ListN.{replicate};
 ghost use Rattle.piece.specs.Numbers.{cutOf};
 ghost use Rattle.lists.specs.Lists.{limit};
-ghost use Rattle.kiosk.specs.Records.{listedB, allListedB, nodeOf, nodesOf, fieldsOf, layoutOf};
+ghost use Rattle.kiosk.specs.Records.{listedB, allListedB, nodeOfRecord, nodesOfRecords, fieldsOf, layoutOf};
 ghost use Rattle.kiosk.specs.Records.{nodeRecord, nodeRecords, layoutRecord, noRecord};
 use layout::layout::Layout;
 use piece::node::Datum;
@@ -86,7 +86,7 @@ fn all_listed(records: [NodeRecord; LIMIT]) -> bool
 }
 
 fn node_of(given: NodeRecord) -> Node
-    ensures { λ r. ⌜ r ≡ nodeOf given ⌝ }
+    ensures { λ r. ⌜ r ≡ nodeOfRecord given ⌝ }
 {
     let d = given.datum;
     Node {
@@ -110,7 +110,7 @@ fn node_of(given: NodeRecord) -> Node
 }
 
 fn nodes_of(records: [NodeRecord; LIMIT]) -> [Node; LIMIT]
-    ensures { λ r. ⌜ r ≡ nodesOf records ⌝ }
+    ensures { λ r. ⌜ r ≡ nodesOfRecords records ⌝ }
 {
     let mut nodes = empty_table();
     let mut i: usize = 0;

@@ -5,7 +5,7 @@ ghost use Rattle.lists.specs.Lists.{limit};
 ghost use Rattle.session.specs.Session.{longest};
 ghost use Rattle.kiosk.specs.Sizes.{roomBytes, sessionBytes};
 use saw::cuts::ROOM;
-use session::LONGEST;
+use session::LONGEST_ANSWER;
 use table::LIMIT;
 
 // The bytes of the records of records.rt, as specs/Sizes.antt adds them up: a node's, a layout's up to its counts, and a layout's.
@@ -28,7 +28,7 @@ pub extern "C" fn nickelgrove_limit() -> usize
 pub extern "C" fn nickelgrove_longest() -> usize
     ensures { λ r. ⌜ r ≡ longest ⌝ }
 {
-    LONGEST
+    LONGEST_ANSWER
 }
 
 // The bytes that are lent for a list of saw cuts.

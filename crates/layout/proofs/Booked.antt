@@ -39,7 +39,7 @@ use Rattle.booking.specs.declared.marks.NewMarks.{NewMarks}
 use Rattle.booking.specs.declared.new_nodes.NewNode.{NewNode}
 use Rattle.booking.specs.NewNodes.{deepest, freesOf, heldNew, leaves, those}
 use Rattle.booking.specs.Marks.{blockMarks, newMarks}
-use Rattle.booking.specs.Book.{booked}
+use Rattle.booking.specs.Book.{bookedNodes}
 use Rattle.booking.specs.Inner.{Bookable}
 use Rattle.piece.proofs.Offering.{Offers, offered-says}
 use Rattle.booking.proofs.Made.{frees-few, held-those, leaves-count}
@@ -115,7 +115,7 @@ module _ (l : Layout) (x : ℕ) (p : PartType) (r : Rotation) (s : InsertionShap
         record { inside = offers .inside; offered = offers .shaped; sided = part-sided p r (can .part); numbered = numbered }
 
     abbrev after : Booked
-    after = booked (nodesOf l) x s size (p .number) (l .serial)
+    after = bookedNodes (nodesOf l) x s size (p .number) (l .serial)
 
     may-be-booked : Bookable (nodesOf l) x s size (p .number) (l .serial)
     may-be-booked =
@@ -189,7 +189,7 @@ module _ (l : Layout) (x : ℕ) (p : PartType) (r : Rotation) (s : InsertionShap
       pub used-may : {a : ℕ} → a ≡ area sides → l .used + a < 2 ^ 52
       used-may e = rw (e, sides-are) used-fits
 
-      module _ {made : Booked} (made-is : made ≡ booked nodes x s sides (p .number) (l .serial)) where
+      module _ {made : Booked} (made-is : made ≡ bookedNodes nodes x s sides (p .number) (l .serial)) where
         made-after : made ≡ after
         made-after = made-is ∙ rw (nodes-are, sides-are) refl
 

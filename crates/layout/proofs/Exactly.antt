@@ -11,7 +11,7 @@ use Rattle.piece.specs.Kinds.{isFree}
 use Rattle.tree.specs.Sound.{Domain, Sound}
 use Rattle.tree.specs.Steps.{Marked}
 use Rattle.table.specs.Table.{zeroNode, Holds}
-use Rattle.sound.specs.Columns.{columnsOf, firstsOf, nextsOf, serialsOf}
+use Rattle.sound.specs.Columns.{checkedColumns, firstsOf, nextsOf, serialsOf}
 use Rattle.sound.specs.Hung.{hungB}
 use Rattle.sound.proofs.Says.{Says, clash, worded, and-says, then-says, itself-says}
 use Rattle.sound.proofs.Means.{Passes, passes-holds, passes-sound, passes-serials}
@@ -63,7 +63,7 @@ module _ (l : Layout) (sized : Sized l) where
 
   -- "the free list holds every free piece once, greatest area first, equal areas by rising serial"; "list tails .. are zero"
   pub free-test-says : Stands l
-      → Says (freeB l (columnsOf (l .nodes))) (FreeList (tree l) (take (l .frees) (l .free)) × Counted (l .free) (l .frees))
+      → Says (freeB l (checkedColumns (l .nodes))) (FreeList (tree l) (take (l .frees) (l .free)) × Counted (l .free) (l .frees))
   unfolding freeB
   free-test-says s =
       worded
@@ -78,7 +78,7 @@ module _ (l : Layout) (sized : Sized l) where
 
   -- "the removable list holds every part and structure once, in any order"; "list tails .. are zero"
   pub removable-test-says : Stands l
-      → Says (removableB l (columnsOf (l .nodes)))
+      → Says (removableB l (checkedColumns (l .nodes)))
       (RemovableList (tree l) (take (l .removables) (l .removable)) × Counted (l .removable) (l .removables))
   unfolding removableB
   removable-test-says s =
@@ -87,8 +87,8 @@ module _ (l : Layout) (sized : Sized l) where
 
   -- the tests of the sums, the serials and the lists, once the table stands
   rest-says : Stands l
-      → Says (sumsB l (columnsOf (l .nodes))
-      && (serialsB (serialsOf (l .nodes)) (l .serial) && (freeB l (columnsOf (l .nodes)) && removableB l (columnsOf (l .nodes)))))
+      → Says (sumsB l (checkedColumns (l .nodes))
+      && (serialsB (serialsOf (l .nodes)) (l .serial) && (freeB l (checkedColumns (l .nodes)) && removableB l (checkedColumns (l .nodes)))))
       (SoundLayout l)
   rest-says s =
       worded

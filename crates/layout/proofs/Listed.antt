@@ -27,7 +27,7 @@ use Rattle.lists.specs.Flags.{okB, flagsOf}
 use Rattle.lists.proofs.Named.{ok-count, ok-below, ok-differ, ok-all, flag-named, flag-one}
 use Rattle.lists.proofs.Padded.{zero-tail-drop, drop-zero-tail}
 use Rattle.sound.specs.Columns.{areasOf, serialsOf, kindsOf}
-use Rattle.sound.specs.Listed.{wanted, coversB, sortedB}
+use Rattle.sound.specs.Listed.{wantedIn, coversB, sortedB}
 use Rattle.sound.proofs.Says.{Says, clash, worded, eq-says, some-says, true-says, false-says, and-says, then-says, itself-says, same-says}
 use Rattle.sound.proofs.Worth.{serial-at, kind-at, area-at}
 use Rattle.sound.proofs.Serials.{shown-at}
@@ -85,7 +85,7 @@ module _ (t : List Node) (w : Tree) (h : Holds limit t w) where
 
 module _ (t : List Node) (w : Tree) (h : Holds limit t w) (marked : Marked w) (free : Bool) (P : Datum → Type 0)
     (means : (d : Datum) → Says (ofKind free (d .kind)) (P d)) where
-  wanted-says : (i : ℕ) → Says (wanted free (serialsOf t) (kindsOf t) i) (Held t i × P (at t i .datum))
+  wanted-says : (i : ℕ) → Says (wantedIn free (serialsOf t) (kindsOf t) i) (Held t i × P (at t i .datum))
   wanted-says i = rw (serial-at t i, kind-at t i) (and-says (some-says (at t i .datum .serial)) (means (at t i .datum)))
 
   module _ (l : List ℕ) (n : ℕ) (len : length l ≡ limit) where
@@ -104,7 +104,7 @@ module _ (t : List Node) (w : Tree) (h : Holds limit t w) (marked : Marked w) (f
         fits : n ≤ length l
         fits = let c = ok-count limit l n ok in omega arith
 
-        same : (p : ℕ) → p < limit → wanted free (serialsOf t) (kindsOf t) p ≡ eqb (getD (flagsOf limit l n) p 0) 1
+        same : (p : ℕ) → p < limit → wantedIn free (serialsOf t) (kindsOf t) p ≡ eqb (getD (flagsOf limit l n) p 0) 1
         same = covers-says limit free (serialsOf t) (kindsOf t) (flagsOf limit l n) e
 
         each : (k : ℕ) → k < length (take n l) → (d : Datum) × At (getD (take n l) k 0) d w × P d
@@ -118,7 +118,7 @@ module _ (t : List Node) (w : Tree) (h : Holds limit t w) (marked : Marked w) (f
         all p d y q =
             let low = piece-low t w h p d y in
             let is = piece-is t w h p d y in
-            let there : wanted free (serialsOf t) (kindsOf t) p ≡ true = wanted-says p .passes (rw is (marked p d y, q)) in
+            let there : wantedIn free (serialsOf t) (kindsOf t) p ≡ true = wanted-says p .passes (rw is (marked p d y, q)) in
             let g = flag-says ok p low .says (sym (same p low) ∙ there) in
             (g .0, rw (entries l n fits) (g .1), getD-take n l (g .0) 0 (g .1) ∙ g .2)
 

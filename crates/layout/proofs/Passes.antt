@@ -19,7 +19,7 @@ use Rattle.sound.specs.Columns.{areasOf, serialsOf, firstsOf, nextsOf, kindsOf}
 use Rattle.sound.specs.Places.{placesB, topB}
 use Rattle.sound.specs.Rows.{rowsB}
 use Rattle.sound.specs.Hung.{hangRows, markedB, hungB}
-use Rattle.sound.specs.Listed.{areaIn, coversB, heldIn, noneAboveB, sortedB}
+use Rattle.sound.specs.Listed.{areaListed, coversB, heldIn, noneAboveB, sortedB}
 use Rattle.sound.specs.Census.{censusB}
 use Rattle.sound.proofs.Says.{Says, clash, and-says}
 use Rattle.sound.proofs.ByRows.{hung-by-rows}
@@ -127,7 +127,7 @@ sound-is l {hung = hung} named kept rows hanging places serials areas frame =
     let g = flagged (l .removable) (l .removables) in
     rw (frame, places, rows, named, kept, areas, serials)
     (regroup (domainB (l .settings)) (placesB limit t) (topB limit (l .settings) (at t 0)) _
-    (hungB limit s (firstsOf t) (nextsOf t)) (eqb (heldIn s limit) (l .held)) (eqb (areaIn 1 k (areasOf t) limit) (l .used))
+    (hungB limit s (firstsOf t) (nextsOf t)) (eqb (heldIn s limit) (l .held)) (eqb (areaListed 1 k (areasOf t) limit) (l .used))
     (leb (l .serial) maxSerial) (noneAboveB limit s (l .serial)) (differ limit s) (f .ok) (coversB limit true s k (f .flag))
     (zeroTail limit (l .free) (l .frees)) (sortedB (areasOf t) s (l .free) (l .frees)) (g .ok) (coversB limit false s k (g .flag))
     (zeroTail limit (l .removable) (l .removables)) (markedB limit s hung)
@@ -156,7 +156,7 @@ serials-low l free removable hung counted serials framed c f i h =
     (and-right (topB limit (l .settings) (at t 0)) (leb (l .serial) maxSerial)
     (and-right (domainB (l .settings)) (topB limit (l .settings) (at t 0) && leb (l .serial) maxSerial) (sym framed ∙ f))) in
     let flags = markedB limit s hung && (coversB limit true s k free && coversB limit false s k removable) in
-    let sums = eqb (heldIn s limit) (l .held) && eqb (areaIn 1 k (areasOf t) limit) (l .used) in
+    let sums = eqb (heldIn s limit) (l .held) && eqb (areaListed 1 k (areasOf t) limit) (l .used) in
     let above =
     and-left (noneAboveB limit s (l .serial)) flags
     (and-right (placesB limit t) (noneAboveB limit s (l .serial) && flags)

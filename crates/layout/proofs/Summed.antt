@@ -15,7 +15,7 @@ use Rattle.table.specs.declared.Node.{Node}
 use Rattle.table.specs.Table.{at, Holds}
 use Rattle.lists.specs.Search.{differ}
 use Rattle.lists.proofs.Found.{differ-at, differ-all}
-use Rattle.sound.specs.Columns.{columnsOf, serialsOf}
+use Rattle.sound.specs.Columns.{checkedColumns, serialsOf}
 use Rattle.sound.specs.Listed.{noneAboveB}
 use Rattle.sound.proofs.Says.{Says, worded, eq-says, le-says, and-says, every-says}
 use Rattle.sound.proofs.Worth.{serial-at, holds-count, holds-part-area}
@@ -27,7 +27,7 @@ use Rattle.layout.proofs.Listed.{piece-low, piece-held, serial-of}
 
 -- the nodes held, and "used area is the sum over parts"
 pub sums-says : (l : Layout) (w : Tree) → Holds limit (l .nodes) w → Marked w
-    → Says (sumsB l (columnsOf (l .nodes))) ((l .held ≡ count w) × (l .used ≡ partArea w))
+    → Says (sumsB l (checkedColumns (l .nodes))) ((l .held ≡ count w) × (l .used ≡ partArea w))
 unfolding sumsB
 sums-says l w h marked =
     rw (holds-count limit (l .nodes) w h marked, holds-part-area limit (l .nodes) w h)

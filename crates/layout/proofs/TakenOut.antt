@@ -28,7 +28,7 @@ use Rattle.register.specs.Standing.{Stands}
 use Rattle.removal.specs.declared.going.Going.{Going}
 use Rattle.removal.specs.declared.remove.Cleared.{Cleared}
 use Rattle.removal.specs.Going.{goingOf, places, areaAlong}
-use Rattle.removal.specs.Remove.{removed}
+use Rattle.removal.specs.Remove.{removedNodes}
 use Rattle.removal.specs.Inner.{Clearable}
 use Rattle.removal.proofs.Row.{row-of}
 use Rattle.removal.proofs.Goes.{leaving-is, going-is}
@@ -156,9 +156,9 @@ module _ (l : Layout) (x : ℕ) (t : Takeable l x) where
     area-fits = omega (arith, area-most, used-small l (t .sound) .0)
 
     -- what `remove` gives stands again
-    module _ {c : Cleared} (cleared-so : c ≡ removed (nodesOf l) (places g) x (l .serial)) where
-      gives : c ≡ removed (nodesOf l) (going (l .nodes) x (tree l)) x (l .serial)
-      gives = cleared-so ∙ ap (λ (ps : List ℕ). removed (nodesOf l) ps x (l .serial)) places-are
+    module _ {c : Cleared} (cleared-so : c ≡ removedNodes (nodesOf l) (places g) x (l .serial)) where
+      gives : c ≡ removedNodes (nodesOf l) (going (l .nodes) x (tree l)) x (l .serial)
+      gives = cleared-so ∙ ap (λ (ps : List ℕ). removedNodes (nodesOf l) ps x (l .serial)) places-are
 
       stands-again : Stands (l .settings) (l .serial + 1) (remove x (placeFor l x) (l .serial + 1) (tree l)) (c .nodes)
       stands-again =

@@ -11,12 +11,12 @@ use Rattle.table.specs.Build.{treeOf}
 pub use Rattle.lists.specs.Lists.{limit}
 use Rattle.lists.specs.Search.{differ, zeroTail}
 use Rattle.lists.specs.Flags.{okB, flagsOf}
-use Rattle.sound.specs.Columns.{Columns, columnsOf}
+use Rattle.sound.specs.Columns.{Columns, checkedColumns}
 pub use Rattle.sound.specs.Frame.{sideB, domainB}
 use Rattle.sound.specs.Places.{placesB, topB}
 use Rattle.sound.specs.Rows.{rowsB}
 use Rattle.sound.specs.Hung.{hungB}
-use Rattle.sound.specs.Listed.{areaIn, coversB, heldIn, noneAboveB, sortedB}
+use Rattle.sound.specs.Listed.{areaListed, coversB, heldIn, noneAboveB, sortedB}
 use Rattle.layout.specs.declared.layout.Layout.{Layout}
 
 -- the tree that a layout holds
@@ -35,7 +35,7 @@ serialsB serial last = leb last maxSerial && (noneAboveB limit serial last && di
 
 unfoldable pub sumsB : Layout → Columns → Bool
 sumsB l c =
-    eqb (heldIn (c .serial) limit) (l .held) && eqb (areaIn 1 (c .kind) (c .area) limit) (l .used)
+    eqb (heldIn (c .serial) limit) (l .held) && eqb (areaListed 1 (c .kind) (c .area) limit) (l .used)
 
 unfoldable pub freeB : Layout → Columns → Bool
 freeB l c =
@@ -50,4 +50,4 @@ columnsB l c =
     && (sumsB l c && (serialsB (c .serial) (l .serial) && (freeB l c && removableB l c)))
 
 unfoldable pub soundB : Layout → Bool
-soundB l = domainB (l .settings) && (tableB l && columnsB l (columnsOf (l .nodes)))
+soundB l = domainB (l .settings) && (tableB l && columnsB l (checkedColumns (l .nodes)))

@@ -10,7 +10,7 @@ use lib.ListN.{length}
 use lib.Seq.{sets}
 use Rattle.piece.specs.declared.node.Datum.{Datum}
 use Rattle.piece.specs.Kinds.{isFree}
-use Rattle.tree.specs.Removal.{cleared, remove, removed}
+use Rattle.tree.specs.Removal.{cleared, remove, removedNumbers}
 use Rattle.tree.specs.Pieces.{maxSerial}
 use Rattle.tree.specs.Family.{newPlace}
 use Rattle.tree.specs.Enrolment.{removedList}
@@ -30,7 +30,7 @@ use Rattle.layout.specs.Next.{Next, removables}
 
 -- "Part numbers of the subtree come out in tree order, first child first"
 unfoldable pub numbersOut : Layout → ℕ → List ℕ
-numbersOut l x = removed x (tree l)
+numbersOut l x = removedNumbers x (tree l)
 
 -- refusals 10, 11 and 9, of the piece d at x that the mark names
 unfoldable pub goNo : Layout → ℕ → Datum → Option Refusal

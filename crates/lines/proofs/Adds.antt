@@ -12,11 +12,11 @@ use Rattle.lines.specs.declared.stream.Pending.{Pending}
 use Rattle.lines.specs.declared.stream.Event.the-variants.{Whole, Long, More}
 use Rattle.lines.specs.Lines.{newlineFrom, charsAt, pastAt}
 use Rattle.lines.proofs.Ahead.{chars-length}
-use Rattle.lines.specs.Stream.{add, adds, stepOf, takeOf}
+use Rattle.lines.specs.Stream.{addChar, adds, stepOf, takeOf}
 
 -- a line that is too long stays as it is
-add-over : (p : Pending) (x : ℕ) → p .over ≡ true → add p x ≡ p
-unfolding add
+add-over : (p : Pending) (x : ℕ) → p .over ≡ true → addChar p x ≡ p
+unfolding addChar
 add-over p x o = rw o refl
 
 pub adds-over : (p : Pending) (s : List ℕ) → p .over ≡ true → adds p s ≡ p
@@ -24,7 +24,7 @@ unfolding adds
 adds-over p [] o = refl
 adds-over p (x ∷ s) o = ap (λ (q : Pending). adds q s) (add-over p x o) ∙ adds-over p s o
 
-pub adds-next : (p : Pending) (s : List ℕ) (i : ℕ) → i < length s → adds (add p (getD s i 0)) (drop (i + 1) s) ≡ adds p (drop i s)
+pub adds-next : (p : Pending) (s : List ℕ) (i : ℕ) → i < length s → adds (addChar p (getD s i 0)) (drop (i + 1) s) ≡ adds p (drop i s)
 unfolding adds
 adds-next p s i h = rw (add-one i, drop-cons s i 0 h) refl
 
@@ -32,14 +32,14 @@ pub adds-none : (p : Pending) (s : List ℕ) (i : ℕ) → length s ≤ i → ad
 unfolding adds
 adds-none p s i h = rw (drop-of-length-le s h) refl
 
-pub adds-one : (p : Pending) (x : ℕ) → adds p (x ∷ []) ≡ add p x
+pub adds-one : (p : Pending) (x : ℕ) → adds p (x ∷ []) ≡ addChar p x
 unfolding adds
 adds-one p x = refl
 
 pub adds-append : (p : Pending) (a b : List ℕ) → adds p (a ++ b) ≡ adds (adds p a) b
 unfolding adds
 adds-append p [] b = refl
-adds-append p (x ∷ a) b = adds-append (add p x) a b
+adds-append p (x ∷ a) b = adds-append (addChar p x) a b
 
 -- a step: the characters of the chunk there, what is pending with them, and where the text goes on
 pub record Step : Type 0 where

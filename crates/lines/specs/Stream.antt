@@ -16,15 +16,15 @@ unfoldable pub empty : Pending
 empty = record { bytes = replicate 64 0; count = 0; over = false }
 
 -- one more character of the line: stored while there is room, and with no room the line is too long
-unfoldable pub add : Pending → ℕ → Pending
-add p x =
+unfoldable pub addChar : Pending → ℕ → Pending
+addChar p x =
     cond (p .over) p
     (cond (ltb (p .count) 64) (record { bytes = set (p .bytes) (p .count) x; count = p .count + 1; over = p .over })
     (record { bytes = p .bytes; count = p .count; over = true }))
 
 unfoldable pub adds : Pending → List ℕ → Pending
 adds p [] = p
-adds p (x ∷ s) = adds (add p x) s
+adds p (x ∷ s) = adds (addChar p x) s
 
 abbrev pub stepOf : Pending → ℕ → Event → Taken
 stepOf p n e = record { pending = p; next = n; event = e }
@@ -56,10 +56,10 @@ abbrev pub followed : Fed → Fed → Fed
 followed f r = record { lines = f .lines ++ r .lines; left = r .left }
 
 -- what a step gives, before those that follow it
-unfoldable pub given : Event → Pending → Fed → Fed
-given Whole p r = onward (whole (take (p .count) (p .bytes))) r
-given Long p r = onward long r
-given More p r = still p
+unfoldable pub fedWith : Event → Pending → Fed → Fed
+fedWith Whole p r = onward (whole (take (p .count) (p .bytes))) r
+fedWith Long p r = onward long r
+fedWith More p r = still p
 
 -- at most so many steps from a position: a line is handed on, and nothing is pending after it, until the chunk is used up
 unfoldable pub steps : ℕ → Pending → List ℕ → ℕ → Fed
@@ -67,7 +67,7 @@ steps zero p chunk at = still p
 steps (suc n) p chunk at =
     let t = takeOf p chunk at in
     let r = steps n empty chunk (t .next) in
-    given (t .event) (t .pending) r
+    fedWith (t .event) (t .pending) r
 
 -- a chunk of n characters is used up in at most n + 1 steps
 unfoldable pub feed : Pending → List ℕ → Fed

@@ -35,6 +35,6 @@ newlines [] = zero
 newlines (x ∷ s) = cond (eqb x 10) (suc (newlines s)) (newlines s)
 
 -- the text that chunks make
-unfoldable pub joined : List (List ℕ) → List ℕ
-joined [] = []
-joined (c ∷ cs) = c ++ joined cs
+unfoldable pub joinedLines : List (List ℕ) → List ℕ
+joinedLines [] = []
+joinedLines (c ∷ cs) = c ++ joinedLines cs

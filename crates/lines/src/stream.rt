@@ -1,7 +1,7 @@
 // The lines of a text that arrives in chunks, however it is cut, in constant memory. Rests on the reader of lib.rt.
 // Document 01: a line has at most 64 characters before its newline.
 ghost use mathlib.Core.Path.{_≡_};
-ghost use Rattle.lines.specs.Stream.{empty, add, adds, stepOf, takeOf, unfinished};
+ghost use Rattle.lines.specs.Stream.{empty, addChar, adds, stepOf, takeOf, unfinished};
 
 // The most characters that a line may have.
 pub const MOST: usize = 64;
@@ -52,7 +52,7 @@ fn step(pending: Pending, next: usize, event: Event) -> Taken
 impl Pending {
     // One more character.
     fn one(mut self, x: u8) -> Pending
-        ensures { λ r. ⌜ r ≡ add self x ⌝ }
+        ensures { λ r. ⌜ r ≡ addChar self x ⌝ }
     {
         if self.over {
             return self;

@@ -15,7 +15,7 @@ use Rattle.looks.specs.declared.replies.LightAnswer.{LightAnswer}
 use Rattle.looks.specs.declared.replies.MarkAnswer.{MarkAnswer}
 use Rattle.looks.specs.declared.replies.OffersAnswer.{OffersAnswer}
 use Rattle.looks.specs.Answers.{usedAreaOf, freeAreaOf, nodesHeldOf, sheetUsageOf, treeUsageOf, isEmptyOf, freeMarkOf, removableMarkOf, lightOf, offersCall}
-use Rattle.looks.specs.Written.{answerTo, leftIn, snapshotBytes, heldNumbers}
+use Rattle.looks.specs.Written.{answerTo, leftInBuffer, snapshotBytes, heldNumbers}
 
 module _ (l : Layout) where
   pub used-area-is-one : (r s : AreaAnswer) → r ≡ usedAreaOf l → s ≡ usedAreaOf l → r ≡ s
@@ -54,12 +54,12 @@ module _ (l : Layout) where
         → s ≡ answerTo l (snapshotBytes l) (length out) → r ≡ s
     snapshot-is-one = only
 
-    pub snapshot-leaves-one : (a b : List ℕ) → a ≡ leftIn l (snapshotBytes l) out → b ≡ leftIn l (snapshotBytes l) out → a ≡ b
+    pub snapshot-leaves-one : (a b : List ℕ) → a ≡ leftInBuffer l (snapshotBytes l) out → b ≡ leftInBuffer l (snapshotBytes l) out → a ≡ b
     snapshot-leaves-one = only
 
     pub part-numbers-is-one : (r s : CountAnswer) → r ≡ answerTo l (heldNumbers l) (length out)
         → s ≡ answerTo l (heldNumbers l) (length out) → r ≡ s
     part-numbers-is-one = only
 
-    pub part-numbers-leaves-one : (a b : List ℕ) → a ≡ leftIn l (heldNumbers l) out → b ≡ leftIn l (heldNumbers l) out → a ≡ b
+    pub part-numbers-leaves-one : (a b : List ℕ) → a ≡ leftInBuffer l (heldNumbers l) out → b ≡ leftInBuffer l (heldNumbers l) out → a ≡ b
     part-numbers-leaves-one = only

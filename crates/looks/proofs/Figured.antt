@@ -24,12 +24,12 @@ use Rattle.tree.proofs.Usage.{sheet-small}
 use Rattle.tree.proofs.Laws.AreaConserved.{area-conserved}
 use Rattle.table.specs.declared.Node.{Node}
 use Rattle.table.specs.Table.{zeroNode, at, Holds}
-use Rattle.walks.specs.Usage.{usageOf}
+use Rattle.walks.specs.Usage.{usageAlong}
 use Rattle.walks.specs.Inner.{Small}
 use Rattle.walks.specs.Columns.{usageIn, columnsOf}
 use Rattle.walks.specs.declared.columns.Columns.{Columns}
 use Rattle.walks.proofs.Meaning.{usage-top, small}
-use Rattle.sound.specs.Listed.{areaIn}
+use Rattle.sound.specs.Listed.{areaListed}
 use Rattle.sound.proofs.Worth.{holds-free-area}
 use Rattle.sound.proofs.Serials.{shown-at}
 use Rattle.layout.specs.declared.layout.Layout.{Layout}
@@ -106,10 +106,10 @@ module _ (l : Layout) (s : SoundLayout l) where
         (small limit (l .nodes)
         (place-small (l .nodes) (tree l) (s .holds) (readable-small 0 (tree l) (sound-readable (tree l) (s .sound)))))
 
-    pub free-area-is : areaIn 0 (c .kind) (c .area) limit ≡ freeArea (tree l)
+    pub free-area-is : areaListed 0 (c .kind) (c .area) limit ≡ freeArea (tree l)
     free-area-is = rw e (holds-free-area limit (l .nodes) (tree l) (s .holds))
 
     -- the walk from the top, with the nodes held as fuel
-    pub usage-is : usageOf limit (c .first) (c .next) (c .kind) (c .area) (l .held) 0 ≡ treeUsage (tree l)
+    pub usage-is : usageAlong limit (c .first) (c .next) (c .kind) (c .area) (l .held) 0 ≡ treeUsage (tree l)
     usage-is =
         rw e (top-usage (l .settings) (l .nodes) (tree l) (s .sound .topped) (s .holds) (l .held) (omega (arith, s .held)))

@@ -29,13 +29,13 @@ use Rattle.layout.specs.Check.{limit, tree, soundB}
 use Rattle.layout.specs.SoundLayout.{SoundLayout}
 use Rattle.looks.specs.declared.replies.CountAnswer.{CountAnswer}
 use Rattle.looks.specs.declared.replies.CountAnswer.the-variants.{Count, Refused}
-use Rattle.looks.specs.Written.{answerTo, leftIn, snapshotBytes, heldNumbers}
+use Rattle.looks.specs.Written.{answerTo, leftInBuffer, snapshotBytes, heldNumbers}
 
 -- ---- the ways to end
 
 -- a call that is to write `what` answers r, and the buffer is this before and that after
 abbrev pub Ends : Layout → List ℕ → CountAnswer → List ℕ → List ℕ → Type 0
-Ends l what r before after = (r ≡ answerTo l what (length before)) × (after ≡ leftIn l what before)
+Ends l what r before after = (r ≡ answerTo l what (length before)) × (after ≡ leftInBuffer l what before)
 
 module _ (l : Layout) (what before : List ℕ) where
   pub not-sound : soundB l ≡ false → Ends l what (Refused NotSound) before before

@@ -20,7 +20,7 @@ use Rattle.layout.proofs.Exactly.{sound-shown}
 use Rattle.layout.proofs.Marks.{Names}
 use Rattle.layout.proofs.Ways.{onward}
 use Rattle.looks.specs.declared.replies.MarkAnswer.the-variants as marks
-use Rattle.looks.specs.Answers.{markOf, markAt, freeMarkOf, removableMarkOf}
+use Rattle.looks.specs.Answers.{markOf, markAtPosition, freeMarkOf, removableMarkOf}
 use Rattle.looks.proofs.Entries.{entry-at}
 
 same-fields : (p : ℕ) {a b c e : ℕ} → a ≡ b → c ≡ e
@@ -47,16 +47,16 @@ module _ (l : Layout) (s : SoundLayout l) where
   module _ (sized : Sized l) where
     -- a list that holds the pieces of which P holds
     module _ (P : Datum → Type 0) (list : List ℕ) (n : ℕ) (fits : n ≤ length list) (h : Holding P (piecesOf (tree l)) (take n list)) where
-      mark-at : (k : ℕ) → k < n → markAt l list n k ≡ marks.Found (markOf l (getD list k 0))
+      mark-at : (k : ℕ) → k < n → markAtPosition l list n k ≡ marks.Found (markOf l (getD list k 0))
       mark-at k b = sym (onward _ (sound-shown l sized s) (onward _ (lt-ltb k n b) refl))
 
-      position-names : (k : ℕ) → k < n → (m : Mark) × (d : Datum) × (markAt l list n k ≡ marks.Found m) × Names l m d × P d
+      position-names : (k : ℕ) → k < n → (m : Mark) × (d : Datum) × (markAtPosition l list n k ≡ marks.Found m) × Names l m d × P d
       position-names k b =
           let e = entry-at list n fits h k b in
           let p = getD list k 0 in
           (markOf l p, e .0, mark-at k b, mark-names p (e .0) (e .1), e .2)
 
-      names-position : (m : Mark) (d : Datum) → Names l m d → P d → (k : ℕ) × (k < n) × (markAt l list n k ≡ marks.Found m)
+      names-position : (m : Mark) (d : Datum) → Names l m d → P d → (k : ℕ) × (k < n) × (markAtPosition l list n k ≡ marks.Found m)
       names-position m d y q =
           let g = h .all (m .place) d (y .there) q in
           let c = entry list n fits (g .0) (g .1) in

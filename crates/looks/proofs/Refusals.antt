@@ -11,12 +11,12 @@ use Rattle.answers.specs.declared.Refusal.{Refusal}
 use Rattle.layout.specs.declared.layout.Layout.{Layout}
 use Rattle.layout.specs.Check.{soundB}
 use Rattle.looks.specs.declared.replies.CountAnswer.the-variants.{Refused}
-use Rattle.looks.specs.Written.{answerTo, leftIn}
+use Rattle.looks.specs.Written.{answerTo, leftInBuffer}
 
-pub refused-writing : (l : Layout) (what out : List ℕ) (e : Refusal) → answerTo l what (length out) ≡ Refused e → leftIn l what out ≡ out
+pub refused-writing : (l : Layout) (what out : List ℕ) (e : Refusal) → answerTo l what (length out) ≡ Refused e → leftInBuffer l what out ≡ out
 refused-writing l what out e h = go (soundB l) (leb (length what) (length out)) refl refl
   where
-    go : (a b : Bool) → soundB l ≡ a → leb (length what) (length out) ≡ b → leftIn l what out ≡ out
+    go : (a b : Bool) → soundB l ≡ a → leb (length what) (length out) ≡ b → leftInBuffer l what out ≡ out
     go true true x y = let o = rw (x, y) at h in absurd (clash (cc))
     go true false x y = rw (x, y) refl
     go false b x y = rw x refl

@@ -9,7 +9,7 @@ use Rattle.piece.specs.declared.parttype.PartType.{PartType}
 use Rattle.piece.specs.declared.rotation.Rotation.{Rotation}
 use Rattle.piece.specs.declared.rotation.Rotation.the-variants.{Default, Rotated}
 use Rattle.piece.specs.Sides.{area}
-use Rattle.piece.specs.Offers.{allowed, fits, held, noOffers, offersOf, turned}
+use Rattle.piece.specs.Offers.{allowed, fits, asOfferList, noOffers, offersOf, turned}
 use Rattle.piece.specs.Row.{nil, grow}
 use Rattle.piece.specs.Kinds.{isFree}
 use Rattle.tree.specs.Tree.{Tree, count}
@@ -68,15 +68,15 @@ isEmptyOf l = cond (soundB l) (lights.Says (allFree (tree l))) (lights.Refused N
 abbrev pub markOf : Layout → ℕ → Mark
 markOf l p = record { layout = l .number; place = p; serial = at (l .nodes) p .datum .serial }
 
-abbrev pub markAt : Layout → List ℕ → ℕ → ℕ → MarkAnswer
-markAt l list n k =
+abbrev pub markAtPosition : Layout → List ℕ → ℕ → ℕ → MarkAnswer
+markAtPosition l list n k =
     cond (soundB l) (cond (ltb k n) (marks.Found (markOf l (getD list k 0))) (marks.Refused PastTheEnd)) (marks.Refused NotSound)
 
 unfoldable pub freeMarkOf : Layout → ℕ → MarkAnswer
-freeMarkOf l k = markAt l (l .free) (l .frees) k
+freeMarkOf l k = markAtPosition l (l .free) (l .frees) k
 
 unfoldable pub removableMarkOf : Layout → ℕ → MarkAnswer
-removableMarkOf l k = markAt l (l .removable) (l .removables) k
+removableMarkOf l k = markAtPosition l (l .removable) (l .removables) k
 
 -- ---- The room light: "says yes exactly when the part, in some allowed rotation, fits within the sides of the first piece of the free list; with
 -- none it says no"; refusals 1, 3
@@ -101,7 +101,7 @@ refusedOffers r = record { outcome = outcomes.Refused r; offers = noOffers }
 
 abbrev pub offeredFor : Layout → PartType → Sought → OffersAnswer
 offeredFor l p (sought.Refused r) = refusedOffers r
-offeredFor l p (sought.Piece d) = record { outcome = outcomes.Done; offers = held (offersOf d p (l .settings)) }
+offeredFor l p (sought.Piece d) = record { outcome = outcomes.Done; offers = asOfferList (offersOf d p (l .settings)) }
 
 unfoldable pub offersCall : Layout → Mark → PartType → OffersAnswer
 offersCall l m p = offeredFor l p (freePieceOf l m p)

@@ -20,8 +20,8 @@ answerTo l what room =
     cond (soundB l) (cond (leb (length what) room) (Count (length what)) (Refused BufferTooShort)) (Refused NotSound)
 
 -- what the buffer then holds
-abbrev pub leftIn : Layout → List ℕ → List ℕ → List ℕ
-leftIn l what out = cond (soundB l) (cond (leb (length what) (length out)) (sets out 0 what) out) out
+abbrev pub leftInBuffer : Layout → List ℕ → List ℕ → List ℕ
+leftInBuffer l what out = cond (soundB l) (cond (leb (length what) (length out)) (sets out 0 what) out) out
 
 -- the tree's snapshot
 unfoldable pub snapshotBytes : Layout → List ℕ

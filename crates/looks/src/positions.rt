@@ -5,7 +5,7 @@ ghost use Prim.Native.Nat.{_<_, _≤_};
 ghost use Rattle.lists.specs.Lists.{limit};
 ghost use Rattle.walks.specs.Inner.{Placed};
 ghost use Rattle.layout.specs.Check.{soundB};
-ghost use Rattle.looks.specs.Answers.{freeMarkOf, markAt, markOf, removableMarkOf};
+ghost use Rattle.looks.specs.Answers.{freeMarkOf, markAtPosition, markOf, removableMarkOf};
 use crate::replies::MarkAnswer;
 use answers::Mark;
 use answers::Refusal;
@@ -29,7 +29,7 @@ fn mark_of(layout: Layout, place: u16) -> Mark
 // The mark at a position of a list of which `count` entries count.
 fn mark_at(layout: Layout, list: [u16; LIMIT], count: u16, position: u16) -> MarkAnswer
     requires { ⌜ (soundB layout ≡ true → (count ≤ limit) × Placed limit count list) ⌝ }
-    ensures { λ r. ⌜ r ≡ markAt layout list count position ⌝ }
+    ensures { λ r. ⌜ r ≡ markAtPosition layout list count position ⌝ }
 {
     if layout.sound() {} else {
         return MarkAnswer::Refused(Refusal::NotSound);

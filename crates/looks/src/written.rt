@@ -2,7 +2,7 @@
 // (Rust: included_part_ids of core/entities/layout.rs; ours are by place).
 ghost use mathlib.Core.Path.{_≡_};
 ghost use lib.ListN.{length};
-ghost use Rattle.looks.specs.Written.{answerTo, heldNumbers, leftIn, snapshotBytes};
+ghost use Rattle.looks.specs.Written.{answerTo, heldNumbers, leftInBuffer, snapshotBytes};
 use crate::replies::CountAnswer;
 use answers::Refusal;
 use layout::layout::Layout;
@@ -16,7 +16,7 @@ use walks::snapshot::put_subtree;
 // The snapshot of the tree, 13 bytes a node, and how many bytes it has. It is written down the tree from the top, which is at place 0.
 pub fn snapshot(layout: Layout, out: &mut [u8]) -> CountAnswer
     ensures answer { λ r. ⌜ r ≡ answerTo layout (snapshotBytes layout) (length (now (out .entry))) ⌝ }
-    ensures written { λ r. ⌜ now (out .exit) ≡ leftIn layout (snapshotBytes layout) (now (out .entry)) ⌝ }
+    ensures written { λ r. ⌜ now (out .exit) ≡ leftInBuffer layout (snapshotBytes layout) (now (out .entry)) ⌝ }
 {
     if layout.sound() {} else {
         return CountAnswer::Refused(Refusal::NotSound);
@@ -48,7 +48,7 @@ pub fn snapshot(layout: Layout, out: &mut [u8]) -> CountAnswer
 // The numbers of the parts held, by place, and how many there are.
 pub fn part_numbers(layout: Layout, out: &mut [u16]) -> CountAnswer
     ensures answer { λ r. ⌜ r ≡ answerTo layout (heldNumbers layout) (length (now (out .entry))) ⌝ }
-    ensures written { λ r. ⌜ now (out .exit) ≡ leftIn layout (heldNumbers layout) (now (out .entry)) ⌝ }
+    ensures written { λ r. ⌜ now (out .exit) ≡ leftInBuffer layout (heldNumbers layout) (now (out .entry)) ⌝ }
 {
     if layout.sound() {} else {
         return CountAnswer::Refused(Refusal::NotSound);

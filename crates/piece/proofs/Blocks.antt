@@ -16,12 +16,12 @@ use Rattle.piece.specs.declared.insertion_blueprint.InsertionNode.{Inser
 use Rattle.piece.specs.Sides.{laid, area}
 use Rattle.piece.specs.Row.{Row, nil, grow}
 use Rattle.piece.specs.Offers.{fits}
-use Rattle.piece.specs.Insertion.{Made, table, newNodes, laidAll, blockOf, ownArea, covered, outside, listed, noNode, held, blueprintOf}
+use Rattle.piece.specs.Insertion.{Made, table, newNodes, laidAll, blockOf, ownArea, covered, outside, nodesInOrder, noNode, asBlueprint, blueprintOf}
 use Rattle.piece.proofs.Sizes.{area-laid, fits-laid, fits-sides}
 use Rattle.piece.proofs.Padded.{padded-whole}
 
 pub block-length : (s : InsertionShape) (q : ℕ) (c d : Orientation) (piece part : Size) →
-    length (listed q d (blockOf s c piece part)) ≡ newNodes s
+    length (nodesInOrder q d (blockOf s c piece part)) ≡ newNodes s
 unfolding blockOf table
 block-length AlongCurrentCut q c d piece part = refl
 block-length AcrossCurrentCut q c d piece part = refl
@@ -35,13 +35,13 @@ new-nodes-few AlongThenAcross = omega arith
 new-nodes-few AcrossThenAlong = omega arith
 
 -- the nodes are the list's first entries, as many as the count says
-pub held-whole : (l : List InsertionNode) → length l ≤ 5 → take (held l .count) (held l .nodes) ≡ l
-unfolding held
+pub held-whole : (l : List InsertionNode) → length l ≤ 5 → take (asBlueprint l .count) (asBlueprint l .nodes) ≡ l
+unfolding asBlueprint
 held-whole l h = padded-whole noNode 5 5 l h
 
 module _ (s : InsertionShape) (c : Orientation) (piece part : Size) where
   pub blueprint-count : blueprintOf s c piece part .count ≡ newNodes s
-  unfolding blueprintOf held
+  unfolding blueprintOf asBlueprint
   blueprint-count = block-length s outside c c piece part
 
 own-area-laid : (c : Orientation) (k : Kind) (s : Size) → ownArea k (laid c s) ≡ ownArea k s

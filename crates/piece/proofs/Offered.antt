@@ -13,7 +13,7 @@ use Rattle.piece.specs.declared.settings.Settings.{Settings}
 use Rattle.piece.specs.declared.node.Datum.{Datum}
 use Rattle.piece.specs.declared.insertion_blueprint.InsertionShape.{InsertionShape}
 use Rattle.piece.specs.declared.insertion_option.Offer.{Offer}
-use Rattle.piece.specs.Offers.{only, shapes, inRotation, offersIn, offersOf, noOffer, held, noOffers, withOffer, withOffers}
+use Rattle.piece.specs.Offers.{only, shapes, inRotation, offersIn, offersOf, noOffer, asOfferList, noOffers, withOffer, withOffers}
 use Rattle.piece.proofs.Padded.{padded-whole}
 
 -- whichever way a test goes
@@ -48,17 +48,17 @@ offers-few piece part settings =
     (omega (arith, offers-in-few piece part settings Default, offers-in-few piece part settings Rotated))
 
 -- the count is the number of offers
-pub held-count : (l : List Offer) → held l .count ≡ length l
-unfolding held
+pub held-count : (l : List Offer) → asOfferList l .count ≡ length l
+unfolding asOfferList
 held-count l = refl
 
 -- the offers are the list's first entries, as many as the count says
-pub held-whole : (l : List Offer) → length l ≤ 4 → take (held l .count) (held l .list) ≡ l
-unfolding held
+pub held-whole : (l : List Offer) → length l ≤ 4 → take (asOfferList l .count) (asOfferList l .list) ≡ l
+unfolding asOfferList
 held-whole l h = padded-whole noOffer 4 4 l h
 
-one-more : (l : List Offer) (x : Offer) → length l < 4 → withOffer (held l) x ≡ held (l ++ x ∷ [])
-unfolding held
+one-more : (l : List Offer) (x : Offer) → length l < 4 → withOffer (asOfferList l) x ≡ asOfferList (l ++ x ∷ [])
+unfolding asOfferList
 one-more [] x h = refl
 one-more (a ∷ []) x h = refl
 one-more (a ∷ b ∷ []) x h = refl
@@ -66,20 +66,20 @@ one-more (a ∷ b ∷ d ∷ []) x h = refl
 one-more (a ∷ b ∷ d ∷ e ∷ l) x h = absurd (omega arith)
 
 -- offers held, and more of them
-pub held-more : (l xs : List Offer) → length l + length xs ≤ 4 → withOffers (held l) xs ≡ held (l ++ xs)
+pub held-more : (l xs : List Offer) → length l + length xs ≤ 4 → withOffers (asOfferList l) xs ≡ asOfferList (l ++ xs)
 held-more l [] h = rw append-nil refl
 held-more l (x ∷ xs) h =
     rw (one-more l x (omega arith), held-more (l ++ x ∷ []) xs (simp length-append (omega arith)), append-assoc) refl
 
 -- what the code holds after one rotation, and after another
 module _ (piece : Datum) (part : PartType) (settings : Settings) (r : Rotation) where
-  pub one-rotation : withOffers noOffers (offersIn piece part settings r) ≡ held (offersIn piece part settings r)
-  unfolding held
+  pub one-rotation : withOffers noOffers (offersIn piece part settings r) ≡ asOfferList (offersIn piece part settings r)
+  unfolding asOfferList
   one-rotation = held-more [] (offersIn piece part settings r) (omega (arith, offers-in-few piece part settings r))
 
   pub two-rotations : (q : Rotation) →
-      withOffers (held (offersIn piece part settings r)) (offersIn piece part settings q)
-      ≡ held (offersIn piece part settings r ++ offersIn piece part settings q)
+      withOffers (asOfferList (offersIn piece part settings r)) (offersIn piece part settings q)
+      ≡ asOfferList (offersIn piece part settings r ++ offersIn piece part settings q)
   two-rotations q =
       held-more (offersIn piece part settings r) (offersIn piece part settings q)
       (omega (arith, offers-in-few piece part settings r, offers-in-few piece part settings q))

@@ -70,25 +70,25 @@ covered (grow p m k r) = ownArea (m .kind) (m .size) + covered k + covered r
 abbrev pub outside : ℕ
 outside = 255
 
-abbrev pub nodeOf : ℕ → Orientation → Made → InsertionNode
-nodeOf q c m = record { size = m .size; parent = q; kind = m .kind; cut = c }
+abbrev pub insertionNodeOf : ℕ → Orientation → Made → InsertionNode
+insertionNodeOf q c m = record { size = m .size; parent = q; kind = m .kind; cut = c }
 
 -- the nodes of a block in creation order, with their parents; "a child's cut is the other one"
-abbrev pub listed : ℕ → Orientation → Row Made → List InsertionNode
-listed q c nil = []
-listed q c (grow p m k r) = nodeOf q c m ∷ (listed p (other c) k ++ listed q c r)
+abbrev pub nodesInOrder : ℕ → Orientation → Row Made → List InsertionNode
+nodesInOrder q c nil = []
+nodesInOrder q c (grow p m k r) = insertionNodeOf q c m ∷ (nodesInOrder p (other c) k ++ nodesInOrder q c r)
 
 -- the nodes as the code holds them: five entries and a count; past the count stands the zero entry
 abbrev pub noNode : InsertionNode
-noNode = nodeOf 0 Horizontal (made Free 0 0)
+noNode = insertionNodeOf 0 Horizontal (made Free 0 0)
 
-unfoldable pub held : List InsertionNode → InsertionBlueprint
-held l = record { nodes = take 5 (l ++ replicate 5 noNode); count = length l }
+unfoldable pub asBlueprint : List InsertionNode → InsertionBlueprint
+asBlueprint l = record { nodes = take 5 (l ++ replicate 5 noNode); count = length l }
 
 -- the block of a shape, with the sides as the table writes them
 unfoldable pub laidOut : InsertionShape → Orientation → Size → Size → InsertionBlueprint
 laidOut s c piece part =
-    held (listed outside c (laidAll c (table s (piece .width) (piece .height) (part .width) (part .height))))
+    asBlueprint (nodesInOrder outside c (laidAll c (table s (piece .width) (piece .height) (part .width) (part .height))))
 
 unfoldable pub blueprintOf : InsertionShape → Orientation → Size → Size → InsertionBlueprint
-blueprintOf s c piece part = held (listed outside c (blockOf s c piece part))
+blueprintOf s c piece part = asBlueprint (nodesInOrder outside c (blockOf s c piece part))

@@ -80,8 +80,8 @@ offersOf piece part settings = offersIn piece part settings Default ++ offersIn 
 abbrev pub noOffer : Offer
 noOffer = offer Default AlongCurrentCut
 
-unfoldable pub held : List Offer → OfferList
-held l = record { list = take 4 (l ++ replicate 4 noOffer); count = length l }
+unfoldable pub asOfferList : List Offer → OfferList
+asOfferList l = record { list = take 4 (l ++ replicate 4 noOffer); count = length l }
 
 abbrev pub noOffers : OfferList
 noOffers = record { list = replicate 4 noOffer; count = 0 }

@@ -1,6 +1,6 @@
 // The four shapes of an insertion and the nodes that each makes. Rust: core/insertion/insertion_blueprint.rs.
 ghost use mathlib.Core.Path.{_≡_};
-ghost use Rattle.piece.specs.Insertion.{blueprintOf, laidOut, laidMade, made, newNodes, noNode, nodeOf};
+ghost use Rattle.piece.specs.Insertion.{blueprintOf, laidOut, laidMade, made, newNodes, noNode, insertionNodeOf};
 ghost use Rattle.piece.specs.Numbers.{shapeNo, shapeOf};
 use crate::node::Kind;
 use crate::orientation::Orientation;
@@ -87,7 +87,7 @@ fn no_node() -> InsertionNode
 
 // A node with the sides of the tables; `own` is its cut, `cut` the free piece's.
 fn node(cut: Orientation, own: Orientation, parent: u8, kind: Kind, size: Size) -> InsertionNode
-    ensures { λ r. ⌜ r ≡ nodeOf parent own (laidMade cut (made kind (size .width) (size .height))) ⌝ }
+    ensures { λ r. ⌜ r ≡ insertionNodeOf parent own (laidMade cut (made kind (size .width) (size .height))) ⌝ }
 {
     InsertionNode {
         size: size.laid(cut),

@@ -3,7 +3,7 @@ ghost use mathlib.Core.Path.{_≡_};
 ghost use Prim.Native.Nat.{_<_, _≤_};
 ghost use lib.ListN.{take};
 ghost use Rattle.piece.specs.Offered.{amongB, offeredB, sameOffer};
-ghost use Rattle.piece.specs.Offers.{held, inRotation, noOffers, offer, offersIn, offersOf, shapes, withOffer, withOffers};
+ghost use Rattle.piece.specs.Offers.{asOfferList, inRotation, noOffers, offer, offersIn, offersOf, shapes, withOffer, withOffers};
 use crate::insertion_blueprint::InsertionShape;
 use crate::node::Datum;
 use crate::node::fits_across;
@@ -104,7 +104,7 @@ impl OfferList {
 
 // What a free piece offers for a part, Default before Rotated.
 pub fn offers(piece: Datum, part: PartType, settings: Settings) -> OfferList
-    ensures { λ r. ⌜ r ≡ held (offersOf piece part settings) ⌝ }
+    ensures { λ r. ⌜ r ≡ asOfferList (offersOf piece part settings) ⌝ }
 {
     let first = OfferList::none().with_rotation(piece, part, settings, Rotation::Default);
     first.with_rotation(piece, part, settings, Rotation::Rotated)

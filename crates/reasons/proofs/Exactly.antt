@@ -15,7 +15,7 @@ use Rattle.piece.specs.declared.parttype.PartType.{PartType}
 use Rattle.piece.specs.declared.rotation.Rotation.{Rotation}
 use Rattle.piece.specs.declared.rotation.Rotation.the-variants.{Default, Rotated}
 use Rattle.piece.specs.declared.settings.Settings.{Settings}
-use Rattle.piece.specs.Offers.{allowed, along, across, fits, held, inRotation, offersIn, offersOf, shapes, turned}
+use Rattle.piece.specs.Offers.{allowed, along, across, fits, asOfferList, inRotation, offersIn, offersOf, shapes, turned}
 use Rattle.piece.proofs.Sizes.{fits-sides}
 use Rattle.piece.proofs.Offered.{held-count}
 use Rattle.lists.proofs.Scan.{clash, and-false}
@@ -210,11 +210,11 @@ either-some zero b h = inr (omega arith)
 either-some (suc a) b h = inl (omega arith)
 
 module _ (d : Datum) (p : PartType) (settings : Settings) where
-  counted : held (offersOf d p settings) .count ≡ length (offersIn d p settings Default) + length (offersIn d p settings Rotated)
+  counted : asOfferList (offersOf d p settings) .count ≡ length (offersIn d p settings Default) + length (offersIn d p settings Rotated)
   unfolding offersOf
   counted = held-count _ ∙ length-append (offersIn d p settings Default) (offersIn d p settings Rotated)
 
-  piece-offers : (0 < held (offersOf d p settings) .count) ↔ Some (reasonsFor d p settings)
+  piece-offers : (0 < asOfferList (offersOf d p settings) .count) ↔ Some (reasonsFor d p settings)
   piece-offers =
       let one = offered-has-offer d p settings Default in
       let two = offered-has-offer d p settings Rotated in (

@@ -10,7 +10,7 @@ use lib.ListN.{getD, length}
 use Rattle.piece.specs.declared.node.Datum.{Datum}
 use Rattle.piece.specs.declared.node.Kind.the-variants.{Free}
 use Rattle.piece.specs.Sides.{area}
-use Rattle.tree.specs.ListSteps.{cut, cutAll, berth, put, Names}
+use Rattle.tree.specs.ListSteps.{omit, omitAll, berth, put, Names}
 use Rattle.tree.specs.Pieces.{Pieces, Before, Holding, FreeOf}
 use Rattle.tree.proofs.ListSteps.{Orderly, same-orderly, cut-orderly}
 use Rattle.tree.proofs.ListSteps.{Up, down-of, up-side, up-order, Wider, down-in, berth-most, berth-holds, berth-before, put-wider}
@@ -58,9 +58,9 @@ less : (A A′ : Pieces) (x : ℕ) (xs : List ℕ)
     → ((i : ℕ) (e : Datum) → A i e → e .kind ≡ Free → (i ≡ x → ⊥) → A′ i e)
     → ((i : ℕ) (e : Datum) → A′ i e → e .kind ≡ Free → A i e)
     → ((e : Datum) → A′ x e → e .kind ≡ Free → ⊥)
-    → Alike A′ → FreeOf A xs → FreeOf A′ (cut xs x)
+    → Alike A′ → FreeOf A xs → FreeOf A′ (omit xs x)
 less A A′ x xs old back gone like f =
-    left A A′ xs (cut xs x) back like (cut-orderly xs x)
+    left A A′ xs (omit xs x) back like (cut-orderly xs x)
     (holding-cut IsFree A A′ x xs old (λ i e y q. (back i e y q, λ s. gone e (rw s at y) q)) (f .holding)) f
 
 -- A′ has the free pieces of A but for the one at x; what stands there may have become another kind
@@ -69,7 +69,7 @@ pub free-cut : (A A′ : Pieces) (x : ℕ) (xs : List ℕ)
     → ((i : ℕ) (e : Datum) → A′ i e → e .kind ≡ Free → A i e)
     → ((e : Datum) → A′ x e → e .kind ≡ Free → ⊥)
     → ((i : ℕ) (e f : Datum) → A′ i e → A′ i f → e ≡ f)
-    → FreeOf A xs → FreeOf A′ (cut xs x)
+    → FreeOf A xs → FreeOf A′ (omit xs x)
 free-cut A A′ x xs old back gone one = less A A′ x xs old back gone (alike A′ one)
 
 -- several places; half way through, the pieces are the free ones of A but for the places that are done
@@ -78,11 +78,11 @@ pub free-cut-all : (A A′ : Pieces) (ps xs : List ℕ)
     → ((i : ℕ) (e : Datum) → A′ i e → e .kind ≡ Free → A i e)
     → ((i : ℕ) (e : Datum) → A′ i e → e .kind ≡ Free → Names i ps → ⊥)
     → ((i : ℕ) (e f : Datum) → A′ i e → A′ i f → e ≡ f)
-    → FreeOf A xs → FreeOf A′ (cutAll xs ps)
+    → FreeOf A xs → FreeOf A′ (omitAll xs ps)
 free-cut-all A A′ [] xs old back gone one f = free-same A A′ xs (λ i e y q. old i e y q (λ n. n)) back one f
 free-cut-all A A′ (p ∷ ps) xs old back gone one f =
     let B : Pieces = λ i e. A i e × (i ≡ p → ⊥) × IsFree e in
-    free-cut-all B A′ ps (cut xs p)
+    free-cut-all B A′ ps (omit xs p)
     (λ i e y q n. old i e (y .0) q (λ m. ⊎-elim (y .1) n m))
     (λ i e y q. (back i e y q, (λ s. gone i e y q (inl s)), q))
     (λ i e y q n. gone i e y q (inr n)) one

@@ -11,7 +11,7 @@ use Rattle.piece.specs.declared.node.Datum.{Datum}
 use Rattle.piece.specs.Row.{nil, grow}
 use Rattle.lists.specs.Lists.{limit}
 use Rattle.tree.specs.Tree.{Tree, At, In, count}
-use Rattle.tree.specs.ListSteps.{spot, cut, strike, push, strikeAll, Names}
+use Rattle.tree.specs.ListSteps.{spot, omit, strike, push, strikeAll, Names}
 use Rattle.tree.specs.Pieces.{Pieces, piecesOf, Holding}
 use Rattle.tree.proofs.ListSteps.{Absent, spot-case, cut-absent, strike-absent}
 use Rattle.tree.proofs.ListSteps.{Up, down-of, up-of, up-order, Wider, up-in, down-in, push-wider, Fewer, cut-fewer, strike-fewer}
@@ -128,9 +128,9 @@ module _ (P : Datum → Type 0) (A A′ : Pieces) (x : ℕ) (xs : List ℕ)
       holding-same P A A′ xs
       (λ i e y q. old i e y q (λ s. let g = h .all i e y q in absent (g .0) (g .1) (g .2 ∙ s))) (λ i e y q. back i e y q .0) h
 
-  pub holding-cut : Holding P A′ (cut xs x)
+  pub holding-cut : Holding P A′ (omit xs x)
   holding-cut =
-      ⊎-elim (λ s. fewer (spot xs x) (s .0) (s .1) (cut xs x) (cut-fewer xs x (s .0)))
+      ⊎-elim (λ s. fewer (spot xs x) (s .0) (s .1) (omit xs x) (cut-fewer xs x (s .0)))
       (λ absent. rw (cut-absent xs x absent) (unchanged absent)) (spot-case xs x)
 
   pub holding-strike : Holding P A′ (strike xs x)

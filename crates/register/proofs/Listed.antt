@@ -12,7 +12,7 @@ use lib.Dec.{ltb}
 use lib.ListN.{getD, set, length, length-append, drop-of-length-le}
 use lib.Seq.{take-all}
 use borrow.Author.Tests.{lt-ltb, le-ltb}
-use Rattle.tree.specs.ListSteps.{spot, cut, strike, push, berth, put, cutAll, strikeAll}
+use Rattle.tree.specs.ListSteps.{spot, omit, strike, push, berth, put, omitAll, strikeAll}
 use Rattle.lists.specs.Lists.{limit, padded, putIn, takeOut, swapOut, swapped, entries}
 use Rattle.lists.specs.Search.{firstFrom, indexOf}
 use Rattle.lists.proofs.Scan.{first-most}
@@ -64,12 +64,12 @@ module _ (xs : List ℕ) (p : ℕ) where
   unfolding indexOf
   spot-padded = first-same _ _ (λ i. rw (getD-padded limit xs i) refl) (length xs) 0
 
-  pub cut-length : spot xs p < length xs → length (cut xs p) ≡ length xs - 1
-  unfolding cut
+  pub cut-length : spot xs p < length xs → length (omit xs p) ≡ length xs - 1
+  unfolding omit
   cut-length h = take-out-length limit xs (spot xs p) h
 
-  pub cut-missing : length xs ≤ spot xs p → cut xs p ≡ xs
-  unfolding cut
+  pub cut-missing : length xs ≤ spot xs p → omit xs p ≡ xs
+  unfolding omit
   cut-missing h = rw (take-all (spot xs p) xs h, drop-of-length-le xs {i = spot xs p + 1} (omega arith)) (append-nil xs)
 
   pub strike-missing : length xs ≤ spot xs p → strike xs p ≡ xs
@@ -83,10 +83,10 @@ module _ (xs : List ℕ) (p : ℕ) where
   pub strike-length : spot xs p < length xs → length (strike xs p) ≡ length xs - 1
   strike-length h = rw (strike-found h) (swapped-length limit xs (spot xs p))
 
-  pub cut-length-most : length (cut xs p) ≤ length xs
+  pub cut-length-most : length (omit xs p) ≤ length xs
   cut-length-most = go (decLt (spot xs p) (length xs))
     where
-      go : Dec (spot xs p < length xs) → length (cut xs p) ≤ length xs
+      go : Dec (spot xs p < length xs) → length (omit xs p) ≤ length xs
       go (yes h) = let e = cut-length h in omega arith
       go (no h) = let m : length xs ≤ spot xs p = omega arith in omega (arith, ap length (cut-missing m))
 
@@ -133,7 +133,7 @@ module _ {l : Listing} (k : Kept l) (p : ℕ) where
     at-spot = at ∙ spot-entries
 
     -- the place is not there
-    pub cut-none : l .count ≤ i → l ≡ listing (cut (entriesOf l) p)
+    pub cut-none : l .count ≤ i → l ≡ listing (omit (entriesOf l) p)
     cut-none h =
         let e = at-spot in
         let n = length-entries k in
@@ -151,15 +151,15 @@ module _ {l : Listing} (k : Kept l) (p : ℕ) where
       here = let e = at-spot in let n = length-entries k in omega arith
 
       pub cut-one : {list : List ℕ} → list ≡ takeOut (l .list) (l .count) i
-          → record { list = list; count = l .count - 1 } ≡ listing (cut (entriesOf l) p)
-      unfolding cut
+          → record { list = list; count = l .count - 1 } ≡ listing (omit (entriesOf l) p)
+      unfolding omit
       cut-one e =
           let xs = entriesOf l in
           let a = padded-entries k in
           let b = length-entries k in
           let c = at-spot in
           let d : takeOut (l .list) (l .count) i ≡ takeOut (padded limit xs) (length xs) (spot xs p) = cc in
-          held (cut xs p) (e ∙ d ∙ take-out-padded limit xs (spot xs p) here (room-entries k)) (omega (arith, cut-length xs p here))
+          held (omit xs p) (e ∙ d ∙ take-out-padded limit xs (spot xs p) here (room-entries k)) (omega (arith, cut-length xs p here))
 
       pub strike-one : {list : List ℕ} → list ≡ swapOut (l .list) (l .count) i
           → record { list = list; count = l .count - 1 } ≡ listing (strike (entriesOf l) p)
@@ -213,7 +213,7 @@ pub record OneByOne (step : List ℕ → ℕ → List ℕ) (all : List ℕ → L
   pub more : (xs ps : List ℕ) (p : ℕ) → all xs (p ∷ ps) ≡ all (step xs p) ps
   pub most : (xs : List ℕ) (p : ℕ) → length (step xs p) ≤ length xs
 
-pub cut-each : OneByOne cut cutAll
+pub cut-each : OneByOne omit omitAll
 cut-each = record { none = λ xs. refl; more = λ xs ps p. refl; most = cut-length-most }
 
 pub strike-each : OneByOne strike strikeAll

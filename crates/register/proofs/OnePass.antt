@@ -10,7 +10,7 @@ use native.Mathlib.Decide.{decLt}
 use lib.ListN.{getD, set, length, take, drop, replicate, length-append, drop-of-length-le, List·getD-append}
 use lib.Seq.{take-suc, take-all, take-append-le, drop-append-le, getD-append-seam, getD-take, length-take-le}
 use Rattle.tree.proofs.Rows.{same?}
-use Rattle.tree.specs.ListSteps.{Names, cut, cutAll, push, spot}
+use Rattle.tree.specs.ListSteps.{Names, omit, omitAll, push, spot}
 use Rattle.tree.proofs.ListSteps.{Absent, spot-case, cut-absent, cut-fewer}
 use Rattle.lists.specs.Lists.{limit, padded, entries}
 use Rattle.lists.specs.Search.{indexOf}
@@ -41,8 +41,8 @@ module _ (y : ℕ) (xs : List ℕ) where
   push-front k b = List·getD-append xs (y ∷ []) 0 k b
 
   -- the last entry is cut out
-  cut-end : Absent y xs → cut (push xs y) y ≡ xs
-  unfolding cut
+  cut-end : Absent y xs → omit (push xs y) y ≡ xs
+  unfolding omit
   cut-end absent =
       let n = push-size in
       let s =
@@ -52,11 +52,11 @@ module _ (y : ℕ) (xs : List ℕ) where
       (append-nil (take (length xs) xs) ∙ take-all (length xs) xs (omega arith))
 
   -- another one is cut out before it
-  cut-front : (p : ℕ) → (p ≡ y → ⊥) → cut (push xs y) p ≡ push (cut xs p) y
-  unfolding cut
+  cut-front : (p : ℕ) → (p ≡ y → ⊥) → omit (push xs y) p ≡ push (omit xs p) y
+  unfolding omit
   cut-front p other = ⊎-elim (λ s. there (s .0) (s .1)) (λ a. cut-absent (push xs y) p (nowhere a) ∙ rw (cut-absent xs p a) refl) (spot-case xs p)
     where
-      there : spot xs p < length xs → getD xs (spot xs p) 0 ≡ p → cut (push xs y) p ≡ push (cut xs p) y
+      there : spot xs p < length xs → getD xs (spot xs p) 0 ≡ p → omit (push xs y) p ≡ push (omit xs p) y
       there b e =
           let k = spot xs p in
           let n = push-size in
@@ -77,7 +77,7 @@ module _ (y : ℕ) (xs : List ℕ) where
               let z : k ≡ length xs = omega arith in
               other (sym e ∙ ap (λ (i : ℕ). getD (push xs y) i 0) z ∙ getD-append-seam xs y [] 0)
 
-  cut-still : Absent y xs → (p : ℕ) → Absent y (cut xs p)
+  cut-still : Absent y xs → (p : ℕ) → Absent y (omit xs p)
   cut-still absent p =
       ⊎-elim
       (λ s k b e. let f = cut-fewer xs p (s .0) .stood k b in absent (f .0) (f .1) (sym (f .3) ∙ e))
@@ -86,22 +86,22 @@ module _ (y : ℕ) (xs : List ℕ) where
 
 -- ---- several places
 
-pub cut-all-keeps : (y : ℕ) (ps xs : List ℕ) → Absent y xs → (Names y ps → ⊥) → cutAll (push xs y) ps ≡ push (cutAll xs ps) y
+pub cut-all-keeps : (y : ℕ) (ps xs : List ℕ) → Absent y xs → (Names y ps → ⊥) → omitAll (push xs y) ps ≡ push (omitAll xs ps) y
 cut-all-keeps y [] xs absent none = refl
 cut-all-keeps y (p ∷ ps) xs absent none =
-    rw (cut-front y xs p (λ e. none (inl (sym e)))) (cut-all-keeps y ps (cut xs p) (cut-still y xs absent p) (λ n. none (inr n)))
+    rw (cut-front y xs p (λ e. none (inl (sym e)))) (cut-all-keeps y ps (omit xs p) (cut-still y xs absent p) (λ n. none (inr n)))
 
-pub cut-all-drops : (y : ℕ) (ps xs : List ℕ) → Absent y xs → Names y ps → cutAll (push xs y) ps ≡ cutAll xs ps
+pub cut-all-drops : (y : ℕ) (ps xs : List ℕ) → Absent y xs → Names y ps → omitAll (push xs y) ps ≡ omitAll xs ps
 cut-all-drops y [] xs absent named = absurd named
-cut-all-drops y (p ∷ ps) xs absent named = go (same? p y) named (cut-all-drops y ps (cut xs p) (cut-still y xs absent p))
+cut-all-drops y (p ∷ ps) xs absent named = go (same? p y) named (cut-all-drops y ps (omit xs p) (cut-still y xs absent p))
   where
-    go : (p ≡ y) ⊎ (p ≡ y → ⊥) → (y ≡ p) ⊎ Names y ps → (Names y ps → cutAll (push (cut xs p) y) ps ≡ cutAll (cut xs p) ps)
-        → cutAll (cut (push xs y) p) ps ≡ cutAll (cut xs p) ps
+    go : (p ≡ y) ⊎ (p ≡ y → ⊥) → (y ≡ p) ⊎ Names y ps → (Names y ps → omitAll (push (omit xs p) y) ps ≡ omitAll (omit xs p) ps)
+        → omitAll (omit (push xs y) p) ps ≡ omitAll (omit xs p) ps
     go (inl e) n ih = rw (e, cut-end y xs absent, cut-absent xs y absent) refl
     go (inr e) (inl n) ih = absurd (e (sym n))
     go (inr e) (inr n) ih = rw (cut-front y xs p e) (ih n)
 
-cut-all-none : (ps : List ℕ) → cutAll [] ps ≡ []
+cut-all-none : (ps : List ℕ) → omitAll [] ps ≡ []
 cut-all-none [] = refl
 cut-all-none (p ∷ ps) = rw (cut-absent [] p (λ k b e. omega arith)) (cut-all-none ps)
 
@@ -109,7 +109,7 @@ cut-all-none (p ∷ ps) = rw (cut-absent [] p (λ k b e. omega arith)) (cut-all-
 
 -- m is what the order leaves of the first i entries of xs
 abbrev pub Passed : (xs order : List ℕ) (count i : ℕ) → Listing → Type 0
-Passed xs order count i m = m ≡ listing (cutAll (take i xs) (entries count order))
+Passed xs order count i m = m ≡ listing (omitAll (take i xs) (entries count order))
 
 module _ (order : List ℕ) (count : ℕ) where
   abbrev ps : List ℕ
@@ -129,7 +129,7 @@ module _ (order : List ℕ) (count : ℕ) where
     y = getD (l .list) i 0
 
     abbrev zs : List ℕ
-    zs = cutAll (take i xs) ps
+    zs = omitAll (take i xs) ps
 
     inside : i < length xs
     inside = let n = length-entries kept in omega arith
@@ -169,5 +169,5 @@ module _ (order : List ℕ) (count : ℕ) where
         e ∙ rw (next, cut-all-drops y ps (take i xs) apart out) refl
 
   pub passed-all : {l m : Listing} → Kept l → {i : ℕ} → i ≡ l .count → Passed (entriesOf l) order count i m
-      → m ≡ listing (cutAll (entriesOf l) (entries count order))
+      → m ≡ listing (omitAll (entriesOf l) (entries count order))
   passed-all {l} kept {i} f e = e ∙ rw (take-all i (entriesOf l) (omega (arith, length-entries kept))) refl

@@ -5,7 +5,7 @@ use Prim.Native.Nat.{ℕ, _<_}
 use lib.ListN.{getD, length}
 use Rattle.lists.specs.Lists.{limit}
 
--- `cut_all`, `strike_all`: each entry is a place, and none stands twice
+-- `omit_all`, `strike_all`: each entry is a place, and none stands twice
 pub record Single (xs : List ℕ) : Type 0 where
   pub low : (k : ℕ) → k < length xs → getD xs k 0 < limit
   pub once : (j k : ℕ) → j < length xs → k < length xs → getD xs j 0 ≡ getD xs k 0 → j ≡ k

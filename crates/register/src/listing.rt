@@ -2,7 +2,7 @@
 ghost use mathlib.Core.Path.{_≡_};
 ghost use Prim.Native.Nat.{_<_, _≤_};
 ghost use Rattle.tree.specs.ListSteps as spec;
-ghost use Rattle.tree.specs.ListSteps.{berth, cutAll, strikeAll};
+ghost use Rattle.tree.specs.ListSteps.{berth, omitAll, strikeAll};
 ghost use Rattle.lists.specs.Lists.{limit, entries};
 ghost use Rattle.register.specs.Inner.{Single};
 ghost use Rattle.table.specs.Columns.{areasOf};
@@ -24,9 +24,9 @@ pub struct Listing {
 
 impl Listing {
     // The list without a place; what stood behind it moves up.
-    pub fn cut(self, place: u16) -> Listing
+    pub fn omit(self, place: u16) -> Listing
         requires { ⌜ Kept self ⌝ }
-        ensures { λ r. ⌜ r ≡ listing (spec.cut (entriesOf self) place) ⌝ }
+        ensures { λ r. ⌜ r ≡ listing (spec.omit (entriesOf self) place) ⌝ }
     {
         let mut list = self.list;
         let count = self.count;
@@ -71,11 +71,11 @@ impl Listing {
         }
     }
 
-    // Several places are cut out, one after the other: those at the first `count` entries of the order. As no place stands twice in the list, one
+    // Several places are left out, one after the other: those at the first `count` entries of the order. As no place stands twice in the list, one
     // pass that leaves them out does it.
-    pub fn cut_all(self, order: &[u16; LIMIT], count: usize) -> Listing
+    pub fn omit_all(self, order: &[u16; LIMIT], count: usize) -> Listing
         requires { ⌜ Kept self × (count ≤ limit) × Single (entriesOf self) ⌝ }
-        ensures { λ r. ⌜ r ≡ listing (cutAll (entriesOf self) (entries count (now (order .entry)))) ⌝ }
+        ensures { λ r. ⌜ r ≡ listing (omitAll (entriesOf self) (entries count (now (order .entry)))) ⌝ }
     {
         let old = self.list;
         let n = self.count;

@@ -14,7 +14,7 @@ use Rattle.tree.specs.Tree.{Tree, At, count}
 use Rattle.tree.specs.Sound.{Sound}
 use Rattle.tree.specs.Removal.{remove, cleared}
 use Rattle.tree.specs.Apart.{Removable}
-use Rattle.tree.specs.ListSteps.{cutAll, strikeAll}
+use Rattle.tree.specs.ListSteps.{omitAll, strikeAll}
 use Rattle.tree.specs.Pieces.{FreeList, RemovableList}
 use Rattle.tree.specs.Family.{newPlace}
 use Rattle.tree.proofs.Rows.{at-in}
@@ -47,10 +47,10 @@ module _ (settings : Settings) (t : List Node) (w : Tree) (sound : Sound limit s
   left-fewer =
       omega (arith, cleared-count limit settings w sound x (at-in x (z .piece) w (z .there)) (z .below), sound .room)
 
-  pub free-room : (xs : List ℕ) → FreeList w xs → length (cutAll xs (going t x w)) < limit
+  pub free-room : (xs : List ℕ) → FreeList w xs → length (omitAll xs (going t x w)) < limit
   free-room xs f =
       let g = cleared-free limit settings t w sound h x z xs f in
-      omega (arith, holding-most _ (cleared x w) (cutAll xs (going t x w)) (g .holding), left-fewer)
+      omega (arith, holding-most _ (cleared x w) (omitAll xs (going t x w)) (g .holding), left-fewer)
 
   pub removable-room : (ys : List ℕ) → RemovableList w ys → length (strikeAll ys (going t x w)) < limit
   removable-room ys f =

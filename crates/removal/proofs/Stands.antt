@@ -14,7 +14,7 @@ use Rattle.tree.specs.Removal.{cleared, remove}
 use Rattle.tree.specs.Apart.{Removable}
 use Rattle.tree.specs.Sound.{Sound}
 use Rattle.tree.specs.Steps.{Marked}
-use Rattle.tree.specs.ListSteps.{cutAll, put, strikeAll}
+use Rattle.tree.specs.ListSteps.{omitAll, put, strikeAll}
 use Rattle.tree.specs.Pieces.{piecesOf, Holding, FreeList, RemovableList, maxSerial}
 use Rattle.tree.specs.Family.{newPlace}
 use Rattle.tree.specs.Enrolment.{removedList}
@@ -35,7 +35,7 @@ use Rattle.register.specs.Listings.{areaIn, entriesOf}
 use Rattle.register.specs.Standing.{Stands}
 use Rattle.register.proofs.Listed.{entries-listing, kept-listing}
 use Rattle.register.proofs.HoldingSteps.{holding-most, holding-single}
-use Rattle.removal.specs.Remove.{newFree, returned, removedFrom, removed}
+use Rattle.removal.specs.Remove.{newFree, returned, removedFrom, removedNodes}
 use Rattle.removal.specs.Inner.{Clearable}
 use Rattle.removal.proofs.Pieces.{goes, parent-low, last-low}
 use Rattle.removal.proofs.Serials.{remove-serials}
@@ -89,7 +89,7 @@ module _ (settings : Settings) (last : ℕ) (w : Tree) (n : LayoutNodes) (stands
       rw datum (remove-sound limit settings (n .nodes) w (stands .sound) (stands .holds) x z place (last + 1) place-low place-new)
 
   abbrev frees : List ℕ
-  frees = put (areaIn table) (cutAll (entriesOf (n .free)) g) place
+  frees = put (areaIn table) (omitAll (entriesOf (n .free)) g) place
 
   free-is : FreeList after frees
   free-is =
@@ -133,8 +133,8 @@ module _ (settings : Settings) (last : ℕ) (w : Tree) (n : LayoutNodes) (stands
       small = new-small settings (n .nodes) w (stands .sound) (stands .holds) x z last
 
   -- all stands again
-  pub remove-stands : Stands settings (last + 1) after (removed n g x last .nodes)
-  unfolding removed removedFrom
+  pub remove-stands : Stands settings (last + 1) after (removedNodes n g x last .nodes)
+  unfolding removedNodes removedFrom
   remove-stands =
       rw place-is
       (record {
@@ -148,12 +148,12 @@ module _ (settings : Settings) (last : ℕ) (w : Tree) (n : LayoutNodes) (stands
             remove-serials limit settings (n .nodes) w (stands .sound) (stands .holds) x z place last place-new (stands .serials) spent;
       })
 
-  pub remove-place : removed n g x last .place ≡ place
-  unfolding removed removedFrom
+  pub remove-place : removedNodes n g x last .place ≡ place
+  unfolding removedNodes removedFrom
   remove-place = place-is
 
-  pub remove-list : entriesOf (removed n g x last .nodes .removable) ≡ removedList limit x w (entriesOf (n .removable))
-  unfolding removed removedFrom
+  pub remove-list : entriesOf (removedNodes n g x last .nodes .removable) ≡ removedList limit x w (entriesOf (n .removable))
+  unfolding removedNodes removedFrom
   remove-list =
       entries-listing solids
       ∙ returned-is settings (n .nodes) w (stands .sound) (stands .holds) x z (entriesOf (n .removable)) (stands .removable) place last place-new

@@ -16,7 +16,7 @@ use Rattle.piece.specs.Kinds.{isFree, isPart}
 use Rattle.tree.specs.Tree.{Tree, Distinct, count, isNil, after}
 use Rattle.tree.specs.Sound.{Sound}
 use Rattle.tree.specs.Figures as figures
-use Rattle.tree.specs.Removal.{freed, board, lastFree, withoutLast, settled, remove, cleared, removed, subtree}
+use Rattle.tree.specs.Removal.{freed, board, lastFree, withoutLast, settled, remove, cleared, removedNumbers, subtree}
 use Rattle.tree.specs.Apart.{Removable}
 use Rattle.tree.specs.Steps.{Kids, leaving}
 use Rattle.tree.proofs.Kids.{put, put-here, put-left, put-right, kids-in}
@@ -30,7 +30,7 @@ use Rattle.walks.specs.Along.{numberAt, numbersAlong}
 use Rattle.walks.proofs.Meaning.{length-order}
 use Rattle.walks.proofs.Entries.{gathered-append}
 use Rattle.walks.proofs.Along.{Shown, rep-shown, sound-ends, length-numbers, parts-most, numbers-removed}
-use Rattle.removal.specs.Going.{partArea, areaAlong}
+use Rattle.removal.specs.Going.{areaIfPart, areaAlong}
 use Rattle.removal.proofs.Row.{RowOf, whole, row-of}
 use Rattle.removal.proofs.Goes.{leaving-is}
 
@@ -157,7 +157,7 @@ module _ (limit : ℕ) (settings : Settings) (t : List Node) (w : Tree) (sound :
   removed-area n s =
       omega (
         arith,
-        sum-removed t partArea figures.partArea (areaAlong t) refl (λ p e k r. refl) refl (λ p ps. refl) limit x (z .piece) w h o n s,
+        sum-removed t areaIfPart figures.partArea (areaAlong t) refl (λ p e k r. refl) refl (λ p ps. refl) limit x (z .piece) w h o n s,
       )
 
   -- what goes is at most what there is
@@ -165,13 +165,13 @@ module _ (limit : ℕ) (settings : Settings) (t : List Node) (w : Tree) (sound :
   going-most = omega (arith, left-count, sound .room)
 
   -- the numbers that come out are those of the subtree
-  pub removed-numbers : numbersAlong t (going t x w) ≡ removed x w
+  pub removed-numbers : numbersAlong t (going t x w) ≡ removedNumbers x w
   removed-numbers =
       gathered-append (numberAt t) (leaving (subtree x w)) (freeLastPlace t (at t x .parent))
       ∙ rw (← leaving-is (subtree x w), end-numberless t (at t x .parent), append-nil (numbersAlong t (childrenFirst (subtree x w))))
       (numbers-removed limit t w h x (sound-ends limit settings w sound))
 
-  pub removed-few : length (removed x w) ≤ limit
+  pub removed-few : length (removedNumbers x w) ≤ limit
   removed-few =
       let u = subtree x w in
       omega (

@@ -10,7 +10,7 @@ use lib.ListN.{getD}
 use Rattle.table.specs.declared.Node.{Node}
 use Rattle.table.specs.Table.{at, unlink}
 use Rattle.table.specs.Steps.{unlinkAll}
-use Rattle.removal.specs.Going.{areaAlong, partArea}
+use Rattle.removal.specs.Going.{areaAlong, areaIfPart}
 use Rattle.removal.specs.Inner.{Goes}
 use Rattle.lists.specs.Lists.{entries}
 
@@ -53,7 +53,7 @@ module _ (t : List Node) where
 
   module _ (l : List ℕ) where
     abbrev areaOf : ℕ → ℕ
-    areaOf i = partArea (at t (getD l i 0) .datum)
+    areaOf i = areaIfPart (at t (getD l i 0) .datum)
 
     pub area-more : (i : ℕ) → areaAlong t (entries (i + 1) l) ≡ areaAlong t (entries i l) + areaOf i
     unfolding entries

@@ -21,10 +21,10 @@ abbrev pub places : Going → List ℕ
 places g = entries (g .count) (g .order)
 
 -- the area of a part; another piece has none
-abbrev pub partArea : Datum → ℕ
-partArea d = cond (isPart (d .kind)) (area (d .size)) 0
+abbrev pub areaIfPart : Datum → ℕ
+areaIfPart d = cond (isPart (d .kind)) (area (d .size)) 0
 
 -- the areas of the parts along an order
 abbrev pub areaAlong : List Node → List ℕ → ℕ
 areaAlong t [] = 0
-areaAlong t (p ∷ ps) = partArea (at t p .datum) + areaAlong t ps
+areaAlong t (p ∷ ps) = areaIfPart (at t p .datum) + areaAlong t ps

@@ -3,7 +3,7 @@ use mathlib.Core.List.{List, [], _∷_}
 use Prim.Native.Nat.{ℕ, _≤_, _<_}
 use lib.ListN.{length}
 use Rattle.lists.specs.Lists.{limit}
-use Rattle.tree.specs.ListSteps.{cutAll, strikeAll}
+use Rattle.tree.specs.ListSteps.{omitAll, strikeAll}
 use Rattle.table.specs.declared.Node.{Node}
 use Rattle.table.specs.Table.{at, unlink}
 use Rattle.table.specs.Steps.{unlinkAll}
@@ -29,7 +29,7 @@ pub record Clearable (n : LayoutNodes) (g : List ℕ) (x last : ℕ) : Type 0 wh
   pub removableSingle : Single (entriesOf (n .removable))
   pub goes : Goes limit (n .nodes) g
   pub some : lowestFrom limit (unlinkAll limit (n .nodes) g) 0 < limit
-  pub freeRoom : length (cutAll (entriesOf (n .free)) g) < limit
+  pub freeRoom : length (omitAll (entriesOf (n .free)) g) < limit
   pub removableRoom : length (strikeAll (entriesOf (n .removable)) g) < limit
   pub wide : newFree (n .nodes) x last .size .width ≤ 4294967295
   pub tall : newFree (n .nodes) x last .size .height ≤ 4294967295

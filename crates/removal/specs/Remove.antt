@@ -8,7 +8,7 @@ use lib.Dec.{leb}
 use Rattle.piece.specs.declared.node.Datum.{Datum}
 use Rattle.piece.specs.Kinds.{isFree}
 use Rattle.tree.specs.Removal.{freed, board}
-use Rattle.tree.specs.ListSteps.{cutAll, push, put, strike, strikeAll}
+use Rattle.tree.specs.ListSteps.{omitAll, push, put, strike, strikeAll}
 use Rattle.table.specs.declared.Node.{Node}
 use Rattle.table.specs.Table.{at, append}
 use Rattle.table.specs.Steps.{freeLastDatum, unlinkAll}
@@ -39,11 +39,11 @@ removedFrom n left g x last =
     record {
       nodes = record {
         nodes = t;
-        free = listing (put (areaIn t) (cutAll (entriesOf (n .free)) g) p);
+        free = listing (put (areaIn t) (omitAll (entriesOf (n .free)) g) p);
         removable = listing (returned (at left q) q (strikeAll (entriesOf (n .removable)) g));
       };
       place = p;
     }
 
-unfoldable pub removed : LayoutNodes → List ℕ → (x last : ℕ) → Cleared
-removed n g x last = removedFrom n (unlinkAll limit (n .nodes) g) g x last
+unfoldable pub removedNodes : LayoutNodes → List ℕ → (x last : ℕ) → Cleared
+removedNodes n g x last = removedFrom n (unlinkAll limit (n .nodes) g) g x last

@@ -4,14 +4,14 @@ ghost use Prim.Native.Nat.{_+_, _≤_, _<_};
 ghost use Rattle.lists.specs.Lists.{limit};
 ghost use lib.ListN.{length};
 ghost use Rattle.tree.specs.Removal.{board, freed, joined};
-ghost use Rattle.tree.specs.ListSteps.{cutAll, put, strikeAll};
+ghost use Rattle.tree.specs.ListSteps.{omitAll, put, strikeAll};
 ghost use Rattle.table.specs.Steps.{unlinkAll};
 ghost use Rattle.walks.specs.Inner.{Placed};
 ghost use Rattle.register.specs.Listings.{Kept, areaIn, entriesOf, listing};
 ghost use Rattle.register.specs.Inner.{Single};
-ghost use Rattle.removal.specs.Going.{areaAlong, partArea, places};
+ghost use Rattle.removal.specs.Going.{areaAlong, areaIfPart, places};
 ghost use Rattle.removal.specs.Inner.{Goes, Clearable};
-ghost use Rattle.removal.specs.Remove.{ifFree, removed, returned};
+ghost use Rattle.removal.specs.Remove.{ifFree, removedNodes, returned};
 use crate::going::Going;
 use piece::node::Datum;
 use piece::node::Kind;
@@ -81,7 +81,7 @@ fn unlink_all(nodes: [Node; LIMIT], g: Going) -> [Node; LIMIT]
 
 // The area of a part; another piece has none.
 fn part_area(d: Datum) -> u64
-    ensures { λ r. ⌜ r ≡ partArea d ⌝ }
+    ensures { λ r. ⌜ r ≡ areaIfPart d ⌝ }
 {
     let kind = d.kind;
     let size = d.size;
@@ -160,13 +160,13 @@ fn new_free(d: Datum, end: Datum, last: u32) -> Datum
 
 // The free list without the pieces that go and with the new one, which stands at `place` of the table.
 fn free_list(free: Listing, g: Going, nodes: [Node; LIMIT], place: u16) -> Listing
-    requires { ⌜ Kept free × (g .count ≤ limit) × (length (cutAll (entriesOf free) (places g)) < limit)
+    requires { ⌜ Kept free × (g .count ≤ limit) × (length (omitAll (entriesOf free) (places g)) < limit)
         × Single (entriesOf free) ⌝ }
-    ensures { λ r. ⌜ r ≡ listing (put (areaIn nodes) (cutAll (entriesOf free) (places g)) place) ⌝ }
+    ensures { λ r. ⌜ r ≡ listing (put (areaIn nodes) (omitAll (entriesOf free) (places g)) place) ⌝ }
 {
     let order = g.order;
     let count = g.count;
-    let shorter = free.cut_all(&order, count);
+    let shorter = free.omit_all(&order, count);
     let areas = areas_of(nodes);
     shorter.put(&areas, place)
 }
@@ -190,7 +190,7 @@ fn removable_list(removable: Listing, g: Going, parent: Node, q: u16) -> Listing
 // The piece at x goes, where g is what goes with it, and one free piece comes at the end of its row: it has the serial after `last`.
 pub fn remove(n: LayoutNodes, g: Going, x: u16, last: u32) -> Cleared
     requires { ⌜ (g .count ≤ limit) × Clearable n (places g) x last ⌝ }
-    ensures { λ r. ⌜ r ≡ removed n (places g) x last ⌝ }
+    ensures { λ r. ⌜ r ≡ removedNodes n (places g) x last ⌝ }
 {
     let old = n.nodes;
     let old_free = n.free;

@@ -13,7 +13,7 @@ use Rattle.layout.specs.SoundLayout.{SoundLayout}
 use Rattle.walks.specs.declared.columns.Columns.{Columns}
 use Rattle.walks.specs.Columns.{columnsOf}
 use Rattle.saw.specs.declared.cut.Cut.{Cut}
-use Rattle.saw.specs.Cuts.{cuts, bytesOf}
+use Rattle.saw.specs.Cuts.{cuts, bytesOfCuts}
 use Rattle.saw.specs.Listed.{listedIn}
 use Rattle.saw.specs.Written.{sawBytes}
 use Rattle.saw.proofs.Meaning.{listed-tree}
@@ -31,9 +31,9 @@ module _ (l : Layout) (s : SoundLayout l) {c : Columns} (e : c ≡ columnsOf (l 
       ap (cutsIn l) e ∙ listed-tree limit (l .settings) (l .nodes) (tree l) (l .held) (s .sound) (s .holds) (omega (arith, s .held))
 
   -- the bytes of what is listed are to be written
-  bytes-are : bytesOf (cutsIn l c) ≡ sawBytes l
+  bytes-are : bytesOfCuts (cutsIn l c) ≡ sawBytes l
   unfolding sawBytes
-  bytes-are = ap bytesOf cuts-are
+  bytes-are = ap bytesOfCuts cuts-are
 
   pub saw-room : length (cutsIn l c) ≤ limit
   saw-room = omega (arith, ap length cuts-are, cuts-most (tree l) (s .sound), s .sound .room)
@@ -42,9 +42,9 @@ module _ (l : Layout) (s : SoundLayout l) {c : Columns} (e : c ≡ columnsOf (l 
   saw-length = sym (ap length bytes-are) ∙ length-bytes (cutsIn l c)
 
   -- they stand first in what the routine left of the list b
-  pub saw-stored : (b list : List ℕ) (n : ℕ) → 9 * limit ≤ length b → list ≡ sets b 0 (bytesOf (cutsIn l c)) → n ≡ length (cutsIn l c)
+  pub saw-stored : (b list : List ℕ) (n : ℕ) → 9 * limit ≤ length b → list ≡ sets b 0 (bytesOfCuts (cutsIn l c)) → n ≡ length (cutsIn l c)
       → take (9 * n) list ≡ sawBytes l
   saw-stored b list n room wrote counted =
       ap (take (9 * n)) wrote
-      ∙ take-stored (bytesOf (cutsIn l c)) b (9 * n) (omega (arith, length-bytes (cutsIn l c))) (omega (arith, saw-room))
+      ∙ take-stored (bytesOfCuts (cutsIn l c)) b (9 * n) (omega (arith, length-bytes (cutsIn l c))) (omega (arith, saw-room))
       ∙ bytes-are

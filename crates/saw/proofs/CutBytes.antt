@@ -6,17 +6,17 @@ use native.Mathlib.Omega.{arith}
 use lib.ListN.{length, set}
 use lib.Seq.{sets}
 use Rattle.piece.specs.Numbers.{cutNo}
-use Rattle.tree.specs.Snapshot.{two, four}
+use Rattle.tree.specs.Snapshot.{twoThen, fourThen}
 use Rattle.lists.proofs.Fill.{sets-append}
 use Rattle.saw.specs.declared.cut.Cut.{Cut}
-use Rattle.saw.specs.Cuts.{cutBytes, bytesOf}
+use Rattle.saw.specs.Cuts.{cutBytes, bytesOfCuts}
 
 -- a cut's, one after the other: its place, way and distance, and then the two kinds
 pub cut-stored : (l : List ℕ) (x : ℕ) (c : Cut) (w : ℕ) (l₁ l₂ : List ℕ)
-    → l₁ ≡ sets l x (two (c .place) [])
+    → l₁ ≡ sets l x (twoThen (c .place) [])
     → w ≡ cutNo (c .way)
-    → l₂ ≡ sets (set l₁ (x + 2) w) (x + 3) (four (c .distance) [])
-    → set (set l₂ (x + 7) (c .piece)) (x + 8) (c .left) ≡ sets l x (cutBytes c [])
+    → l₂ ≡ sets (set l₁ (x + 2) w) (x + 3) (fourThen (c .distance) [])
+    → set (set l₂ (x + 7) (c .piece)) (x + 8) (c .remainder) ≡ sets l x (cutBytes c [])
 unfolding cutBytes
 cut-stored l x c w l₁ l₂ place is-way distance =
     let e₂ : x + 2 ≡ suc (suc x) = omega arith in
@@ -25,19 +25,19 @@ cut-stored l x c w l₁ l₂ place is-way distance =
     let e₈ : x + 8 ≡ suc (suc (suc (suc (suc (suc (suc (suc x))))))) = omega arith in
     rw (distance, place, is-way, e₂, e₃, e₇, e₈) refl
 
-pub length-bytes : (cs : List Cut) → length (bytesOf cs) ≡ 9 * length cs
-unfolding bytesOf cutBytes
+pub length-bytes : (cs : List Cut) → length (bytesOfCuts cs) ≡ 9 * length cs
+unfolding bytesOfCuts cutBytes
 length-bytes [] = refl
 length-bytes (c ∷ cs) = let h = length-bytes cs in omega arith
 
-bytes-append : (cs ds : List Cut) → bytesOf (cs ++ ds) ≡ bytesOf cs ++ bytesOf ds
-unfolding bytesOf cutBytes
+bytes-append : (cs ds : List Cut) → bytesOfCuts (cs ++ ds) ≡ bytesOfCuts cs ++ bytesOfCuts ds
+unfolding bytesOfCuts cutBytes
 bytes-append [] ds = refl
 bytes-append (c ∷ cs) ds = rw (bytes-append cs ds) refl
 
 -- cuts written after n cuts, and others behind them, are all of them written after n
 pub bytes-written : (cs ds : List Cut) (l : List ℕ) (n : ℕ)
-    → sets (sets l (9 * n) (bytesOf cs)) (9 * (n + length cs)) (bytesOf ds) ≡ sets l (9 * n) (bytesOf (cs ++ ds))
+    → sets (sets l (9 * n) (bytesOfCuts cs)) (9 * (n + length cs)) (bytesOfCuts ds) ≡ sets l (9 * n) (bytesOfCuts (cs ++ ds))
 bytes-written cs ds l n =
-    let e : 9 * (n + length cs) ≡ 9 * n + length (bytesOf cs) = omega (arith, length-bytes cs) in
-    rw (e, bytes-append cs ds) (sym (sets-append (bytesOf cs) (bytesOf ds) l (9 * n)))
+    let e : 9 * (n + length cs) ≡ 9 * n + length (bytesOfCuts cs) = omega (arith, length-bytes cs) in
+    rw (e, bytes-append cs ds) (sym (sets-append (bytesOfCuts cs) (bytesOfCuts ds) l (9 * n)))

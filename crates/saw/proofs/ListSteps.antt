@@ -10,8 +10,8 @@ use lib.Seq.{sets, length-sets}
 use Rattle.piece.specs.declared.orientation.Orientation.{Orientation}
 use Rattle.piece.specs.Sides.{other}
 use Rattle.saw.specs.declared.cut.Cut.{Cut}
-use Rattle.saw.specs.Cuts.{cutBytes, bytesOf}
-use Rattle.saw.specs.Listed.{sidesIn, restOf, leftIn, cutBefore, listed}
+use Rattle.saw.specs.Cuts.{cutBytes, bytesOfCuts}
+use Rattle.saw.specs.Listed.{sidesIn, restOf, leftAlong, cutBefore, cutsListed}
 use Rattle.saw.proofs.CutBytes.{bytes-written}
 
 -- ---- what a routine asks, and what it does
@@ -22,20 +22,20 @@ Room limit cs place n out = (place ≤ n) × (n + length cs ≤ limit) × (9 * (
 
 -- they are written there, and counted
 abbrev Done : List Cut → ℕ → List ℕ → List ℕ → ℕ → Type 0
-Done cs n out after m = (after ≡ sets out (9 * n) (bytesOf cs)) × (m ≡ n + length cs)
+Done cs n out after m = (after ≡ sets out (9 * n) (bytesOfCuts cs)) × (m ≡ n + length cs)
 
 none-done : {cs : List Cut} (n : ℕ) (out : List ℕ) → cs ≡ [] → Done cs n out out n
-unfolding bytesOf
+unfolding bytesOfCuts
 none-done n out e = rw e (refl, omega arith)
 
 -- a cut, those below it, and those of the rest, one after the other
 all-done : (c : Cut) (ds es : List Cut) (n : ℕ) (out : List ℕ) {out₁ out₂ after : List ℕ} {m q : ℕ} → out₁ ≡ sets out (9 * n) (cutBytes c [])
     → Done ds (n + 1) out₁ out₂ m → Done es m out₂ after q → Done (c ∷ (ds ++ es)) n out after q
-unfolding bytesOf
+unfolding bytesOfCuts
 all-done c ds es n out {m} cut lower rest =
     let e : m ≡ n + length (c ∷ ds) = omega (arith, lower .1) in (
       rw (rest .0, lower .0, cut, e)
-          (ap (λ (l : List ℕ). sets l (9 * (n + length (c ∷ ds))) (bytesOf es)) (bytes-written (c ∷ []) ds out n)
+          (ap (λ (l : List ℕ). sets l (9 * (n + length (c ∷ ds))) (bytesOfCuts es)) (bytes-written (c ∷ []) ds out n)
           ∙ bytes-written (c ∷ ds) es out n),
       omega (arith, length-append ds es, lower .1, rest .1),
     )
@@ -53,7 +53,7 @@ pub record Lent : Type 0 where
 
 -- what a call of this way lists of them
 abbrev listedOf : Lent → Orientation → (left i c : ℕ) → List Cut
-listedOf l way left i c = listed (l .limit) (l .first) (l .next) (l .kind) (l .width) (l .height) way left i c
+listedOf l way left i c = cutsListed (l .limit) (l .first) (l .next) (l .kind) (l .width) (l .height) way left i c
 
 -- a call: its way, its arguments, and what it asked. The calls in it have less than t left.
 pub record Call : Type 0 where
@@ -95,14 +95,14 @@ behind s = s .call .place + (1 + length (inner (s .call)))
 
 -- the cut that takes the piece off, where k is the kind of what is left
 abbrev one : Call → ℕ → Cut
-one s k = record { place = s .place; way = s .way; distance = getD (sides s) (s .c) 0; piece = getD (s .lent .kind) (s .c) 0; left = k }
+one s k = record { place = s .place; way = s .way; distance = getD (sides s) (s .c) 0; piece = getD (s .lent .kind) (s .c) 0; remainder = k }
 
 -- that cut is written
 pub record Off : Type 0 where
   pub here : Here
   pub more : here .r < here .call .lent .limit
   pub k : ℕ
-  pub kinds : k ≡ leftIn (here .call .lent .limit) (here .call .lent .next) (here .call .lent .kind) (sides (here .call)) (here .r)
+  pub kinds : k ≡ leftAlong (here .call .lent .limit) (here .call .lent .next) (here .call .lent .kind) (sides (here .call)) (here .r)
   pub out : List ℕ
   pub cut : out ≡ sets (here .call .out) (9 * here .call .n) (cutBytes (one (here .call) k) [])
 
@@ -117,11 +117,11 @@ pub record Under : Type 0 where
 
 -- nothing is left, or there is no piece at c
 pub none-left : (s : Call) → s .left ≡ 0 → Done (all s) (s .n) (s .out) (s .out) (s .n)
-unfolding listed
+unfolding cutsListed
 none-left s e = none-done (s .n) (s .out) (rw e refl)
 
 list-past : (s : Call) (left i c : ℕ) → s .lent .limit ≤ c → listedOf (s .lent) (s .way) left i c ≡ []
-unfolding listed
+unfolding cutsListed
 list-past s zero i c h = refl
 list-past s (suc l) i c h = rw (le-leb (s .lent .limit) c h) refl
 
@@ -140,7 +140,7 @@ rowOf s left r =
 
 list-on : (s : Call) (left : ℕ) → s .c < s .lent .limit
     → listedOf (s .lent) (s .way) (suc left) (s .place) (s .c) ≡ rowOf s left (restOf (s .lent .limit) (s .lent .next) (sides s) (s .c))
-unfolding listed
+unfolding cutsListed
 list-on s left h = rw (lt-leb (s .lent .limit) (s .c) h) refl
 
 list-from : (s : Call) (left r : ℕ) → (left ≡ 0 → ⊥) → s .c < s .lent .limit → r ≡ restOf (s .lent .limit) (s .lent .next) (sides s) (s .c)
@@ -170,7 +170,7 @@ module _ (s : Here) where
   last-done h d = rw (list-last h) d
 
   -- the piece is cut off; then come the cuts below it, and those of the rest
-  list-more : (k p : ℕ) → s .r < a .lent .limit → k ≡ leftIn (a .lent .limit) (a .lent .next) (a .lent .kind) (sides a) (s .r) → p ≡ behind s
+  list-more : (k p : ℕ) → s .r < a .lent .limit → k ≡ leftAlong (a .lent .limit) (a .lent .next) (a .lent .kind) (sides a) (s .r) → p ≡ behind s
       → all a ≡ one a k ∷ (inner a ++ later s p)
   list-more k p h e f = list-row ∙ rw (lt-leb (a .lent .limit) (s .r) h, e, f) refl
 

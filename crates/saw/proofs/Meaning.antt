@@ -31,7 +31,7 @@ use Rattle.table.specs.Table.{zeroNode, at, head, Rep, Holds}
 use Rattle.walks.specs.Columns.{firstsOf, nextsOf, kindsOf, widthsOf, heightsOf, columnsOf}
 use Rattle.saw.specs.Saw.{side}
 use Rattle.saw.specs.Cuts.{isEmpty, withoutEmpty, leftNo, cutOff, rowCuts, cuts}
-use Rattle.saw.specs.Listed.{sidesIn, restOf, leftIn, cutBefore, listed, listedIn}
+use Rattle.saw.specs.Listed.{sidesIn, restOf, leftAlong, cutBefore, cutsListed, listedIn}
 use Rattle.saw.proofs.Slices.{sided-side}
 use Rattle.saw.proofs.Fills.{count-kept, empty-gone, piece-sided}
 
@@ -57,7 +57,7 @@ Seen limit t way (grow p d k r) = Piece limit t way p d k r × Seen limit t (oth
 module _ (limit : ℕ) (t : List Node) where
   -- the kind of what is left
   left-seen : (way : Orientation) (p : ℕ) (d : Datum) (k r : Tree) → Piece limit t way p d k r → Seen limit t way r
-      → leftIn limit (nextsOf t) (kindsOf t) (sidesOf way t) p ≡ leftNo d r
+      → leftAlong limit (nextsOf t) (kindsOf t) (sidesOf way t) p ≡ leftNo d r
   left-seen way p d k nil e f = rw (e .rest, le-leb limit limit (le-refl limit)) (e .kind)
   left-seen way p d k (grow x g y z) e f = rw (e .rest, lt-leb limit x (f .0 .placed)) refl
 
@@ -73,7 +73,7 @@ module _ (limit : ℕ) (t : List Node) where
       → listedIn limit (columnsOf t) (other way) m i (head limit k) ≡ rowCuts (other way) i k
       → ((j : ℕ) → listedIn limit (columnsOf t) way m j (head limit r) ≡ rowCuts way j r)
       → listedIn limit (columnsOf t) way (suc m) i p ≡ rowCuts way i (grow p d k r)
-  unfolding listed rowCuts
+  unfolding cutsListed rowCuts
   piece-seen way m i p d k r e f below behind =
       rw (
         lt-leb limit p (e .placed),
@@ -86,7 +86,7 @@ module _ (limit : ℕ) (t : List Node) where
       refl
 
   none-seen : (way : Orientation) (n i : ℕ) → listedIn limit (columnsOf t) way n i limit ≡ rowCuts way i nil
-  unfolding listed rowCuts
+  unfolding cutsListed rowCuts
   none-seen way zero i = refl
   none-seen way (suc m) i = rw (le-leb limit limit (le-refl limit)) refl
 

@@ -17,9 +17,9 @@ use Rattle.piece.specs.Row.{nil, grow}
 use Rattle.tree.specs.Tree.{Tree, count}
 use Rattle.tree.specs.Sound.{Sound}
 use Rattle.saw.specs.declared.cut.Cut.{Cut}
-use Rattle.saw.specs.Saw.{side, slice, withArea, halves, cutsB, onward, sawAt, saw}
+use Rattle.saw.specs.Saw.{side, slice, withArea, halves, cutsB, andThen, sawAt, saw}
 use Rattle.saw.specs.Cuts.{withoutEmpty, cutOff, rowCuts, cuts, boards}
-use Rattle.saw.specs.Sawyer.{Piece, called, sizes, mayCut, parted, sawyerAt, sawyer, nestedIn, uncut}
+use Rattle.saw.specs.Sawyer.{Piece, namedBy, sizes, mayCut, parted, sawyerAt, sawyer, nestedIn, uncut}
 use Rattle.saw.proofs.Fills.{count-kept}
 use Rattle.saw.proofs.Truly.{tree-makes, sawyer-believes}
 
@@ -31,16 +31,16 @@ Does none o = Unit {0}
 Does (some pile) o = o ≡ some (sizes pile)
 
 does-onward : (p : Option (List Piece)) (o : Option (List Size)) (f : List Piece → Option (List Piece)) (g : List Size → Option (List Size))
-    → Does p o → ((pile : List Piece) → Does (f pile) (g (sizes pile))) → Does (onward p f) (onward o g)
+    → Does p o → ((pile : List Piece) → Does (f pile) (g (sizes pile))) → Does (andThen p f) (andThen o g)
 does-onward none o f g h then = tt
-does-onward (some pile) o f g h then = subst⁻¹ (λ (q : Option (List Size)). Does (f pile) (onward q g)) h (then pile)
+does-onward (some pile) o f g h then = subst⁻¹ (λ (q : Option (List Size)). Does (f pile) (andThen q g)) h (then pile)
 
-sizes-called : (n : ℕ) (way : Orientation) (l : List Size) → sizes (map (called n way) l) ≡ l
+sizes-called : (n : ℕ) (way : Orientation) (l : List Size) → sizes (map (namedBy n way) l) ≡ l
 sizes-called n way [] = refl
 sizes-called n way (s ∷ l) = ap (λ (r : List Size). s ∷ r) (sizes-called n way l)
 
 sizes-two : (way : Orientation) (n m : ℕ) (near far : List Size) (pile : List Piece)
-    → sizes ((map (called n way) near ++ map (called m way) far) ++ pile) ≡ (near ++ far) ++ sizes pile
+    → sizes ((map (namedBy n way) near ++ map (namedBy m way) far) ++ pile) ≡ (near ++ far) ++ sizes pile
 sizes-two way n m near far pile = simp (map-append, sizes-called)
 
 does-cut : (may can : Bool) (p : List Piece) (q : List Size) → sizes p ≡ q → Does (cond (may && can) (some p) none) (cond can (some q) none)
@@ -52,7 +52,7 @@ does-at : (nested : Bool) (c : Cut) (i : ℕ) (pile : List Piece) → Does (sawy
 does-at nested c i [] = tt
 does-at nested c zero (x ∷ pile) =
     does-cut (mayCut nested (c .way) x) (cutsB c (x .size)) (parted c (x .size) ++ pile) (halves c (x .size) ++ sizes pile)
-    (sizes-two (c .way) (c .piece) (c .left) (withArea (slice (c .way) (c .distance) (x .size)))
+    (sizes-two (c .way) (c .piece) (c .remainder) (withArea (slice (c .way) (c .distance) (x .size)))
     (withArea (slice (c .way) (side (c .way) (x .size) - c .distance) (x .size))) pile)
 does-at nested c (suc i) (x ∷ pile) =
     does-onward (sawyerAt nested c i pile) (sawAt c i (sizes pile)) (λ (p : List Piece). some (x ∷ p)) (λ (p : List Size). some (x .size ∷ p))

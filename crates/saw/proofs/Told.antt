@@ -18,8 +18,8 @@ use Rattle.tree.specs.Sound.{maxSide, Sound}
 use Rattle.tree.proofs.Read.{Readable, sound-readable}
 use Rattle.saw.specs.declared.cut.Cut.{Cut}
 use Rattle.saw.specs.Saw.{side, saw}
-use Rattle.saw.specs.Cuts.{withoutEmpty, cutOff, rowCuts, cuts, boards, cutBytes, bytesOf}
-use Rattle.saw.specs.Read.{wayOf, ofTwo, ofFour, readCuts, Fits, Each}
+use Rattle.saw.specs.Cuts.{withoutEmpty, cutOff, rowCuts, cuts, boards, cutBytes, bytesOfCuts}
+use Rattle.saw.specs.Read.{wayOf, ofTwo, ofFour, readCuts, Fits, EachOf}
 use Rattle.saw.proofs.Slices.{side-small}
 use Rattle.saw.proofs.Fills.{count-kept, readable-kept}
 use Rattle.saw.proofs.Sawn.{saw-gives, row-most}
@@ -44,23 +44,23 @@ four-back : (n : ℕ) → n < 4294967296
 four-back n h = rw (upper-back n h, lower-back n) (omega arith)
 
 -- the bytes of cuts that fit tell them
-pub told : (cs : List Cut) → Each Fits cs → readCuts (bytesOf cs) ≡ cs
-unfolding readCuts bytesOf cutBytes
+pub told : (cs : List Cut) → EachOf Fits cs → readCuts (bytesOfCuts cs) ≡ cs
+unfolding readCuts bytesOfCuts cutBytes
 told [] h = refl
 told (c ∷ cs) h =
     let place = two-back (c .place) (h .0 .place) in
     let way = way-back (c .way) in
     let distance = four-back (c .distance) (h .0 .distance) in
     let rest = told cs (h .1) in
-    λ i. record { place = place i; way = way i; distance = distance i; piece = c .piece; left = c .left } ∷ rest i
+    λ i. record { place = place i; way = way i; distance = distance i; piece = c .piece; remainder = c .remainder } ∷ rest i
 
 -- ---- the cuts of a sound tree fit
 
-each-append : {A : Type 0} (P : A → Type 0) (a b : List A) → Each P a → Each P b → Each P (a ++ b)
+each-append : {A : Type 0} (P : A → Type 0) (a b : List A) → EachOf P a → EachOf P b → EachOf P (a ++ b)
 each-append P [] b f g = g
 each-append P (x ∷ a) b f g = (f .0, each-append P a b (f .1) g)
 
-each-less : {A : Type 0} {P Q : A → Type 0} → ((x : A) → P x → Q x) → (l : List A) → Each P l → Each Q l
+each-less : {A : Type 0} {P Q : A → Type 0} → ((x : A) → P x → Q x) → (l : List A) → EachOf P l → EachOf Q l
 each-less f [] h = tt
 each-less f (x ∷ l) h = (f x (h .0), each-less f l (h .1))
 
@@ -70,11 +70,11 @@ pub record Within (m : ℕ) (c : Cut) : Type 0 where
   pub distance : c .distance ≤ maxSide
 
 off-within : (m : ℕ) (way : Orientation) (i : ℕ) (d : Datum) (r : Tree) → i < m → side way (d .size) ≤ maxSide
-    → Each (Within m) (cutOff way i d r)
+    → EachOf (Within m) (cutOff way i d r)
 off-within m way i d nil a b = tt
 off-within m way i d (grow p e k r) a b = (record { place = a; distance = b }, tt)
 
-row-within : (l m : ℕ) (way : Orientation) (i : ℕ) (r : Tree) → Readable l r → i + count r ≤ m → Each (Within m) (rowCuts way i r)
+row-within : (l m : ℕ) (way : Orientation) (i : ℕ) (r : Tree) → Readable l r → i + count r ≤ m → EachOf (Within m) (rowCuts way i r)
 unfolding rowCuts
 row-within l m way i nil f h = tt
 row-within l m way i (grow p d k r) f h =
@@ -87,13 +87,13 @@ row-within l m way i (grow p d k r) f h =
     (row-within l m way j r (f .2) (omega (arith, row-most (other way) i k))))
 
 -- the places are below the count of the nodes, and no distance is greater than a side can be
-pub cuts-within : {limit : ℕ} {settings : Settings} (t : Tree) → Sound limit settings t → Each (Within (count t)) (cuts t)
+pub cuts-within : {limit : ℕ} {settings : Settings} (t : Tree) → Sound limit settings t → EachOf (Within (count t)) (cuts t)
 cuts-within nil h = tt
 cuts-within (grow p d k r) h =
     row-within 1 (count (grow p d k r)) (d .cut) 0 (withoutEmpty k) (readable-kept 1 k (sound-readable (grow p d k r) h .1))
     (omega (arith, count-kept k))
 
-pub cuts-fit : {limit : ℕ} {settings : Settings} (t : Tree) → limit ≤ 65535 → Sound limit settings t → Each Fits (cuts t)
+pub cuts-fit : {limit : ℕ} {settings : Settings} (t : Tree) → limit ≤ 65535 → Sound limit settings t → EachOf Fits (cuts t)
 cuts-fit t a h =
     each-less
     (λ (c : Cut) (w : Within (count t) c). record { place = omega (arith, w .place, h .room); distance = omega (arith, w .distance) })
@@ -101,5 +101,5 @@ cuts-fit t a h =
 
 -- the saw that reads the bytes gives the boards of the tree
 pub list-read : {limit : ℕ} {settings : Settings} (t : Tree) → limit ≤ 65535 → Sound limit settings t
-    → saw (readCuts (bytesOf (cuts t))) (settings .sheet ∷ []) ≡ some (boards t)
+    → saw (readCuts (bytesOfCuts (cuts t))) (settings .sheet ∷ []) ≡ some (boards t)
 list-read {settings} t a h = ap (λ (l : List Cut). saw l (settings .sheet ∷ [])) (told (cuts t) (cuts-fit t a h)) ∙ saw-gives t h

@@ -24,9 +24,9 @@ use Rattle.piece.proofs.Sizes.{other-twice}
 use Rattle.tree.specs.Tree.{Tree}
 use Rattle.tree.specs.Sound.{Sided, Sound}
 use Rattle.saw.specs.declared.cut.Cut.{Cut}
-use Rattle.saw.specs.Saw.{side, withArea, cutsB, onward}
+use Rattle.saw.specs.Saw.{side, withArea, cutsB, andThen}
 use Rattle.saw.specs.Cuts.{withoutEmpty, leftNo, cutOff, rowCuts, cuts, ownBoard, boards}
-use Rattle.saw.specs.Sawyer.{Piece, called, sizes, saids, sameWay, mayCut, parted, sawyerAt, sawyer}
+use Rattle.saw.specs.Sawyer.{Piece, namedBy, sizes, saids, sameWay, mayCut, parted, sawyerAt, sawyer}
 use Rattle.saw.specs.Sawyer.{single, nestedRow, nestedIn, nameNo, ownKind, rowKinds, boardKinds, uncut}
 use Rattle.saw.proofs.Slices.{with-area, remnant, off-can, off-sided, off-piece, off-rest, remnant-sided}
 use Rattle.saw.proofs.Fills.{Below, Share, Fills, boards-kept, structure-fills}
@@ -74,12 +74,12 @@ module _ (nested : Bool) where
       → sawyerAt nested c (length a) (a ++ x ∷ b) ≡ some (a ++ (parted c (x .size) ++ b))
   sawyer-at c x [] b may can = rw (may, can) refl
   sawyer-at c x (y ∷ a) b may can =
-      ap (λ (o : Option (List Piece)). onward o (λ (p : List Piece). some (y ∷ p))) (sawyer-at c x a b may can)
+      ap (λ (o : Option (List Piece)). andThen o (λ (p : List Piece). some (y ∷ p))) (sawyer-at c x a b may can)
 
   one-cut : (c : Cut) (x y z : Piece) (cs : List Cut) (a b : List Piece) → length a ≡ c .place → mayCut nested (c .way) x ≡ true
       → cutsB c (x .size) ≡ true → parted c (x .size) ≡ y ∷ z ∷ [] → sawyer nested (c ∷ cs) (a ++ x ∷ b) ≡ sawyer nested cs (a ++ y ∷ z ∷ b)
   one-cut c x y z cs a b at may can h =
-      ap (λ (o : Option (List Piece)). onward o (sawyer nested cs))
+      ap (λ (o : Option (List Piece)). andThen o (sawyer nested cs))
       (ap (λ (i : ℕ). sawyerAt nested c i (a ++ x ∷ b)) (sym at)
       ∙ sawyer-at c x a b may can
       ∙ ap (λ (l : List Piece). some (a ++ (l ++ b))) h)
@@ -128,7 +128,7 @@ module _ (nested : Bool) where
       (refl, rw e h)
 
   fair-left : (alone : Bool) (way : Orientation) (s : Size) (p : ℕ) (d : Datum) (k r : Tree) → alone ≡ false
-      → Fair alone way (called (leftNo d r) way s) (grow p d k r)
+      → Fair alone way (namedBy (leftNo d r) way s) (grow p d k r)
   fair-left alone way s p d k nil e = (sym (ap (λ (b : Bool). nameNo b (d .kind)) e), inr refl)
   fair-left alone way s p d k (grow p′ d′ k′ r′) e = (e, eq-eqb (cutNo way) (cutNo way) refl)
 
@@ -178,13 +178,13 @@ module _ (nested : Bool) where
   unfolding rowCuts
   row-step alone way i s p d below nil k m u b e f g x at h = rw (append-nil k, append-nil m, append-nil u) (f x (at ∙ sym e) h)
   row-step alone way i s p d below (grow p′ d′ k′ r′) k m u b o f g x at h =
-      let c : Cut = record { place = i; way = way; distance = side way (d .size); piece = kindNo (d .kind); left = leftNo d′ r′ } in
-      let y = called (kindNo (d .kind)) way (d .size) in
-      let z = called (leftNo d′ r′) way (remnant way s (d .size)) in
+      let c : Cut = record { place = i; way = way; distance = side way (d .size); piece = kindNo (d .kind); remainder = leftNo d′ r′ } in
+      let y = namedBy (kindNo (d .kind)) way (d .size) in
+      let z = namedBy (leftNo d′ r′) way (remnant way s (d .size)) in
       cut-in-two c x y z (h .1)
       (subst⁻¹ (λ (q : Size). cutsB c q ≡ true) at (off-can (o .0)))
       (ap (parted c) at
-      ∙ ap₂ (λ (p q : List Size). map (called (c .piece) way) p ++ map (called (c .left) way) q) (off-piece (o .0) b) (off-rest (o .0) b))
+      ∙ ap₂ (λ (p q : List Size). map (namedBy (c .piece) way) p ++ map (namedBy (c .remainder) way) q) (off-piece (o .0) b) (off-rest (o .0) b))
       (f y refl (sym (ap (λ (q : Bool). nameNo q (d .kind)) (h .0)), inr refl))
       (g (remnant-sided (o .0) b) (o .1) z refl (fair-left alone way (remnant way s (d .size)) p′ d′ k′ r′ (h .0)))
 
@@ -218,7 +218,7 @@ tree-makes {settings} (grow p d k r) h =
     let top = h .topped .0 in
     let row = withoutEmpty k in
     let nested = nestedRow (single row) row || false in
-    let x = called 2 (other (d .cut)) (settings .sheet) in
+    let x = namedBy 2 (other (d .cut)) (settings .sheet) in
     let made =
     row-makes nested (single row) (d .cut) (d .size) row 0 (top .piece .sided) (structure-fills settings d k (top .piece) (h .topped .1))
     (λ e. or-left (nestedRow (single row) row) false e)

@@ -6,12 +6,12 @@ use Prim.Native.Nat.{ℕ}
 use Rattle.layout.specs.declared.layout.Layout.{Layout}
 use Rattle.layout.proofs.Determined.{only}
 use Rattle.looks.specs.declared.replies.CountAnswer.{CountAnswer}
-use Rattle.looks.specs.Written.{answerTo, leftIn}
+use Rattle.looks.specs.Written.{answerTo, leftInBuffer}
 use Rattle.saw.specs.Written.{sawBytes}
 
 module _ (l : Layout) (out : List ℕ) where
   pub cuts-is-one : (r s : CountAnswer) → r ≡ answerTo l (sawBytes l) (length out) → s ≡ answerTo l (sawBytes l) (length out) → r ≡ s
   cuts-is-one = only
 
-  pub cuts-leaves-one : (a b : List ℕ) → a ≡ leftIn l (sawBytes l) out → b ≡ leftIn l (sawBytes l) out → a ≡ b
+  pub cuts-leaves-one : (a b : List ℕ) → a ≡ leftInBuffer l (sawBytes l) out → b ≡ leftInBuffer l (sawBytes l) out → a ≡ b
   cuts-leaves-one = only

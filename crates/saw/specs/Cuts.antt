@@ -15,7 +15,7 @@ use Rattle.piece.specs.Row.{nil, grow}
 use Rattle.piece.specs.Kinds.{isFree}
 use Rattle.piece.specs.Numbers.{kindNo, cutNo}
 use Rattle.tree.specs.Tree.{Tree}
-use Rattle.tree.specs.Snapshot.{two, four}
+use Rattle.tree.specs.Snapshot.{twoThen, fourThen}
 use Rattle.saw.specs.declared.cut.Cut.{Cut}
 use Rattle.saw.specs.Saw.{side, withArea}
 
@@ -36,7 +36,7 @@ leftNo e (grow p d k r) = 3
 abbrev pub cutOff : Orientation → ℕ → Datum → Tree → List Cut
 cutOff way i d nil = []
 cutOff way i d (grow p e k r) =
-    record { place = i; way = way; distance = side way (d .size); piece = kindNo (d .kind); left = leftNo e r } ∷ []
+    record { place = i; way = way; distance = side way (d .size); piece = kindNo (d .kind); remainder = leftNo e r } ∷ []
 
 -- the cuts of a row that fills the board at the place i of the pile, under a cut of this way. A piece is cut off, then comes what is cut of it, and
 -- then the rest of the row: each cut has put one more piece into the pile before it.
@@ -62,8 +62,8 @@ boards (grow p d k r) = ownBoard (d .kind) (d .size) ++ (boards k ++ boards r)
 
 -- "9 bytes each: place in the pile from 0 (2), way (1), distance from its left or upper edge (4), kinds of the two resulting pieces (1 each ..)"
 unfoldable pub cutBytes : Cut → List ℕ → List ℕ
-cutBytes c r = two (c .place) (cutNo (c .way) ∷ four (c .distance) (c .piece ∷ c .left ∷ r))
+cutBytes c r = twoThen (c .place) (cutNo (c .way) ∷ fourThen (c .distance) (c .piece ∷ c .remainder ∷ r))
 
-unfoldable pub bytesOf : List Cut → List ℕ
-bytesOf [] = []
-bytesOf (c ∷ cs) = cutBytes c (bytesOf cs)
+unfoldable pub bytesOfCuts : List Cut → List ℕ
+bytesOfCuts [] = []
+bytesOfCuts (c ∷ cs) = cutBytes c (bytesOfCuts cs)

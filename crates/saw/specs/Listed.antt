@@ -22,25 +22,25 @@ restOf limit next side c =
     cond (leb limit (getD next c 0)) limit (cond (eqb (getD side (getD next c 0) 0) 0) limit (getD next c 0))
 
 -- the kind of what is left from the place r on
-abbrev pub leftIn : ℕ → (next kind side : List ℕ) → ℕ → ℕ
-leftIn limit next kind side r = cond (leb limit (restOf limit next side r)) (getD kind r 0) 3
+abbrev pub leftAlong : ℕ → (next kind side : List ℕ) → ℕ → ℕ
+leftAlong limit next kind side r = cond (leb limit (restOf limit next side r)) (getD kind r 0) 3
 
 -- the cut that takes the piece at c off the board, where there is more of its row, from r on
 abbrev pub cutBefore : ℕ → (next kind side : List ℕ) → Orientation → ℕ → ℕ → ℕ → List Cut
 cutBefore limit next kind side way i c r =
     cond (leb limit r) []
-    (record { place = i; way = way; distance = getD side c 0; piece = getD kind c 0; left = leftIn limit next kind side r } ∷ [])
+    (record { place = i; way = way; distance = getD side c 0; piece = getD kind c 0; remainder = leftAlong limit next kind side r } ∷ [])
 
 -- the cuts of the row from the place c on, at most so many nodes, whose board is at the place i of the pile
-unfoldable pub listed : ℕ → (first next kind width height : List ℕ) → Orientation → ℕ → ℕ → ℕ → List Cut
-listed limit first next kind width height way zero i c = []
-listed limit first next kind width height way (suc n) i c =
+unfoldable pub cutsListed : ℕ → (first next kind width height : List ℕ) → Orientation → ℕ → ℕ → ℕ → List Cut
+cutsListed limit first next kind width height way zero i c = []
+cutsListed limit first next kind width height way (suc n) i c =
     let r = restOf limit next (sidesIn way width height) c in
-    let below = listed limit first next kind width height (other way) n i (getD first c 0) in
+    let below = cutsListed limit first next kind width height (other way) n i (getD first c 0) in
     let all =
     cutBefore limit next kind (sidesIn way width height) way i c r
-    ++ (below ++ listed limit first next kind width height way n (i + (1 + length below)) r) in
+    ++ (below ++ cutsListed limit first next kind width height way n (i + (1 + length below)) r) in
     cond (leb limit c) [] all
 
 abbrev pub listedIn : ℕ → Columns → Orientation → ℕ → ℕ → ℕ → List Cut
-listedIn limit s way n i c = listed limit (s .first) (s .next) (s .kind) (s .width) (s .height) way n i c
+listedIn limit s way n i c = cutsListed limit (s .first) (s .next) (s .kind) (s .width) (s .height) way n i c

@@ -28,13 +28,13 @@ readCuts (a ∷ b ∷ w ∷ c ∷ d ∷ e ∷ []) = []
 readCuts (a ∷ b ∷ w ∷ c ∷ d ∷ e ∷ f ∷ []) = []
 readCuts (a ∷ b ∷ w ∷ c ∷ d ∷ e ∷ f ∷ p ∷ []) = []
 readCuts (a ∷ b ∷ w ∷ c ∷ d ∷ e ∷ f ∷ p ∷ l ∷ r) =
-    record { place = ofTwo a b; way = wayOf w; distance = ofFour c d e f; piece = p; left = l } ∷ readCuts r
+    record { place = ofTwo a b; way = wayOf w; distance = ofFour c d e f; piece = p; remainder = l } ∷ readCuts r
 
 -- the bytes hold the numbers of a cut
 pub record Fits (c : Cut) : Type 0 where
   pub place : c .place < 65536
   pub distance : c .distance < 4294967296
 
-abbrev pub Each : {A : Type 0} → (A → Type 0) → List A → Type 0
-Each P [] = Unit {0}
-Each P (x ∷ l) = P x × Each P l
+abbrev pub EachOf : {A : Type 0} → (A → Type 0) → List A → Type 0
+EachOf P [] = Unit {0}
+EachOf P (x ∷ l) = P x × EachOf P l

@@ -32,17 +32,17 @@ abbrev pub cutsB : Cut → Size → Bool
 cutsB c s = ltb 0 (c .distance) && leb (c .distance) (side (c .way) s)
 
 -- with what there is, if there is something
-abbrev pub onward : {A : Type 0} → Option A → (A → Option A) → Option A
-onward none f = none
-onward (some pile) f = f pile
+abbrev pub andThen : {A : Type 0} → Option A → (A → Option A) → Option A
+andThen none f = none
+andThen (some pile) f = f pile
 
 -- the pile after a cut of its piece at this place
 abbrev pub sawAt : Cut → ℕ → List Size → Option (List Size)
 sawAt c i [] = none
 sawAt c zero (s ∷ pile) = cond (cutsB c s) (some (halves c s ++ pile)) none
-sawAt c (suc i) (s ∷ pile) = onward (sawAt c i pile) (λ (p : List Size). some (s ∷ p))
+sawAt c (suc i) (s ∷ pile) = andThen (sawAt c i pile) (λ (p : List Size). some (s ∷ p))
 
 -- and after a list of cuts
 abbrev pub saw : List Cut → List Size → Option (List Size)
 saw [] pile = some pile
-saw (c ∷ cs) pile = onward (sawAt c (c .place) pile) (saw cs)
+saw (c ∷ cs) pile = andThen (sawAt c (c .place) pile) (saw cs)

@@ -17,7 +17,7 @@ use Rattle.piece.specs.Kinds.{isStructure}
 use Rattle.piece.specs.Numbers.{kindNo, cutNo}
 use Rattle.tree.specs.Tree.{Tree, isNil}
 use Rattle.saw.specs.declared.cut.Cut.{Cut}
-use Rattle.saw.specs.Saw.{side, slice, withArea, cutsB, onward}
+use Rattle.saw.specs.Saw.{side, slice, withArea, cutsB, andThen}
 use Rattle.saw.specs.Cuts.{withoutEmpty, ownBoard}
 
 -- a piece of the pile: its size, what it was said to be, and the way of the cut that made it
@@ -26,8 +26,8 @@ pub record Piece : Type 0 where
   pub said : ℕ
   pub way : Orientation
 
-abbrev pub called : ℕ → Orientation → Size → Piece
-called n way s = record { size = s; said = n; way = way }
+abbrev pub namedBy : ℕ → Orientation → Size → Piece
+namedBy n way s = record { size = s; said = n; way = way }
 
 abbrev pub sizes : List Piece → List Size
 sizes pile = map (λ (x : Piece). x .size) pile
@@ -46,19 +46,19 @@ mayCut nested way x = cond (eqb (x .said) 3) (sameWay way x) (eqb (x .said) 2 &&
 -- what a cut makes of a piece, as `halves`, and says of it
 abbrev pub parted : Cut → Size → List Piece
 parted c s =
-    map (called (c .piece) (c .way)) (withArea (slice (c .way) (c .distance) s))
-    ++ map (called (c .left) (c .way)) (withArea (slice (c .way) (side (c .way) s - c .distance) s))
+    map (namedBy (c .piece) (c .way)) (withArea (slice (c .way) (c .distance) s))
+    ++ map (namedBy (c .remainder) (c .way)) (withArea (slice (c .way) (side (c .way) s - c .distance) s))
 
 -- the pile after a cut of its piece at this place
 abbrev pub sawyerAt : Bool → Cut → ℕ → List Piece → Option (List Piece)
 sawyerAt nested c i [] = none
 sawyerAt nested c zero (x ∷ pile) = cond (mayCut nested (c .way) x && cutsB c (x .size)) (some (parted c (x .size) ++ pile)) none
-sawyerAt nested c (suc i) (x ∷ pile) = onward (sawyerAt nested c i pile) (λ (p : List Piece). some (x ∷ p))
+sawyerAt nested c (suc i) (x ∷ pile) = andThen (sawyerAt nested c i pile) (λ (p : List Piece). some (x ∷ p))
 
 -- and after a list of cuts
 abbrev pub sawyer : Bool → List Cut → List Piece → Option (List Piece)
 sawyer nested [] pile = some pile
-sawyer nested (c ∷ cs) pile = onward (sawyerAt nested c (c .place) pile) (sawyer nested cs)
+sawyer nested (c ∷ cs) pile = andThen (sawyerAt nested c (c .place) pile) (sawyer nested cs)
 
 -- ---- what the tree says
 
@@ -97,4 +97,4 @@ sheetWay nil = Horizontal
 sheetWay (grow p d k r) = other (d .cut)
 
 abbrev pub uncut : Tree → Size → Piece
-uncut t s = called (kindNo Structure) (sheetWay t) s
+uncut t s = namedBy (kindNo Structure) (sheetWay t) s

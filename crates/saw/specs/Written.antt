@@ -3,7 +3,7 @@ use mathlib.Core.List.{List}
 use Prim.Native.Nat.{ℕ}
 use Rattle.layout.specs.declared.layout.Layout.{Layout}
 use Rattle.layout.specs.Check.{tree}
-use Rattle.saw.specs.Cuts.{cuts, bytesOf}
+use Rattle.saw.specs.Cuts.{cuts, bytesOfCuts}
 
 unfoldable pub sawBytes : Layout → List ℕ
-sawBytes l = bytesOf (cuts (tree l))
+sawBytes l = bytesOfCuts (cuts (tree l))

@@ -13,13 +13,13 @@ use walks::snapshot::put_two;
 pub const BYTES: usize = 9;
 
 // The piece of the pile at `place` is cut at `distance` from its left edge (Vertical) or its upper one (Horizontal). `piece` is the kind of what is cut
-// off and `left` of what is left, as in snapshots; 3 is several siblings.
+// off and `remainder` of what is left, right of the cut or below it, as in snapshots; 3 is several siblings.
 pub struct Cut {
     pub place: u16,
     pub way: Orientation,
     pub distance: u32,
     pub piece: u8,
-    pub left: u8,
+    pub remainder: u8,
 }
 
 pub fn put_cut(cut: Cut, out: &mut [u8], at: usize)
@@ -31,5 +31,5 @@ pub fn put_cut(cut: Cut, out: &mut [u8], at: usize)
     out[at + 2] = way.number();
     put_four(cut.distance, out, at + 3);
     out[at + 7] = cut.piece;
-    out[at + 8] = cut.left;
+    out[at + 8] = cut.remainder;
 }

@@ -4,9 +4,9 @@ ghost use Prim.Native.Nat.{_*_, _≤_};
 ghost use lib.ListN.{length, take};
 ghost use lib.Seq.{sets};
 ghost use Rattle.lists.specs.Lists.{limit};
-ghost use Rattle.looks.specs.Written.{answerTo, leftIn};
-ghost use Rattle.saw.specs.Cuts.{bytesOf};
-ghost use Rattle.saw.specs.Listed.{listed};
+ghost use Rattle.looks.specs.Written.{answerTo, leftInBuffer};
+ghost use Rattle.saw.specs.Cuts.{bytesOfCuts};
+ghost use Rattle.saw.specs.Listed.{cutsListed};
 ghost use Rattle.saw.specs.Written.{sawBytes};
 use crate::cut::BYTES;
 use crate::routines::list_horizontal;
@@ -33,12 +33,12 @@ fn list_cuts<'a>(
     left: usize,
     out: &mut [u8],
 ) -> usize
-    requires { ⌜ (length (listed limit (now first) (now next) (now kind) (now width) (now height) way left 0 c) ≤ limit)
-        × (9 * length (listed limit (now first) (now next) (now kind) (now width) (now height) way left 0 c) ≤ length (now out)) ⌝ }
+    requires { ⌜ (length (cutsListed limit (now first) (now next) (now kind) (now width) (now height) way left 0 c) ≤ limit)
+        × (9 * length (cutsListed limit (now first) (now next) (now kind) (now width) (now height) way left 0 c) ≤ length (now out)) ⌝ }
     ensures written { λ r. ⌜ now (out .exit)
-        ≡ sets (now (out .entry)) 0 (bytesOf (listed limit (now (first .entry)) (now (next .entry)) (now (kind .entry))
+        ≡ sets (now (out .entry)) 0 (bytesOfCuts (cutsListed limit (now (first .entry)) (now (next .entry)) (now (kind .entry))
         (now (width .entry)) (now (height .entry)) way left 0 c)) ⌝ }
-    ensures counted { λ r. ⌜ r ≡ length (listed limit (now (first .entry)) (now (next .entry)) (now (kind .entry))
+    ensures counted { λ r. ⌜ r ≡ length (cutsListed limit (now (first .entry)) (now (next .entry)) (now (kind .entry))
         (now (width .entry)) (now (height .entry)) way left 0 c) ⌝ }
 {
     match way {
@@ -62,7 +62,7 @@ fn copy_first(from: &[u8], n: usize, out: &mut [u8])
 // The cuts, 9 bytes each, and how many bytes they have.
 pub fn cuts(layout: Layout, out: &mut [u8]) -> CountAnswer
     ensures answer { λ r. ⌜ r ≡ answerTo layout (sawBytes layout) (length (now (out .entry))) ⌝ }
-    ensures written { λ r. ⌜ now (out .exit) ≡ leftIn layout (sawBytes layout) (now (out .entry)) ⌝ }
+    ensures written { λ r. ⌜ now (out .exit) ≡ leftInBuffer layout (sawBytes layout) (now (out .entry)) ⌝ }
 {
     if layout.sound() {} else {
         return CountAnswer::Refused(Refusal::NotSound);

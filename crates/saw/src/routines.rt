@@ -8,8 +8,8 @@ ghost use lib.ListN.{length};
 ghost use lib.Seq.{sets};
 ghost use Rattle.piece.specs.declared.orientation.Orientation.the-variants.{Horizontal, Vertical};
 ghost use Rattle.lists.specs.Lists.{limit};
-ghost use Rattle.saw.specs.Cuts.{bytesOf};
-ghost use Rattle.saw.specs.Listed.{leftIn, listed, restOf};
+ghost use Rattle.saw.specs.Cuts.{bytesOfCuts};
+ghost use Rattle.saw.specs.Listed.{leftAlong, cutsListed, restOf};
 use crate::cut::BYTES;
 use crate::cut::Cut;
 use crate::cut::put_cut;
@@ -17,7 +17,7 @@ use piece::orientation::Orientation;
 use table::LIMIT;
 use table::NONE;
 
-// What `left` of a cut says of several siblings.
+// What `remainder` of a cut says of several siblings.
 const SEVERAL: u8 = 3;
 
 // The later sibling of c that is left on the board. An offcut that has nothing of the side that the cut divides is not.
@@ -42,7 +42,7 @@ fn kind_left<'a>(
     r: u16,
 ) -> u8
     requires { ⌜ r < limit ⌝ }
-    ensures { λ k. ⌜ k ≡ leftIn limit (now (next .entry)) (now (kind .entry)) (now (side .entry)) r ⌝ }
+    ensures { λ k. ⌜ k ≡ leftAlong limit (now (next .entry)) (now (kind .entry)) (now (side .entry)) r ⌝ }
 {
     let at = r as usize;
     if NONE <= rest_of(next, side, r) {
@@ -67,13 +67,13 @@ pub fn list_vertical<'a>(
     n: usize,
 ) -> usize
     requires { ⌜ (place ≤ n)
-        × (n + length (listed limit (now first) (now next) (now kind) (now width) (now height) Vertical left place c) ≤ limit)
-        × (9 * (n + length (listed limit (now first) (now next) (now kind) (now width) (now height) Vertical left place c))
+        × (n + length (cutsListed limit (now first) (now next) (now kind) (now width) (now height) Vertical left place c) ≤ limit)
+        × (9 * (n + length (cutsListed limit (now first) (now next) (now kind) (now width) (now height) Vertical left place c))
         ≤ length (now out)) ⌝ }
     ensures written { λ r. ⌜ now (out .exit)
-        ≡ sets (now (out .entry)) (9 * n) (bytesOf (listed limit (now (first .entry)) (now (next .entry)) (now (kind .entry))
+        ≡ sets (now (out .entry)) (9 * n) (bytesOfCuts (cutsListed limit (now (first .entry)) (now (next .entry)) (now (kind .entry))
         (now (width .entry)) (now (height .entry)) Vertical left place c)) ⌝ }
-    ensures counted { λ r. ⌜ r ≡ n + length (listed limit (now (first .entry)) (now (next .entry)) (now (kind .entry))
+    ensures counted { λ r. ⌜ r ≡ n + length (cutsListed limit (now (first .entry)) (now (next .entry)) (now (kind .entry))
         (now (width .entry)) (now (height .entry)) Vertical left place c) ⌝ }
 {
     if left == 0 {
@@ -104,7 +104,7 @@ pub fn list_vertical<'a>(
         way: Orientation::Vertical,
         distance: width[at],
         piece: kind[at],
-        left: kind_left(next, kind, width, rest),
+        remainder: kind_left(next, kind, width, rest),
     };
     put_cut(cut, out, BYTES * n);
     let m = list_horizontal(
@@ -147,13 +147,13 @@ pub fn list_horizontal<'a>(
     n: usize,
 ) -> usize
     requires { ⌜ (place ≤ n)
-        × (n + length (listed limit (now first) (now next) (now kind) (now width) (now height) Horizontal left place c) ≤ limit)
-        × (9 * (n + length (listed limit (now first) (now next) (now kind) (now width) (now height) Horizontal left place c))
+        × (n + length (cutsListed limit (now first) (now next) (now kind) (now width) (now height) Horizontal left place c) ≤ limit)
+        × (9 * (n + length (cutsListed limit (now first) (now next) (now kind) (now width) (now height) Horizontal left place c))
         ≤ length (now out)) ⌝ }
     ensures written { λ r. ⌜ now (out .exit)
-        ≡ sets (now (out .entry)) (9 * n) (bytesOf (listed limit (now (first .entry)) (now (next .entry)) (now (kind .entry))
+        ≡ sets (now (out .entry)) (9 * n) (bytesOfCuts (cutsListed limit (now (first .entry)) (now (next .entry)) (now (kind .entry))
         (now (width .entry)) (now (height .entry)) Horizontal left place c)) ⌝ }
-    ensures counted { λ r. ⌜ r ≡ n + length (listed limit (now (first .entry)) (now (next .entry)) (now (kind .entry))
+    ensures counted { λ r. ⌜ r ≡ n + length (cutsListed limit (now (first .entry)) (now (next .entry)) (now (kind .entry))
         (now (width .entry)) (now (height .entry)) Horizontal left place c) ⌝ }
 {
     if left == 0 {
@@ -184,7 +184,7 @@ pub fn list_horizontal<'a>(
         way: Orientation::Horizontal,
         distance: height[at],
         piece: kind[at],
-        left: kind_left(next, kind, height, rest),
+        remainder: kind_left(next, kind, height, rest),
     };
     put_cut(cut, out, BYTES * n);
     let m = list_vertical(

@@ -4,7 +4,7 @@ use mathlib.Core.Path.{_≡_, refl, sym, ap, _∙_}
 use mathlib.Core.List.{List, _∷_, _++_}
 use Prim.Native.Nat.{ℕ}
 use lib.ListN.{length}
-use Rattle.lines.specs.Text.{Line, linesOf, joined}
+use Rattle.lines.specs.Text.{Line, linesOf, joinedLines}
 use Rattle.layout.specs.declared.layout.Layout.{Layout}
 use Rattle.layout.specs.Check.{limit}
 use Rattle.layout.proofs.Determined.{insert-is-one, remove-is-one}
@@ -19,9 +19,9 @@ use Rattle.session.specs.declared.replies.Response.{Response}
 use Rattle.session.specs.declared.replies.Keeping.{Keeping}
 use Rattle.session.specs.declared.listener.Listener.{Listener}
 use Rattle.session.specs.declared.listener.Turn.{Turn}
-use Rattle.session.specs.Session.{Reply, reply, afterInsert, afterRemove, Answers, held, Says}
+use Rattle.session.specs.Session.{Reply, reply, afterInsert, afterRemove, Answers, paddedLine, Says}
 use Rattle.session.specs.Replies.{both, refusal, Replies, Keeps, Restores}
-use Rattle.session.specs.Listener.{askedIn, Runs, none, more, opening, textOf, Ends, Served}
+use Rattle.session.specs.Listener.{askedIn, Runs, none, more, startListener, textOf, Ends, Served}
 use Rattle.session.proofs.Laws.{input-run}
 
 -- a request
@@ -42,7 +42,7 @@ answers-once s Malformed g h = g ∙ sym h
 pub same-said : {a b : Answer} {r p : Said} → a ≡ b → Says a r → Says b p → r ≡ p
 same-said e x y i =
     record {
-      line = (x .padded ∙ ap held e ∙ sym (y .padded)) i;
+      line = (x .padded ∙ ap paddedLine e ∙ sym (y .padded)) i;
       count = (x .count ∙ ap (λ (c : Answer). length (answerLine c)) e ∙ sym (y .count)) i;
     }
 
@@ -76,8 +76,8 @@ runs-once (more {s} {t} {line = line} a q) (more {t = t'} b r) =
     ((λ i. e i .answer ∷ same .0 i), same .1)
 
 -- the output to an input, however it was cut into chunks
-pub output-once : {cs ds : List (List ℕ)} {xs ys : List Answer} {d e : Listener} {r q : Turn} → joined cs ≡ joined ds
-    → Served opening cs xs d → (y : Ends d r) → Served opening ds ys e → (z : Ends e q)
+pub output-once : {cs ds : List (List ℕ)} {xs ys : List Answer} {d e : Listener} {r q : Turn} → joinedLines cs ≡ joinedLines ds
+    → Served startListener cs xs d → (y : Ends d r) → Served startListener ds ys e → (z : Ends e q)
     → (textOf (xs ++ y .turned .answers) ≡ textOf (ys ++ z .turned .answers)) × (r .listener .session ≡ q .listener .session)
 output-once {cs} {ds} same a y b z =
     let once = runs-once (input-run a y) (rw (← ap linesOf same) at (input-run b z)) in

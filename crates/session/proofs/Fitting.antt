@@ -44,7 +44,7 @@ use Rattle.session.specs.declared.listener.Turn.{Turn}
 use Rattle.session.specs.Session.{started, Reply, keptBy, Answers}
 use Rattle.session.specs.Session.{afterOpen, afterOffers, afterInsert, afterRemove, afterKeep, afterRestore, afterReport}
 use Rattle.session.specs.Replies.{keptIn}
-use Rattle.session.specs.Listener.{askedIn, Runs, none, more, opening, Ends, Served}
+use Rattle.session.specs.Listener.{askedIn, Runs, none, more, startListener, Ends, Served}
 use Rattle.session.proofs.Kept.{kept-after}
 use Rattle.session.proofs.Laws.{input-run}
 use Rattle.session.proofs.Fits.{answer-fits}
@@ -152,6 +152,6 @@ started-held =
     let zero : Typed zeroLayout = record { sized = zero-sized; number = omega arith } in record { layout = zero; kept = zero }
 
 -- THE LAW: all answers to an input, however it is cut into chunks
-pub counter-fits : {cs : List (List ℕ)} {xs : List Answer} {e : Listener} {r : Turn} → Served opening cs xs e → (z : Ends e r)
+pub counter-fits : {cs : List (List ℕ)} {xs : List Answer} {e : Listener} {r : Turn} → Served startListener cs xs e → (z : Ends e r)
     → Each AnswerFits (xs ++ z .turned .answers)
 counter-fits q z = runs-fit started-held (input-run q z)

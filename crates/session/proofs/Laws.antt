@@ -12,15 +12,15 @@ use Rattle.lines.specs.declared.stream.Pending.{Pending}
 use Rattle.lines.specs.declared.stream.Event.{Event}
 use Rattle.lines.specs.declared.stream.Event.the-variants.{Whole, Long, More}
 use Rattle.lines.specs.Lines.{newlineFrom, charsAt}
-use Rattle.lines.specs.Text.{Line, linesOf, joined}
-use Rattle.lines.specs.Stream.{empty, adds, takeOf, Fed, still, followed, given, feed, feeds, linesGiven}
+use Rattle.lines.specs.Text.{Line, linesOf, joinedLines}
+use Rattle.lines.specs.Stream.{empty, adds, takeOf, Fed, still, followed, fedWith, feed, feeds, linesGiven}
 use Rattle.lines.proofs.Cuts.{feed-step, feed-none, lines-given, cut-anyhow}
 use Rattle.frames.specs.Answers.{Answer}
 use Rattle.session.specs.declared.Session.{Session}
 use Rattle.session.specs.declared.listener.Listener.{Listener}
 use Rattle.session.specs.declared.listener.Turn.{Turn}
 use Rattle.session.specs.Session.{started}
-use Rattle.session.specs.Listener.{Runs, none, more, opening, oneStep, Ends, Turns, Served}
+use Rattle.session.specs.Listener.{Runs, none, more, startListener, oneStep, Ends, Turns, Served}
 use Rattle.session.specs.Listener as listener
 
 -- ---- runs
@@ -52,8 +52,8 @@ to-the-end p chunk at h = go (ltb n (length chunk)) (adds p (charsAt chunk at) .
     go false o e h = ltb-false (newlineFrom chunk at) (length chunk) e
 
 step-then : (v : Event) (q : Pending) (rest : List ℕ) → (v ≡ More → feed q rest ≡ still q)
-    → given v q (feed empty rest) ≡ followed (given v q (still empty)) (feed (given v q (still empty) .left) rest)
-unfolding given
+    → fedWith v q (feed empty rest) ≡ followed (fedWith v q (still empty)) (feed (fedWith v q (still empty) .left) rest)
+unfolding fedWith
 step-then Whole q rest h = refl
 step-then Long q rest h = refl
 step-then More q rest h = sym (h refl)
@@ -95,19 +95,19 @@ served-run (listener.Served.go t q) =
 -- ---- the whole input
 
 -- THE LAW: the chunks of an input, whatever they are, and then its end give one answer to each line of the text that they make
-pub input-run : {cs : List (List ℕ)} {xs : List Answer} {e : Listener} {r : Turn} → Served opening cs xs e → (z : Ends e r)
-    → Runs started (linesOf (joined cs)) (xs ++ z .turned .answers) (r .listener .session)
+pub input-run : {cs : List (List ℕ)} {xs : List Answer} {e : Listener} {r : Turn} → Served startListener cs xs e → (z : Ends e r)
+    → Runs started (linesOf (joinedLines cs)) (xs ++ z .turned .answers) (r .listener .session)
 unfolding linesGiven
 input-run {cs} q z =
     let a = served-run q in
     rw (← lines-given cs, ← a .pending) (runs-on (a .runs) (z .turned .runs))
 
 -- and those of two ways to cut a text agree
-pub cut-any-way : {s u : Session} {xs : List Answer} (cs ds : List (List ℕ)) → joined cs ≡ joined ds → Runs s (linesGiven cs) xs u
+pub cut-any-way : {s u : Session} {xs : List Answer} (cs ds : List (List ℕ)) → joinedLines cs ≡ joinedLines ds → Runs s (linesGiven cs) xs u
     → Runs s (linesGiven ds) xs u
 cut-any-way cs ds e r = rw (← cut-anyhow cs ds e) r
 
 -- as many answers as lines
-pub answers-given : {cs : List (List ℕ)} {xs : List Answer} {e : Listener} {r : Turn} → Served opening cs xs e → (z : Ends e r)
-    → length (xs ++ z .turned .answers) ≡ length (linesOf (joined cs))
+pub answers-given : {cs : List (List ℕ)} {xs : List Answer} {e : Listener} {r : Turn} → Served startListener cs xs e → (z : Ends e r)
+    → length (xs ++ z .turned .answers) ≡ length (linesOf (joinedLines cs))
 answers-given q z = one-each (input-run q z)

@@ -10,7 +10,7 @@ use Rattle.lines.specs.declared.stream.Event.{Event}
 use Rattle.lines.specs.declared.stream.Event.the-variants.{Whole, Long, More}
 use Rattle.lines.specs.declared.stream.Taken.{Taken}
 use Rattle.lines.specs.Text.{Line, whole, long, cut}
-use Rattle.lines.specs.Stream.{empty, takeOf, unfinished, Fed, still, onward, given, ended}
+use Rattle.lines.specs.Stream.{empty, takeOf, unfinished, Fed, still, onward, fedWith, ended}
 use Rattle.frames.specs.declared.Request.the-variants.{Malformed}
 use Rattle.frames.specs.Requests.{requestOf}
 use Rattle.frames.specs.Answers.{Answer, each, answerLine}
@@ -44,14 +44,14 @@ module _ (d : Listener) {f : Fed} (n : ℕ) where
   no-answer p e = rw e (record { answers = []; runs = none; pending = refl; count = refl; written = refl; padded = refl })
 
 module _ (d : Listener) (chunk : List ℕ) (at : ℕ) {t : Taken} (e : t ≡ takeOf (d .pending) chunk at) where
-  event-is : {v : Event} → t .event ≡ v → oneStep (d .pending) chunk at ≡ given v (t .pending) (still empty)
+  event-is : {v : Event} → t .event ≡ v → oneStep (d .pending) chunk at ≡ fedWith v (t .pending) (still empty)
   event-is h =
-      ap (λ (x : Taken). given (x .event) (x .pending) (still empty)) (sym e) ∙ ap (λ (v : Event). given v (t .pending) (still empty)) h
+      ap (λ (x : Taken). fedWith (x .event) (x .pending) (still empty)) (sym e) ∙ ap (λ (v : Event). fedWith v (t .pending) (still empty)) h
 
   -- the three ways out of a turn
   pub takes-whole : {q : Stepped} → t .event ≡ Whole → Steps (d .session) (requestOf (take (t .pending .count) (t .pending .bytes))) q
       → Takes d chunk at (spoken q (t .next))
-  unfolding given
+  unfolding fedWith
   takes-whole h s =
       record {
         next = ap (λ (x : Taken). x .next) e;
@@ -59,11 +59,11 @@ module _ (d : Listener) (chunk : List ℕ) (at : ℕ) {t : Taken} (e : t ≡ tak
       }
 
   pub takes-long : {q : Stepped} → t .event ≡ Long → Steps (d .session) Malformed q → Takes d chunk at (spoken q (t .next))
-  unfolding given
+  unfolding fedWith
   takes-long h s = record { next = ap (λ (x : Taken). x .next) e; turned = one-answer d (t .next) long (event-is h) s }
 
   pub takes-more : t .event ≡ More → Takes d chunk at (silent (record { session = d .session; pending = t .pending }) (t .next))
-  unfolding given
+  unfolding fedWith
   takes-more h = record { next = ap (λ (x : Taken). x .next) e; turned = no-answer d (t .next) (t .pending) (event-is h) }
 
 -- the two ways out at the end of the input, where b says whether a last line lacks its newline

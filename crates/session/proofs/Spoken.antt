@@ -1,4 +1,4 @@
--- An answer's line in its room: how long it is, and that its characters are those that stand first. Rests on the frames' `Answered`.
+-- An answer's line in its room: how long it is, and that its characters are those that stand first. Rests on the frames' `AnswerPut`.
 use mathlib.Core.Path.{_≡_, sym, ap, _∙_}
 use mathlib.Core.List.{List, [], _∷_}
 use Prim.Native.Nat.{ℕ, zero, suc, _+_, _*_, _≤_}
@@ -8,7 +8,7 @@ use lib.ListN.{length, take, drop, replicate, length-append, length-replicate}
 use lib.Seq.{sets, sets-eq, take-at}
 use Rattle.frames.specs.Bytes.{charsOf, checkOf, framed}
 use Rattle.frames.specs.Answers.{Answer, each, contentOf, answerLine}
-use Rattle.frames.specs.Writing.{Answered}
+use Rattle.frames.specs.Writing.{AnswerPut}
 use Rattle.frames.proofs.Lists.{length-chars}
 use Rattle.session.specs.Session.{longest, Says}
 
@@ -34,7 +34,7 @@ module _ {A : Type 0} (bytes : A → List ℕ) (k : ℕ) (same : (x : A) → len
       omega (arith, length-append (bytes x) (each bytes (take n xs)), same x, each-most xs n, mul-suc k n)
 
 -- what `write` left in a line of zeros
-pub said : {line : List ℕ} {n : ℕ} (a : Answer) → 2 * length (contentOf a) + 3 ≤ longest → Answered (replicate longest 0) a line n
+pub said : {line : List ℕ} {n : ℕ} (a : Answer) → 2 * length (contentOf a) + 3 ≤ longest → AnswerPut (replicate longest 0) a line n
     → Says a (record { line = line; count = n })
 said {line} {n} a room w =
     record {

@@ -16,7 +16,7 @@ use Rattle.session.specs.declared.Stepped.{Stepped}
 use Rattle.session.specs.declared.listener.Listener.{Listener}
 use Rattle.session.specs.declared.listener.Turn.{Turn}
 use Rattle.session.specs.Session.{Reply, Says, Steps, longest, started}
-use Rattle.session.specs.Listener.{Ends, Takes, Turned, opening, textOf}
+use Rattle.session.specs.Listener.{Ends, Takes, Turned, startListener, textOf}
 use Rattle.session.proofs.Decided.{answers-once, runs-once, same-said}
 
 -- ---- Session
@@ -42,7 +42,7 @@ malformed-is-one s = asked-is-one s Malformed
 
 -- ---- Listener
 
-pub listener-start-is-one : (r p : Listener) → r ≡ opening → p ≡ opening → r ≡ p
+pub listener-start-is-one : (r p : Listener) → r ≡ startListener → p ≡ startListener → r ≡ p
 listener-start-is-one = only
 
 -- the same lines were answered, and the chunk goes on at the same position

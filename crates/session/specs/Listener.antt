@@ -8,7 +8,7 @@ use lib.ListN.{length, take, replicate}
 use lib.Seq.{sets}
 use Rattle.lines.specs.declared.stream.Pending.{Pending}
 use Rattle.lines.specs.Text.{Line, whole, long, cut}
-use Rattle.lines.specs.Stream.{empty, takeOf, Fed, still, given, ended}
+use Rattle.lines.specs.Stream.{empty, takeOf, Fed, still, fedWith, ended}
 use Rattle.frames.specs.declared.Request.{Request}
 use Rattle.frames.specs.declared.Request.the-variants.{Malformed}
 use Rattle.frames.specs.Requests.{requestOf}
@@ -35,8 +35,8 @@ pub data Runs : Session → List Line → List Answer → Session → Type 0 whe
 abbrev pub textOf : List Answer → List ℕ
 textOf xs = each answerLine xs
 
-abbrev pub opening : Listener
-opening = record { session = started; pending = empty }
+abbrev pub startListener : Listener
+startListener = record { session = started; pending = empty }
 
 -- a turn with an answer, after which nothing is pending; and one without
 abbrev pub spoken : Stepped → ℕ → Turn
@@ -56,7 +56,7 @@ pub record Turned (d : Listener) (f : Fed) (r : Turn) : Type 0 where
 
 -- the line, if one has become whole, of one step from a position of a chunk, and what is pending then: nothing after a line
 abbrev pub oneStep : Pending → List ℕ → ℕ → Fed
-oneStep p chunk at = given (takeOf p chunk at .event) (takeOf p chunk at .pending) (still empty)
+oneStep p chunk at = fedWith (takeOf p chunk at .event) (takeOf p chunk at .pending) (still empty)
 
 -- at the end of the input: a last line that lacks its newline, and nothing is pending
 abbrev pub lastStep : Pending → Fed

@@ -138,14 +138,14 @@ abbrev pub longest : ℕ
 longest = 23 + 4 * (limit - 2)
 
 -- an answer's line as the code holds it: zero past its newline
-abbrev pub held : Answer → List ℕ
-held a = sets (replicate longest 0) 0 (answerLine a)
+abbrev pub paddedLine : Answer → List ℕ
+paddedLine a = sets (replicate longest 0) 0 (answerLine a)
 
 -- the answer a, as a line
 pub record Says (a : Answer) (r : Said) : Type 0 where
   pub count : r .count ≡ length (answerLine a)
   pub written : take (r .count) (r .line) ≡ answerLine a
-  pub padded : r .line ≡ held a
+  pub padded : r .line ≡ paddedLine a
 
 -- what the request q, in the state s, gives
 pub record Steps (s : Session) (q : Request) (r : Stepped) : Type 0 where
@@ -153,4 +153,4 @@ pub record Steps (s : Session) (q : Request) (r : Stepped) : Type 0 where
   pub answers : Answers s q (r .session) answer
   pub count : r .count ≡ length (answerLine answer)
   pub written : take (r .count) (r .line) ≡ answerLine answer
-  pub padded : r .line ≡ held answer
+  pub padded : r .line ≡ paddedLine answer

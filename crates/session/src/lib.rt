@@ -19,7 +19,7 @@ pub mod replies; // replies.rt: the answers over layouts
 pub mod say; // say.rt: an answer as a line
 
 // The characters of the longest answer, a removal of all nodes but two, with its newline: `longest` of specs/Session.antt.
-pub const LONGEST: usize = 23 + 4 * (LIMIT - 2);
+pub const LONGEST_ANSWER: usize = 23 + 4 * (LIMIT - 2);
 
 // The layout, and the one that was kept last: both all zero at the start.
 pub struct Session {
@@ -30,7 +30,7 @@ pub struct Session {
 // The next state, and the answer: the first count characters of line, its newline among them; the rest is zero.
 pub struct Stepped {
     pub session: Session,
-    pub line: [u8; LONGEST],
+    pub line: [u8; LONGEST_ANSWER],
     pub count: usize,
 }
 

@@ -4,8 +4,8 @@ ghost use mathlib.Core.Path.{_≡_};
 ghost use lib.ListN.{take};
 ghost use Rattle.frames.specs.Requests.{requestOf};
 ghost use Rattle.session.specs.Session.{Steps};
-ghost use Rattle.session.specs.Listener.{opening, spoken, silent, Takes, Ends};
-use crate::LONGEST;
+ghost use Rattle.session.specs.Listener.{startListener, spoken, silent, Takes, Ends};
+use crate::LONGEST_ANSWER;
 use crate::Session;
 use crate::Stepped;
 use lines::stream::Event;
@@ -22,7 +22,7 @@ pub struct Listener {
 pub struct Turn {
     pub listener: Listener,
     pub next: usize,
-    pub line: [u8; LONGEST],
+    pub line: [u8; LONGEST_ANSWER],
     pub count: usize,
 }
 
@@ -62,14 +62,14 @@ fn unanswered(listener: Listener, next: usize) -> Turn
     Turn {
         listener,
         next,
-        line: [0u8; LONGEST],
+        line: [0u8; LONGEST_ANSWER],
         count: 0,
     }
 }
 
 impl Listener {
     pub fn start() -> Listener
-        ensures { λ r. ⌜ r ≡ opening ⌝ }
+        ensures { λ r. ⌜ r ≡ startListener ⌝ }
     {
         Listener {
             session: Session::start(),

@@ -3,7 +3,7 @@
 ghost use mathlib.Core.Path.{_≡_};
 ghost use Rattle.frames.specs.declared.Ask.the-variants as asks;
 ghost use Rattle.session.specs.Replies.{Replies, Keeps, Restores};
-use crate::LONGEST;
+use crate::LONGEST_ANSWER;
 use crate::say;
 use answers::Mark;
 use answers::Refusal;
@@ -20,7 +20,7 @@ use table::LIMIT;
 
 // An answer's line: the first count characters of it, its newline among them; the rest is zero.
 pub struct Said {
-    pub line: [u8; LONGEST],
+    pub line: [u8; LONGEST_ANSWER],
     pub count: usize,
 }
 

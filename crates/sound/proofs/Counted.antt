@@ -15,7 +15,7 @@ use Rattle.table.specs.Table.{at}
 use Rattle.sound.specs.Columns.{areasOf, serialsOf, kindsOf}
 use Rattle.sound.specs.Places.{placeB, placesB}
 use Rattle.sound.specs.Hung.{markedAt, markedB}
-use Rattle.sound.specs.Listed.{areaIn, coversB, heldIn, noneAboveB}
+use Rattle.sound.specs.Listed.{areaListed, coversB, heldIn, noneAboveB}
 use Rattle.sound.proofs.Lists.{coveredAt}
 use Rattle.sound.proofs.Sums.{none-left}
 use Rattle.sound.proofs.Worth.{serial-at, kind-at, area-at}
@@ -90,8 +90,8 @@ module _ (t : List Node) (i : ℕ) where
   unfolding heldIn
   held-next = rw (add-one i, serial-at t i) refl
 
-  pub area-next : areaIn 1 (kindsOf t) (areasOf t) (i + 1) ≡ areaIn 1 (kindsOf t) (areasOf t) i + usedBy (at t i)
-  unfolding areaIn
+  pub area-next : areaListed 1 (kindsOf t) (areasOf t) (i + 1) ≡ areaListed 1 (kindsOf t) (areasOf t) i + usedBy (at t i)
+  unfolding areaListed
   area-next = rw (add-one i, kind-at t i, area-at t i) refl
 
 -- how the pass stands: all tests so far are passed and the sum is no more than `used`, or not; where the sum is no more, `left` is what it lacks
@@ -159,11 +159,11 @@ module _ {tests ok : Bool} {sum used left : ℕ} (g : Going tests sum used ok le
 -- the places before i are passed
 pub record Counting (limit : ℕ) (t : List Node) (last used : ℕ) (free removable hung : List ℕ) (ok : Bool) (count left i : ℕ) : Type 0 where
   pub counted : count ≡ heldIn (serialsOf t) i
-  pub going : Going (every (passAt limit t last free removable hung) i) (areaIn 1 (kindsOf t) (areasOf t) i) used ok left
+  pub going : Going (every (passAt limit t last free removable hung) i) (areaListed 1 (kindsOf t) (areasOf t) i) used ok left
 
 pub counting-none : (limit : ℕ) (t : List Node) (last used : ℕ) (free removable hung : List ℕ)
     → Counting limit t last used free removable hung true 0 used 0
-unfolding every heldIn areaIn
+unfolding every heldIn areaListed
 counting-none limit t last used free removable hung = record { counted = refl; going = going-none used }
 
 module _ {limit : ℕ} {t : List Node} {last used : ℕ} {free removable hung : List ℕ} {ok : Bool} {count left : ℕ}

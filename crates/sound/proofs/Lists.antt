@@ -13,7 +13,7 @@ use lib.ListN.{getD}
 use borrow.Author.Tests.{eq-eqb, lt-ltb, le-ltb, le-leb, lt-leb, leb-false, eqb-true, ltb-true}
 use Rattle.lists.specs.Search.{every}
 use Rattle.lists.proofs.Scan.{and-left, and-right, every-all, every-at, every-more, or-cases}
-use Rattle.sound.specs.Listed.{wanted, agree, coversB, before, sortedB}
+use Rattle.sound.specs.Listed.{wantedIn, agree, coversB, before, sortedB}
 
 -- two truth values agree exactly where they are equal
 pub agree-says : (a b : Bool) → agree a b ≡ true → a ≡ b
@@ -28,18 +28,18 @@ agree-shown false false e = refl
 
 -- the test at one place
 abbrev pub coveredAt : Bool → List ℕ → List ℕ → List ℕ → ℕ → Bool
-coveredAt free serial kind f i = agree (wanted free serial kind i) (eqb (getD f i 0) 1)
+coveredAt free serial kind f i = agree (wantedIn free serial kind i) (eqb (getD f i 0) 1)
 
 module _ (limit : ℕ) (free : Bool) (serial kind f : List ℕ) where
   -- a flag stands exactly where it is wanted
-  pub covers-says : coversB limit free serial kind f ≡ true → (i : ℕ) → i < limit → wanted free serial kind i ≡ eqb (getD f i 0) 1
+  pub covers-says : coversB limit free serial kind f ≡ true → (i : ℕ) → i < limit → wantedIn free serial kind i ≡ eqb (getD f i 0) 1
   unfolding coversB
-  covers-says e i h = agree-says (wanted free serial kind i) (eqb (getD f i 0) 1) (every-at (coveredAt free serial kind f) limit i e h)
+  covers-says e i h = agree-says (wantedIn free serial kind i) (eqb (getD f i 0) 1) (every-at (coveredAt free serial kind f) limit i e h)
 
-  pub covers-shown : ((i : ℕ) → i < limit → wanted free serial kind i ≡ eqb (getD f i 0) 1) → coversB limit free serial kind f ≡ true
+  pub covers-shown : ((i : ℕ) → i < limit → wantedIn free serial kind i ≡ eqb (getD f i 0) 1) → coversB limit free serial kind f ≡ true
   unfolding coversB
   covers-shown h =
-      every-all (coveredAt free serial kind f) limit (λ i l. agree-shown (wanted free serial kind i) (eqb (getD f i 0) 1) (h i l))
+      every-all (coveredAt free serial kind f) limit (λ i l. agree-shown (wantedIn free serial kind i) (eqb (getD f i 0) 1) (h i l))
 
 -- a piece of area a and serial s before one of area b and serial t: the test, and as a fact
 abbrev ahead : ℕ → ℕ → ℕ → ℕ → Bool

@@ -9,7 +9,7 @@ use native.Mathlib.Decide.{ℕ-discrete}
 use lib.Dec.{eqb}
 use lib.ListN.{getD}
 use borrow.Author.Tests.{eq-eqb, ne-eqb}
-use Rattle.sound.specs.Listed.{heldIn, areaIn}
+use Rattle.sound.specs.Listed.{heldIn, areaListed}
 
 -- what falls at no step falls nowhere
 grows : (g : ℕ → ℕ) → ((n : ℕ) → g n ≤ g (suc n)) → (m n : ℕ) → n ≤ m → g n ≤ g m
@@ -31,22 +31,22 @@ module _ (serial : List ℕ) where
       go false h = omega arith
 
 module _ (k : ℕ) (kind area : List ℕ) where
-  pub area-none : areaIn k kind area 0 ≡ 0
-  unfolding areaIn
+  pub area-none : areaListed k kind area 0 ≡ 0
+  unfolding areaListed
   area-none = refl
 
-  pub area-here : (n : ℕ) → getD kind n 0 ≡ k → areaIn k kind area (n + 1) ≡ areaIn k kind area n + getD area n 0
-  unfolding areaIn
+  pub area-here : (n : ℕ) → getD kind n 0 ≡ k → areaListed k kind area (n + 1) ≡ areaListed k kind area n + getD area n 0
+  unfolding areaListed
   area-here n e = rw (add-one n, eq-eqb (getD kind n 0) k e) refl
 
-  pub area-pass : (n : ℕ) → (getD kind n 0 ≡ k → ⊥) → areaIn k kind area (n + 1) ≡ areaIn k kind area n
-  unfolding areaIn
+  pub area-pass : (n : ℕ) → (getD kind n 0 ≡ k → ⊥) → areaListed k kind area (n + 1) ≡ areaListed k kind area n
+  unfolding areaListed
   area-pass n e = rw (add-one n, ne-eqb (getD kind n 0) k e) (omega arith)
 
   -- the sum over more places is no smaller
-  pub area-grows : (m n : ℕ) → n ≤ m → areaIn k kind area n ≤ areaIn k kind area m
-  unfolding areaIn
-  area-grows = grows (areaIn k kind area) (λ n. omega arith)
+  pub area-grows : (m n : ℕ) → n ≤ m → areaListed k kind area n ≤ areaListed k kind area m
+  unfolding areaListed
+  area-grows = grows (areaListed k kind area) (λ n. omega arith)
 
 -- nothing is left exactly where the sum is `used`
 pub none-left : (left sum used : ℕ) → left + sum ≡ used → eqb left 0 ≡ eqb sum used

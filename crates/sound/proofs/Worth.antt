@@ -17,12 +17,12 @@ use Rattle.piece.specs.Row.{nil, grow}
 use Rattle.piece.specs.Kinds.{isFree, isPart}
 use Rattle.piece.specs.Numbers.{kindNo}
 use Rattle.tree.specs.Tree.{Tree, At, count}
-use Rattle.tree.specs.Figures.{areaOf, partArea, freeArea}
+use Rattle.tree.specs.Figures.{areaOfKind, partArea, freeArea}
 use Rattle.table.specs.declared.Node.{Node}
 use Rattle.table.specs.Table.{zeroNode, at, Holds}
 use Rattle.table.specs.Columns as columns
 use Rattle.table.proofs.Everywhere.{sum, worth, holds-worth}
-use Rattle.sound.specs.Listed.{heldIn, areaIn}
+use Rattle.sound.specs.Listed.{heldIn, areaListed}
 use Rattle.sound.specs.Columns.{areasOf, serialsOf, kindsOf}
 
 -- the area of a piece of the kind with this number, and one for a held piece
@@ -42,8 +42,8 @@ module _ (t : List Node) where
   pub area-at : (i : ℕ) → getD (areasOf t) i 0 ≡ area (at t i .datum .size)
   area-at i = List·getD-map columns.areaOf t i zeroNode
 
-  area-sum : (κ n : ℕ) → areaIn κ (kindsOf t) (areasOf t) n ≡ sum (λ i. kindArea κ (at t i .datum)) n
-  unfolding areaIn kindArea
+  area-sum : (κ n : ℕ) → areaListed κ (kindsOf t) (areasOf t) n ≡ sum (λ i. kindArea κ (at t i .datum)) n
+  unfolding areaListed kindArea
   area-sum κ zero = refl
   area-sum κ (suc n) = rw (area-sum κ n, kind-at n, area-at n) refl
 
@@ -52,7 +52,7 @@ module _ (t : List Node) where
   held-sum zero = refl
   held-sum (suc n) = rw (held-sum n, serial-at n) refl
 
-area-worth : (κ : ℕ) (g : Kind → Bool) → ((k : Kind) → eqb (kindNo k) κ ≡ g k) → (w : Tree) → worth (kindArea κ) w ≡ areaOf g w
+area-worth : (κ : ℕ) (g : Kind → Bool) → ((k : Kind) → eqb (kindNo k) κ ≡ g k) → (w : Tree) → worth (kindArea κ) w ≡ areaOfKind g w
 unfolding kindArea
 area-worth κ g e nil = refl
 area-worth κ g e (grow p d k r) =
@@ -67,7 +67,7 @@ count-worth (grow p d k r) s =
 
 module _ (limit : ℕ) (t : List Node) (w : Tree) (h : Holds limit t w) where
   -- "used area is the sum over parts"
-  pub holds-part-area : areaIn 1 (kindsOf t) (areasOf t) limit ≡ partArea w
+  pub holds-part-area : areaListed 1 (kindsOf t) (areasOf t) limit ≡ partArea w
   holds-part-area = area-sum t 1 limit ∙ holds-worth (kindArea 1) limit t w (unfold kindArea in refl) h ∙ area-worth 1 isPart parts w
     where
       parts : (k : Kind) → eqb (kindNo k) 1 ≡ isPart k
@@ -76,7 +76,7 @@ module _ (limit : ℕ) (t : List Node) (w : Tree) (h : Holds limit t w) where
       parts Structure = refl
 
   -- "Free area is the sum of width times height over the free pieces"
-  pub holds-free-area : areaIn 0 (kindsOf t) (areasOf t) limit ≡ freeArea w
+  pub holds-free-area : areaListed 0 (kindsOf t) (areasOf t) limit ≡ freeArea w
   holds-free-area = area-sum t 0 limit ∙ holds-worth (kindArea 0) limit t w (unfold kindArea in refl) h ∙ area-worth 0 isFree frees w
     where
       frees : (k : Kind) → eqb (kindNo k) 0 ≡ isFree k

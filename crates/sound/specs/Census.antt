@@ -10,7 +10,7 @@ use Rattle.table.specs.declared.Node.{Node}
 use Rattle.sound.specs.Columns.{areasOf, serialsOf, kindsOf}
 use Rattle.sound.specs.Places.{placeB, placesB}
 use Rattle.sound.specs.Hung.{markedB}
-use Rattle.sound.specs.Listed.{agree, areaIn, coversB, heldIn, noneAboveB}
+use Rattle.sound.specs.Listed.{agree, areaListed, coversB, heldIn, noneAboveB}
 
 -- ---- at one place
 
@@ -43,4 +43,4 @@ unfoldable pub censusB : ℕ → List Node → (last used held : ℕ) → (free 
 censusB limit t last used held free removable hung =
     (placesB limit t && (noneAboveB limit (serialsOf t) last && (markedB limit (serialsOf t) hung
     && (coversB limit true (serialsOf t) (kindsOf t) free && coversB limit false (serialsOf t) (kindsOf t) removable))))
-    && (eqb (heldIn (serialsOf t) limit) held && eqb (areaIn 1 (kindsOf t) (areasOf t) limit) used)
+    && (eqb (heldIn (serialsOf t) limit) held && eqb (areaListed 1 (kindsOf t) (areasOf t) limit) used)

@@ -11,6 +11,6 @@ pub record Columns : Type 0 where
   pub next : List ℕ
   pub kind : List ℕ
 
-abbrev pub columnsOf : List Node → Columns
-columnsOf t =
+abbrev pub checkedColumns : List Node → Columns
+checkedColumns t =
     record { area = areasOf t; serial = serialsOf t; first = firstsOf t; next = nextsOf t; kind = kindsOf t }

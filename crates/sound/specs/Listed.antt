@@ -7,8 +7,8 @@ use lib.ListN.{getD}
 use Rattle.lists.specs.Search.{every}
 
 -- the place is held by a free piece, or by a part or a structure: what the free list holds, and what the removable list holds
-abbrev pub wanted : Bool → List ℕ → List ℕ → ℕ → Bool
-wanted free serial kind i =
+abbrev pub wantedIn : Bool → List ℕ → List ℕ → ℕ → Bool
+wantedIn free serial kind i =
     not (eqb (getD serial i 0) 0) && cond free (eqb (getD kind i 0) 0) (not (eqb (getD kind i 0) 0))
 
 abbrev pub agree : Bool → Bool → Bool
@@ -18,7 +18,7 @@ agree false b = not b
 -- the flags stand exactly where the list's places should be
 unfoldable pub coversB : ℕ → Bool → List ℕ → List ℕ → List ℕ → Bool
 coversB limit free serial kind f =
-    every (λ (i : ℕ). agree (wanted free serial kind i) (eqb (getD f i 0) 1)) limit
+    every (λ (i : ℕ). agree (wantedIn free serial kind i) (eqb (getD f i 0) 1)) limit
 
 -- "greatest area first, equal areas by rising serial": the piece at p before the one at q
 abbrev pub before : List ℕ → List ℕ → ℕ → ℕ → Bool
@@ -36,9 +36,9 @@ heldIn serial zero = 0
 heldIn serial (suc n) = heldIn serial n + cond (eqb (getD serial n 0) 0) 0 1
 
 -- the area of the pieces of a kind among the first n places
-unfoldable pub areaIn : ℕ → List ℕ → List ℕ → ℕ → ℕ
-areaIn k kind area zero = 0
-areaIn k kind area (suc n) = areaIn k kind area n + cond (eqb (getD kind n 0) k) (getD area n 0) 0
+unfoldable pub areaListed : ℕ → List ℕ → List ℕ → ℕ → ℕ
+areaListed k kind area zero = 0
+areaListed k kind area (suc n) = areaListed k kind area n + cond (eqb (getD kind n 0) k) (getD area n 0) 0
 
 -- no serial is above the last one issued
 unfoldable pub noneAboveB : ℕ → List ℕ → ℕ → Bool

@@ -3,7 +3,7 @@ ghost use mathlib.Core.Path.{_≡_};
 ghost use Prim.Native.Nat.{ℕ, _<_, _≤_, _^_};
 ghost use lib.ListN.{getD};
 ghost use Rattle.lists.specs.Lists.{limit};
-ghost use Rattle.sound.specs.Listed.{areaIn, before, sortedB};
+ghost use Rattle.sound.specs.Listed.{areaListed, before, sortedB};
 use table::LIMIT;
 
 // Whether the piece at p comes before the one at q: greatest area first, equal areas by rising serial.
@@ -46,8 +46,8 @@ pub fn is_sorted<'a>(
 
 // The area of the free pieces, where it is known to be small.
 pub fn free_sum<'a>(kind: &'a [u8; LIMIT], area: &'a [u64; LIMIT]) -> u64
-    requires { ⌜ areaIn 0 (now kind) (now area) limit < 2 ^ 52 ⌝ }
-    ensures { λ r. ⌜ r ≡ areaIn 0 (now (kind .entry)) (now (area .entry)) limit ⌝ }
+    requires { ⌜ areaListed 0 (now kind) (now area) limit < 2 ^ 52 ⌝ }
+    ensures { λ r. ⌜ r ≡ areaListed 0 (now (kind .entry)) (now (area .entry)) limit ⌝ }
 {
     let mut sum: u64 = 0;
     let mut i: usize = 0;

@@ -21,7 +21,7 @@ use Rattle.piece.specs.Insertion.{Made, laidAll, blockOf, table}
 use Rattle.tree.specs.Tree.{Tree, In, At, Distinct, after}
 use Rattle.tree.specs.Sound.{FreePiece, Kinded, Children, Sound}
 use Rattle.tree.specs.Snapshot.{shape}
-use Rattle.tree.specs.Booking.{Booking, planted, block, booked, book}
+use Rattle.tree.specs.Booking.{Booking, planted, block, bookedRow, book}
 use Rattle.tree.specs.Removal.{joined, settled, remove}
 use Rattle.tree.specs.Apart.{Alike, Clear}
 use Rattle.piece.proofs.Sizes.{laid-twice, fits-laid, fits-sides}
@@ -78,13 +78,13 @@ module _ (y : ℕ) (b : Booking) (h : Clear y b) where
 book-behind : (y : ℕ) (b b′ c c′ : Booking) (d : Datum) (r : Tree) → Clear y b → Alike b b′ → Alike c c′
     → shape (book y c (after (block b d) r)) ≡ shape (after (block b′ d) (book y c′ r))
 book-behind y b b′ c c′ d r n ab ac =
-    rw (past y (booked c) (block b d) r (block-clear y b n d))
-    (simp shape-after (rw (block-alike ab d, alike y (booked c) (booked c′) (booked-alike ac) r)))
+    rw (past y (bookedRow c) (block b d) r (block-clear y b n d))
+    (simp shape-after (rw (block-alike ab d, alike y (bookedRow c) (bookedRow c′) (booked-alike ac) r)))
 
 pub books-commute : (x y : ℕ) (b c b′ c′ : Booking) → (x ≡ y → ⊥) → Clear y b → Clear x c′ → Alike b b′ → Alike c c′ → (t : Tree)
     → shape (book y c (book x b t)) ≡ shape (book x b′ (book y c′ t))
 books-commute x y b c b′ c′ n nb nc ab ac t =
-    commute x y (booked b) (booked c) (booked b′) (booked c′) n (λ r. Unit {0}) (λ p d k r w. tt) (λ p d k r w. tt)
+    commute x y (bookedRow b) (bookedRow c) (bookedRow b′) (bookedRow c′) n (λ r. Unit {0}) (λ p d k r w. tt) (λ p d k r w. tt)
     (λ d k r w. book-behind y b b′ c c′ d r nb ab ac)
     (λ d k r w. sym (book-behind x c′ c b′ b d r nc (alike-sym ac) (alike-sym ab))) t tt
 

@@ -13,7 +13,7 @@ use Rattle.piece.specs.Row.{nil, grow}
 use Rattle.piece.specs.Insertion.{newNodes}
 use Rattle.tree.specs.Tree.{Tree, In, At, Distinct, count, change, rest}
 use Rattle.tree.specs.Sound.{Sound}
-use Rattle.tree.specs.Booking.{Booking, booked, book}
+use Rattle.tree.specs.Booking.{Booking, bookedRow, book}
 use Rattle.tree.specs.Removal.{settled, remove, left, cleared}
 use Rattle.tree.proofs.Rows.{same?, in-eq, at-in, count-after}
 use Rattle.tree.proofs.Kept.{Where, Alone, free-alone}
@@ -57,7 +57,7 @@ module _ (x : ℕ) (f : Datum → Tree → Tree) (P : Datum → Tree → Tree �
 pub count-book : (limit : ℕ) (settings : Settings) (t : Tree) (x : ℕ) (d : Datum) (b : Booking) → Sound limit settings t → At x d t
     → d .kind ≡ Free → count (book x b t) + 1 ≡ count t + newNodes (b .shape)
 count-book limit settings t x d b h i a =
-    count-change x (booked b) (Alone d) 1 (newNodes (b .shape))
+    count-change x (bookedRow b) (Alone d) 1 (newNodes (b .shape))
     (λ e k r z. rw count-after (omega (arith, block-count b e, ap count (z .1))))
     t (at-in x d t i) (h .distinct) (free-alone settings x d t (h .topped) (h .distinct) i a)
 
@@ -67,4 +67,4 @@ in-book x b i t u h =
     ⊎-elim
     (λ z. inl (in-less x rest (λ j d r o. o) i t z, λ e. gone x rest (λ j d r o. o) t u (in-eq (change x rest t) e z)))
     (λ z. inr (z .0))
-    (in-change x rest (booked b) (New b) (booked-in b) i t h)
+    (in-change x rest (bookedRow b) (New b) (booked-in b) i t h)

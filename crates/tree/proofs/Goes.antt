@@ -7,7 +7,7 @@ use borrow.Author.Tests.{eq-eqb, ne-eqb}
 use Rattle.piece.specs.declared.node.Datum.{Datum}
 use Rattle.piece.specs.Row.{nil, grow}
 use Rattle.tree.specs.Tree.{Tree, In, Distinct, after, rest}
-use Rattle.tree.specs.Booking.{Booking, block, booked, book}
+use Rattle.tree.specs.Booking.{Booking, block, bookedRow, book}
 use Rattle.tree.specs.Removal.{withoutLast, settled, remove, left, cleared, subtree}
 use Rattle.tree.specs.Steps.{less, Kids}
 use Rattle.tree.proofs.Rows.{in-eq, in-second, after-nil}
@@ -67,4 +67,4 @@ module _ (q x : ℕ) (a : Tree) (d : Datum) (l b w : Tree) (dis : Distinct w) (k
 
   -- a booking puts its block in the place of x
   pub book-put : (c : Booking) → book x c w ≡ put q (after a (after (block c d) b)) w
-  book-put c = change-put x (booked c) q a d l b w dis kids
+  book-put c = change-put x (bookedRow c) q a d l b w dis kids

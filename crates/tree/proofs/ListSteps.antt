@@ -12,7 +12,7 @@ use lib.Dec.{ltb}
 use lib.ListN.{getD, set, length, take, drop, length-append, length-drop, drop-of-length-le, List·getD-append}
 use lib.Seq.{length-take-le, take-length, drop-length, getD-take, getD-drop, getD-at, getD-append-add, getD-set-same, getD-set-other}
 use Rattle.tree.proofs.Rows.{same?}
-use Rattle.tree.specs.ListSteps.{spot, cut, strike, push, berth, put}
+use Rattle.tree.specs.ListSteps.{spot, omit, strike, push, berth, put}
 use Rattle.lists.specs.Lists.{swapped}
 use Rattle.lists.proofs.Found.{index-most, index-holds, index-found}
 use Rattle.lists.proofs.Scan.{first-most, first-holds, first-before}
@@ -41,8 +41,8 @@ module _ (xs : List ℕ) (p : ℕ) where
         go (yes b) = absurd (absent (spot xs p) b (index-holds xs (length xs) p b))
         go (no b) = let m = index-most xs (length xs) p in omega arith
 
-    pub cut-absent : cut xs p ≡ xs
-    unfolding cut
+    pub cut-absent : omit xs p ≡ xs
+    unfolding omit
     cut-absent = rw (spot-absent, take-length xs, drop-of-length-le xs {i = length xs + 1} (omega arith)) (append-nil xs)
 
     pub strike-absent : strike xs p ≡ xs
@@ -268,14 +268,14 @@ swapped-fewer xs k inside =
 
 -- p stands in the list
 module _ (xs : List ℕ) (p : ℕ) (inside : spot xs p < length xs) where
-  cut-wider : Wider (spot xs p) (getD xs (spot xs p) 0) (cut xs p) xs
-  unfolding cut
+  cut-wider : Wider (spot xs p) (getD xs (spot xs p) 0) (omit xs p) xs
+  unfolding omit
   cut-wider = less-wider xs (spot xs p) inside
 
-  pub cut-fewer : Fewer (spot xs p) xs (cut xs p)
-  cut-fewer = narrower (spot xs p) (getD xs (spot xs p) 0) xs (cut xs p) cut-wider
+  pub cut-fewer : Fewer (spot xs p) xs (omit xs p)
+  cut-fewer = narrower (spot xs p) (getD xs (spot xs p) 0) xs (omit xs p) cut-wider
 
-  cut-rises : (i j : ℕ) (a : i < length (cut xs p)) (b : j < length (cut xs p)) → i < j
+  cut-rises : (i j : ℕ) (a : i < length (omit xs p)) (b : j < length (omit xs p)) → i < j
       → cut-fewer .stood i a .0 < cut-fewer .stood j b .0
   unfolding cut-fewer narrower
   cut-rises i j a b =
@@ -300,12 +300,12 @@ Orderly xs ys =
 pub same-orderly : (xs : List ℕ) → Orderly xs xs
 same-orderly xs i j a b = (i, j, a, b, refl, refl)
 
-pub cut-orderly : (xs : List ℕ) (p : ℕ) → Orderly xs (cut xs p)
+pub cut-orderly : (xs : List ℕ) (p : ℕ) → Orderly xs (omit xs p)
 cut-orderly xs p = ⊎-elim (λ s. within (s .0)) (λ absent. rw (cut-absent xs p absent) (same-orderly xs)) (spot-case xs p)
   where
-    within : spot xs p < length xs → Orderly xs (cut xs p)
+    within : spot xs p < length xs → Orderly xs (omit xs p)
     within s i j a b =
-        let c : i < length (cut xs p) = omega arith in
+        let c : i < length (omit xs p) = omega arith in
         let f = cut-fewer xs p s .stood i c in
         let g = cut-fewer xs p s .stood j b in
         (f .0, g .0, cut-rises xs p s i j c b a, g .1, f .3, g .3)

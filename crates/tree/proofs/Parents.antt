@@ -15,7 +15,7 @@ use Rattle.piece.specs.Kinds.{isFree}
 use Rattle.lists.proofs.Scan.{clash}
 use Rattle.tree.specs.Tree.{Tree, In, At, Distinct, after, change, rest, isNil}
 use Rattle.tree.specs.Sound.{Sound}
-use Rattle.tree.specs.Booking.{Booking, block, booked, book}
+use Rattle.tree.specs.Booking.{Booking, block, bookedRow, book}
 use Rattle.tree.specs.Removal.{withoutLast, settled, remove, left, cleared}
 use Rattle.tree.specs.Accepted.{Fresh}
 use Rattle.tree.specs.Steps.{less}
@@ -185,17 +185,17 @@ module _ (limit : ℕ) (settings : Settings) (w : Tree) (sound : Sound limit set
       l : In i (change x rest w)
       l = at-in i e (less x w) h
 
-      same-row : (v : ℕ) (c : Datum) (r : Tree) → Distinct (booked b c r) → In i r → parentIn i v (booked b c r) ≡ parentIn i v r
+      same-row : (v : ℕ) (c : Datum) (r : Tree) → Distinct (bookedRow b c r) → In i r → parentIn i v (bookedRow b c r) ≡ parentIn i v r
       same-row v c r a z = parent-second i v (block b c) r (λ y. after-apart (block b c) r a i y z)
 
       same : parentOf limit i (book x b w) ≡ parentOf limit i w
       same =
-          parent-change x rest (booked b) (λ j c r z. z) (λ j c r z. in-second j (block b c) r z) i same-row (λ v c r. parent-in i v r) limit w
+          parent-change x rest (bookedRow b) (λ j c r z. z) (λ j c r z. in-second j (block b c) r z) i same-row (λ v c r. parent-in i v r) limit w
           (sound .distinct) (book-distinct limit x b w (sound .distinct) new) l
 
       stays : (q ≡ limit) ⊎ In q (change x rest w)
       stays =
-          parent-stays x rest (booked b) (λ j c r z. z) (λ j c r z. in-second j (block b c) r z) i same-row (λ v c r. parent-in i v r) limit w
+          parent-stays x rest (bookedRow b) (λ j c r z. z) (λ j c r z. in-second j (block b c) r z) i same-row (λ v c r. parent-in i v r) limit w
           (sound .distinct) l
 
       held : (f : Datum) × At q f (less x w) → (f : Datum) × At q f w × At q f (book x b w)

@@ -16,7 +16,7 @@ use Rattle.piece.proofs.Numbers.{kind-back, cut-back}
 use Rattle.piece.specs.Numbers.{kindNo, cutNo, kindOf, cutOf}
 use Rattle.tree.specs.Tree.{Tree}
 use Rattle.tree.specs.Sound.{maxSide, maxNumber, extent, Kinded, Children, Sound}
-use Rattle.tree.specs.Snapshot.{two, four, nodeBytes, snapshot, Same, bare, shape}
+use Rattle.tree.specs.Snapshot.{twoThen, fourThen, nodeBytes, snapshot, Same, unmarked, shape}
 
 -- ---- one node
 
@@ -32,7 +32,7 @@ pub record Written (l : ℕ) (d : Datum) : Type 0 where
   pub small : Small (d .size)
 
 -- what the bytes of a number say, and what follows them
-two-read : (v w : ℕ) {x y : List ℕ} → v ≤ maxNumber → w ≤ maxNumber → two v x ≡ two w y → (v ≡ w) × (x ≡ y)
+two-read : (v w : ℕ) {x y : List ℕ} → v ≤ maxNumber → w ≤ maxNumber → twoThen v x ≡ twoThen w y → (v ≡ w) × (x ≡ y)
 two-read v w hv hw e =
     let high : v / 256 % 256 ≡ w / 256 % 256 = cc in
     let low : v % 256 ≡ w % 256 = cc in
@@ -46,7 +46,7 @@ upper v w hv hw a b = omega arith
 middle : (v w : ℕ) → v / 65536 ≡ w / 65536 → v / 256 % 256 ≡ w / 256 % 256 → v / 256 ≡ w / 256
 middle v w h a = omega arith
 
-four-read : (v w : ℕ) {x y : List ℕ} → v ≤ maxSide → w ≤ maxSide → four v x ≡ four w y → (v ≡ w) × (x ≡ y)
+four-read : (v w : ℕ) {x y : List ℕ} → v ≤ maxSide → w ≤ maxSide → fourThen v x ≡ fourThen w y → (v ≡ w) × (x ≡ y)
 four-read v w hv hw e =
     let high : v / 256 ≡ w / 256 = middle v w (upper v w hv hw (cc) (cc)) (cc) in
     let low : v % 256 ≡ w % 256 = cc in
@@ -54,18 +54,18 @@ four-read v w hv hw e =
 
 -- the last eight bytes of a node
 abbrev sides : Datum → List ℕ → List ℕ
-sides d x = four (d .size .width) (four (d .size .height) x)
+sides d x = fourThen (d .size .width) (fourThen (d .size .height) x)
 
 -- what the bytes of a node say, and what follows them
 node-read : {l m : ℕ} (d e : Datum) {x y : List ℕ} → Written l d → Written m e → nodeBytes d x ≡ nodeBytes e y
-    → (bare d ≡ bare e) × (x ≡ y)
+    → (unmarked d ≡ unmarked e) × (x ≡ y)
 unfolding nodeBytes
 node-read d e {x} {y} a b h =
     let kinds : kindNo (d .kind) ≡ kindNo (e .kind) = cc in
     let kind : d .kind ≡ e .kind = sym (kind-back (d .kind)) ∙ ap kindOf kinds ∙ kind-back (e .kind) in
     let cuts : cutNo (d .cut) ≡ cutNo (e .cut) = cc in
     let cut : d .cut ≡ e .cut = sym (cut-back (d .cut)) ∙ ap cutOf cuts ∙ cut-back (e .cut) in
-    let rest : two (d .number) (sides d x) ≡ two (e .number) (sides e y) = cc in
+    let rest : twoThen (d .number) (sides d x) ≡ twoThen (e .number) (sides e y) = cc in
     let number = two-read (d .number) (e .number) (a .number) (b .number) rest in
     let width = four-read (d .size .width) (e .size .width) (a .small .width) (b .small .width) (number .1) in
     let height = four-read (d .size .height) (e .size .height) (a .small .height) (b .small .height) (width .1) in

@@ -16,7 +16,7 @@ use Rattle.piece.proofs.Sizes.{laid-twice}
 use Rattle.tree.specs.Tree.{Tree, At, Distinct, isNil, after}
 use Rattle.tree.specs.Sound.{Child, Children, Sound}
 use Rattle.piece.specs.Kinds.{isFree}
-use Rattle.tree.specs.Snapshot.{shape, bare}
+use Rattle.tree.specs.Snapshot.{shape, unmarked}
 use Rattle.tree.specs.Removal.{freed, joined, board, lastFree, withoutLast, settled, remove}
 use Rattle.tree.specs.Apart.{Removable}
 use Rattle.tree.proofs.Rows.{same?}
@@ -54,7 +54,7 @@ settled-join n s d z e h = rw h
 
 -- a row after one of its pieces went, but for the marks
 shape-settled : (n s : ℕ) (d : Datum) (r : Tree)
-    → shape (settled n s d r) ≡ after (shape (withoutLast r)) (grow 0 (bare (freed 0 d (board d (lastFree r)))) nil nil)
+    → shape (settled n s d r) ≡ after (shape (withoutLast r)) (grow 0 (unmarked (freed 0 d (board d (lastFree r)))) nil nil)
 unfolding settled
 shape-settled n s d r = shape-after (withoutLast r) (grow n (freed s d (board d (lastFree r))) nil nil)
 
@@ -76,7 +76,7 @@ board-swap c d e s u (some f) p q h =
 -- two pieces of a row go, one after the other: their boards and the row's free piece are one piece at the end
 settled-twice : (n s m s′ : ℕ) (d e : Datum) (r : Tree)
     → shape (settled m s′ e (settled n s d r))
-    ≡ after (shape (withoutLast r)) (grow 0 (bare (freed 0 e (joined e (freed s d (board d (lastFree r)))))) nil nil)
+    ≡ after (shape (withoutLast r)) (grow 0 (unmarked (freed 0 e (joined e (freed s d (board d (lastFree r)))))) nil nil)
 unfolding settled
 settled-twice n s m s′ d e r =
     let z = board d (lastFree r) in

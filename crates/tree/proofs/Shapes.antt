@@ -2,7 +2,7 @@
 use mathlib.Core.Path.{_≡_, refl, sym, ap, _∙_}
 use Rattle.piece.specs.Row.{nil, grow}
 use Rattle.tree.specs.Tree.{Tree, after}
-use Rattle.tree.specs.Snapshot.{nodeBytes, snapshot, shape, bare, Same}
+use Rattle.tree.specs.Snapshot.{nodeBytes, snapshot, shape, unmarked, Same}
 
 -- the snapshot shows nothing but the shape
 snapshot-shape : (t : Tree) → snapshot t ≡ snapshot (shape t)
@@ -15,4 +15,4 @@ same-of-shape t u e = record { bytes = snapshot-shape t ∙ ap snapshot e ∙ sy
 
 pub shape-after : (a b : Tree) → shape (after a b) ≡ after (shape a) (shape b)
 shape-after nil b = refl
-shape-after (grow p d k r) b = ap (λ (z : Tree). grow 0 (bare d) (shape k) z) (shape-after r b)
+shape-after (grow p d k r) b = ap (λ (z : Tree). grow 0 (unmarked d) (shape k) z) (shape-after r b)

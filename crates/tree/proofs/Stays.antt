@@ -12,7 +12,7 @@ use Rattle.piece.specs.Row.{nil, grow}
 use Rattle.tree.specs.Tree.{Tree, At, Inside, after, isNil, change, rest}
 use Rattle.piece.specs.Kinds.{isFree}
 use Rattle.tree.specs.Sound.{Children, Topped}
-use Rattle.tree.specs.Booking.{Booking, block, booked, book}
+use Rattle.tree.specs.Booking.{Booking, block, bookedRow, book}
 use Rattle.tree.specs.Removal.{withoutLast, settled, remove, left, cleared}
 use Rattle.tree.specs.Steps.{less}
 use Rattle.tree.proofs.Rows.{same?, at-in}
@@ -90,7 +90,7 @@ at-others x f P i e bare more n (grow y d k r) w h =
 pub at-book : (x : ℕ) (d : Datum) (b : Booking) (i : ℕ) (e : Datum) (t : Tree) → Where x (Alone d) t
     → (i ≡ x → ⊥) → At i e t → At i e (book x b t)
 at-book x d b i e t w n h =
-    at-others x (booked b) (Alone d) i e (λ c k r z. z .1) (λ c r. at-second i e (block b c) r) n t w h
+    at-others x (bookedRow b) (Alone d) i e (λ c k r z. z .1) (λ c r. at-second i e (block b c) r) n t w h
 
 pub at-remove : (x n s i : ℕ) (e : Datum) (t : Tree) → At i e (cleared x t) → At i e (remove x n s t)
 unfolding settled

@@ -44,8 +44,8 @@ block b d = planted b (d .level) (d .cut) (blockOf (b .shape) (d .cut) (d .size)
 
 -- "The free piece W x H goes"; "these nodes are created in order, at the end of their parent's children", where the free piece stood, since it
 -- is last
-abbrev pub booked : Booking → Datum → Tree → Tree
-booked b d r = after (block b d) r
+abbrev pub bookedRow : Booking → Datum → Tree → Tree
+bookedRow b d r = after (block b d) r
 
 abbrev pub book : ℕ → Booking → Tree → Tree
-book x b t = change x (booked b) t
+book x b t = change x (bookedRow b) t

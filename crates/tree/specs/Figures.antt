@@ -12,17 +12,17 @@ use Rattle.piece.specs.Kinds.{isFree, isPart}
 use Rattle.tree.specs.Tree.{Tree}
 
 -- the areas of the pieces of a kind, added up
-abbrev pub areaOf : (Kind → Bool) → Tree → ℕ
-areaOf f nil = 0
-areaOf f (grow p d k r) = cond (f (d .kind)) (area (d .size)) 0 + (areaOf f k + areaOf f r)
+abbrev pub areaOfKind : (Kind → Bool) → Tree → ℕ
+areaOfKind f nil = 0
+areaOfKind f (grow p d k r) = cond (f (d .kind)) (area (d .size)) 0 + (areaOfKind f k + areaOfKind f r)
 
 -- "used area is the sum over parts"
 abbrev pub partArea : Tree → ℕ
-partArea t = areaOf isPart t
+partArea t = areaOfKind isPart t
 
 -- "Free area is the sum of width times height over the free pieces, never what the parts leave over."
 abbrev pub freeArea : Tree → ℕ
-freeArea t = areaOf isFree t
+freeArea t = areaOfKind isFree t
 
 -- the f64 0 and 1, and a whole number as an f64
 abbrev pub nought : Float

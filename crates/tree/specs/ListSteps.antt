@@ -15,8 +15,8 @@ abbrev pub spot : List ℕ → ℕ → ℕ
 spot xs p = indexOf xs (length xs) p
 
 -- the list without p; what stood behind it moves up
-unfoldable pub cut : List ℕ → ℕ → List ℕ
-cut xs p = take (spot xs p) xs ++ drop (spot xs p + 1) xs
+unfoldable pub omit : List ℕ → ℕ → List ℕ
+omit xs p = take (spot xs p) xs ++ drop (spot xs p + 1) xs
 
 -- "removal puts the final entry into the hole"
 unfoldable pub strike : List ℕ → ℕ → List ℕ
@@ -40,9 +40,9 @@ Names p [] = ⊥
 Names p (q ∷ qs) = (p ≡ q) ⊎ Names p qs
 
 -- several places, one after the other
-abbrev pub cutAll : List ℕ → List ℕ → List ℕ
-cutAll xs [] = xs
-cutAll xs (p ∷ ps) = cutAll (cut xs p) ps
+abbrev pub omitAll : List ℕ → List ℕ → List ℕ
+omitAll xs [] = xs
+omitAll xs (p ∷ ps) = omitAll (omit xs p) ps
 
 abbrev pub strikeAll : List ℕ → List ℕ → List ℕ
 strikeAll xs [] = xs

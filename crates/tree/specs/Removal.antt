@@ -63,5 +63,5 @@ numbers nil = []
 numbers (grow p d k r) = cond (isPart (d .kind)) (d .number ∷ (numbers k ++ numbers r)) (numbers k ++ numbers r)
 
 -- the part numbers that come out with x
-abbrev pub removed : ℕ → Tree → List ℕ
-removed x t = numbers (subtree x t)
+abbrev pub removedNumbers : ℕ → Tree → List ℕ
+removedNumbers x t = numbers (subtree x t)

@@ -10,15 +10,15 @@ use Rattle.piece.specs.Row.{nil, grow}
 use Rattle.tree.specs.Tree.{Tree}
 
 -- two and four bytes, highest first, before the others
-abbrev pub two : ℕ → List ℕ → List ℕ
-two v r = v / 256 % 256 ∷ v % 256 ∷ r
+abbrev pub twoThen : ℕ → List ℕ → List ℕ
+twoThen v r = v / 256 % 256 ∷ v % 256 ∷ r
 
-abbrev pub four : ℕ → List ℕ → List ℕ
-four v r = v / 16777216 % 256 ∷ v / 65536 % 256 ∷ two v r
+abbrev pub fourThen : ℕ → List ℕ → List ℕ
+fourThen v r = v / 16777216 % 256 ∷ v / 65536 % 256 ∷ twoThen v r
 
 unfoldable pub nodeBytes : Datum → List ℕ → List ℕ
 nodeBytes d r =
-    d .level ∷ kindNo (d .kind) ∷ cutNo (d .cut) ∷ two (d .number) (four (d .size .width) (four (d .size .height) r))
+    d .level ∷ kindNo (d .kind) ∷ cutNo (d .cut) ∷ twoThen (d .number) (fourThen (d .size .width) (fourThen (d .size .height) r))
 
 unfoldable pub snapshot : Tree → List ℕ
 snapshot nil = []
@@ -28,10 +28,10 @@ pub record Same (t u : Tree) : Type 0 where
   pub bytes : snapshot t ≡ snapshot u
 
 -- the tree without places and serials
-abbrev pub bare : Datum → Datum
-bare d =
+abbrev pub unmarked : Datum → Datum
+unmarked d =
     record { serial = 0; size = d .size; number = d .number; level = d .level; kind = d .kind; cut = d .cut }
 
 abbrev pub shape : Tree → Tree
 shape nil = nil
-shape (grow p d k r) = grow 0 (bare d) (shape k) (shape r)
+shape (grow p d k r) = grow 0 (unmarked d) (shape k) (shape r)

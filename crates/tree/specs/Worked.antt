@@ -38,49 +38,49 @@ pub data Called : Type 0 where
   no-such : Called
 
 -- what a case asks for: the offers, the removable list, the tree without its marks, or the sheet's usage
-pub data Answer : Type 0 where
-  offered : List Offer → Answer
-  listed : List Called → Answer
-  stands : Tree → Answer
-  used : Float → Answer
+pub data CaseAnswer : Type 0 where
+  offered : List Offer → CaseAnswer
+  listed : List Called → CaseAnswer
+  stands : Tree → CaseAnswer
+  used : Float → CaseAnswer
 
 abbrev pub opening : ℕ → Opening
 opening stages = record { number = 1; settings = record { stages = stages; sheet = sized 100 60 }; cut = Vertical }
 
-abbrev pub start : Tree
-start = opened (opening 3)
+abbrev pub openingTree : Tree
+openingTree = opened (opening 3)
 
 -- the part, number 7, w x h
-abbrev pub wanted : ℕ → ℕ → PartType
-wanted w h = record { number = 7; size = sized w h; turn = Fixed Default }
+abbrev pub wantedPart : ℕ → ℕ → PartType
+wantedPart w h = record { number = 7; size = sized w h; turn = Fixed Default }
 
-abbrev pub offers : ℕ → ℕ → ℕ → Answer
-offers w h stages = offered (offersOf (firstFree (opening stages)) (wanted w h) (opening stages .settings))
+abbrev pub offers : ℕ → ℕ → ℕ → CaseAnswer
+offers w h stages = offered (offersOf (firstFree (opening stages)) (wantedPart w h) (opening stages .settings))
 
 -- the part booked in the free piece, which is at place 1; the opening issued the serials 1 and 2
 abbrev pub booking : InsertionShape → ℕ → ℕ → Booking
-booking s w h = record { shape = s; size = sized w h; number = 7; place = newPlace limit (less 1 start); serial = 3 }
+booking s w h = record { shape = s; size = sized w h; number = 7; place = newPlace limit (less 1 openingTree); serial = 3 }
 
-abbrev pub booked : InsertionShape → ℕ → ℕ → Tree
-booked s w h = book 1 (booking s w h) start
+abbrev pub bookedTree : InsertionShape → ℕ → ℕ → Tree
+bookedTree s w h = book 1 (booking s w h) openingTree
 
 -- what the piece at a place is called
-abbrev pub called : Kind → ℕ → Called
-called Free level = no-such
-called Part level = part
-called Structure zero = top
-called Structure (suc level) = structure
+abbrev pub calledBy : Kind → ℕ → Called
+calledBy Free level = no-such
+calledBy Part level = part
+calledBy Structure zero = top
+calledBy Structure (suc level) = structure
 
 abbrev pub calledAt : Tree → Called → ℕ → Called
 calledAt nil otherwise p = otherwise
-calledAt (grow q d k r) otherwise p = cond (eqb p q) (called (d .kind) (d .level)) (calledAt k (calledAt r otherwise p) p)
+calledAt (grow q d k r) otherwise p = cond (eqb p q) (calledBy (d .kind) (d .level)) (calledAt k (calledAt r otherwise p) p)
 
 -- the removable list then; at the opening it holds the top alone, at place 0
-abbrev pub removable : InsertionShape → ℕ → ℕ → Answer
+abbrev pub removable : InsertionShape → ℕ → ℕ → CaseAnswer
 removable s w h =
-    listed (map (calledAt (booked s w h) no-such) (bookedList limit 1 (firstFree (opening 3)) (booking s w h) start (0 ∷ [])))
+    listed (map (calledAt (bookedTree s w h) no-such) (bookedList limit 1 (firstFree (opening 3)) (booking s w h) openingTree (0 ∷ [])))
 
-unfoldable pub computed : List Answer
+unfoldable pub computed : List CaseAnswer
 computed =
     offers 40 60 3
     ∷ removable AlongCurrentCut 40 60
@@ -89,19 +89,19 @@ computed =
     ∷ offers 40 30 1
     ∷ offers 100 20 2
     ∷ offers 100 20 1
-    ∷ stands (shape (booked AlongCurrentCut 100 60))
-    ∷ used (sheetUsage (partArea (booked AlongCurrentCut 100 60)) (area (opening 3 .settings .sheet)))
+    ∷ stands (shape (bookedTree AlongCurrentCut 100 60))
+    ∷ used (sheetUsage (partArea (bookedTree AlongCurrentCut 100 60)) (area (opening 3 .settings .sheet)))
     ∷ offers 101 60 3
-    ∷ stands (shape (booked AlongThenAcross 40 30))
+    ∷ stands (shape (bookedTree AlongThenAcross 40 30))
     ∷ removable AlongThenAcross 40 30
-    ∷ stands (shape (remove 1 1 5 (booked AlongCurrentCut 40 60)))
-    ∷ stands (shape (remove 2 2 6 (booked AcrossCurrentCut 100 20)))
+    ∷ stands (shape (remove 1 1 5 (bookedTree AlongCurrentCut 40 60)))
+    ∷ stands (shape (remove 2 2 6 (bookedTree AcrossCurrentCut 100 20)))
     ∷ []
 
 -- the paper's side of the table
 
-abbrev pub only : InsertionShape → Answer
-only s = offered (offer Default s ∷ [])
+abbrev pub onlyShape : InsertionShape → CaseAnswer
+onlyShape s = offered (offer Default s ∷ [])
 
 -- a piece of the tree without its marks
 abbrev pub bit : Kind → ℕ → Orientation → ℕ → ℕ → Tree → Tree → Tree
@@ -112,22 +112,22 @@ bit Free level c w h k r =
 bit Structure level c w h k r =
     grow 0 (record { serial = 0; size = sized w h; number = 0; level = level; kind = Structure; cut = c }) k r
 
-abbrev pub topOver : Tree → Answer
+abbrev pub topOver : Tree → CaseAnswer
 topOver k = stands (bit Structure 0 Vertical 100 60 k nil)
 
-unfoldable pub paper : List Answer
+unfoldable pub paper : List CaseAnswer
 paper =
     -- a. 40 x 60: AlongCurrentCut; removable list part, top
-    only AlongCurrentCut
+    onlyShape AlongCurrentCut
     ∷ listed (part ∷ top ∷ [])
     -- b. 40 x 30: both two-step shapes
     ∷ offered (offer Default AlongThenAcross ∷ offer Default AcrossThenAlong ∷ [])
     -- c. the same, stages 2: AlongThenAcross only
-    ∷ only AlongThenAcross
+    ∷ onlyShape AlongThenAcross
     -- d. the same, stages 1: none
     ∷ offered []
     -- e. 100 x 20, stages 2: AcrossCurrentCut
-    ∷ only AcrossCurrentCut
+    ∷ onlyShape AcrossCurrentCut
     -- f. the same, stages 1: none
     ∷ offered []
     -- g. 100 x 60: free piece 0 x 60, usage 1
@@ -141,7 +141,7 @@ paper =
     (bit Free 1 Horizontal 60 60 nil nil))
     ∷ listed (top ∷ part ∷ structure ∷ [])
     -- j. a, then the part removed: the opening tree
-    ∷ stands (shape start)
+    ∷ stands (shape openingTree)
     -- k. e, then the part removed: structure with one free 100 x 60 child at level 2
     ∷ topOver (bit Structure 1 Horizontal 100 60 (bit Free 2 Vertical 100 60 nil nil) nil)
     ∷ []

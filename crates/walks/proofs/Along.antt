@@ -17,7 +17,7 @@ use Rattle.piece.specs.Row.{nil, grow}
 use Rattle.piece.specs.Kinds.{isPart}
 use Rattle.tree.specs.Tree.{Tree, In, count, after}
 use Rattle.tree.specs.Sound.{Kinded, Children, Sound}
-use Rattle.tree.specs.Removal.{numbers, subtree, removed}
+use Rattle.tree.specs.Removal.{numbers, subtree, removedNumbers}
 use Rattle.tree.specs.Snapshot.{snapshot}
 use Rattle.table.specs.declared.Node.{Node}
 use Rattle.table.specs.Table.{at, Rep, Holds}
@@ -156,7 +156,7 @@ module _ (limit : ℕ) (t : List Node) (w : Tree) (holds : Holds limit t w) wher
   tree-shown = rep-shown limit t limit limit w (holds .rep)
 
   -- of the subtree at any place: what a removal hands out
-  pub numbers-removed : (x : ℕ) → PartsEnd w → numbersAlong t (childrenFirst (subtree x w)) ≡ removed x w
+  pub numbers-removed : (x : ℕ) → PartsEnd w → numbersAlong t (childrenFirst (subtree x w)) ≡ removedNumbers x w
   numbers-removed x ends = numbers-last limit t (subtree x w) (each-subtree _ x w tree-shown) (each-subtree _ x w ends)
 
   -- along every place: as many numbers as there are parts, and each as often as in the tree

@@ -29,10 +29,10 @@ use Rattle.table.specs.Columns.{kindNoOf}
 use Rattle.walks.specs.Chain.{siblings}
 use Rattle.walks.specs.Walk.{gathered, nothing, walkOf}
 use Rattle.walks.specs.Order.{itself, childrenFirst}
-use Rattle.walks.specs.Usage.{weight, summed, usageOf}
+use Rattle.walks.specs.Usage.{weight, summed, usageAlong}
 use Rattle.walks.specs.Inner.{Small}
 use Rattle.walks.specs.Columns.{firstsOf, nextsOf, kindsOf, areasOf, levelOf, numberOf, widthOf, heightOf, columnsOf, cutNoOf}
-use Rattle.walks.specs.Columns.{bytesIn, orderIn, snapshotIn, usageIn}
+use Rattle.walks.specs.Columns.{nodeBytesIn, orderIn, snapshotIn, usageIn}
 use Rattle.walks.proofs.Chain.{siblings-over, siblings-more}
 use Rattle.walks.proofs.WalkSteps.{walk-more}
 use Rattle.walks.proofs.NodeBytes.{node-before}
@@ -58,7 +58,7 @@ record Piece (limit : ℕ) (t : List Node) (p : ℕ) (d : Datum) (k r : Tree) : 
   next : getD (nextsOf t) p 0 ≡ head limit r
   kind : getD (kindsOf t) p 0 ≡ kindNo (d .kind)
   covers : getD (areasOf t) p 0 ≡ area (d .size)
-  bytes : bytesIn (columnsOf t) p ≡ nodeBytes d []
+  bytes : nodeBytesIn (columnsOf t) p ≡ nodeBytes d []
 
 -- of each piece of a row and below it
 abbrev Shown : ℕ → List Node → Tree → Type 0
@@ -69,7 +69,7 @@ Shown limit t (grow p d k r) = Piece limit t p d k r × Shown limit t k × Shown
 column : (f : Node → ℕ) (t : List Node) (p : ℕ) (n : Node) → at t p ≡ n → getD (map f t) p (f zeroNode) ≡ f n
 column f t p n e = List·getD-map f t p zeroNode ∙ ap f e
 
-bytes-column : (t : List Node) (p : ℕ) (n : Node) → at t p ≡ n → bytesIn (columnsOf t) p ≡ nodeBytes (n .datum) []
+bytes-column : (t : List Node) (p : ℕ) (n : Node) → at t p ≡ n → nodeBytesIn (columnsOf t) p ≡ nodeBytes (n .datum) []
 unfolding nodeBytes
 bytes-column t p n e =
     rw (
@@ -114,7 +114,7 @@ module _ (limit : ℕ) (t : List Node) where
   -- A walk down a row, and W, what it is to write of a row: nothing of the empty row, and of a piece its own before its children's or after them,
   -- and then that of its later siblings.
   module _ (before after : ℕ → List ℕ) (W : Tree → List ℕ) (none : W nil ≡ [])
-      (more : (p : ℕ) (d : Datum) (k r : Tree) → bytesIn (columnsOf t) p ≡ nodeBytes d []
+      (more : (p : ℕ) (d : Datum) (k r : Tree) → nodeBytesIn (columnsOf t) p ≡ nodeBytes d []
       → (before p ++ (W k ++ after p)) ++ W r ≡ W (grow p d k r)) where
     abbrev walked : ℕ → ℕ → List ℕ
     walked n x = walkOf limit (firstsOf t) (nextsOf t) before after n x
@@ -190,7 +190,7 @@ module _ (limit : ℕ) (t : List Node) where
       → snapshotIn limit (columnsOf t) n p ≡ snapshot (grow p d k nil)
   unfolding snapshot
   snapshot-at n e f h =
-      walk-at (bytesIn (columnsOf t)) nothing snapshot refl
+      walk-at (nodeBytesIn (columnsOf t)) nothing snapshot refl
       (λ p d k r b. ap (λ (l : List ℕ). (l ++ (snapshot k ++ [])) ++ snapshot r) b ∙ node-before d (snapshot k) (snapshot r)) n e f h
 
   usage-at : {p : ℕ} {d : Datum} {k r : Tree} (n : ℕ) → Piece limit t p d k r → Shown limit t k → count k < n

@@ -9,8 +9,8 @@ use lib.ListN.{length, set}
 use lib.Seq.{sets}
 use Rattle.piece.specs.declared.node.Datum.{Datum}
 use Rattle.piece.specs.Kinds.{isPart}
-use Rattle.tree.specs.Snapshot.{two, four, nodeBytes}
-use Rattle.walks.specs.Snapshot.{bytesOf}
+use Rattle.tree.specs.Snapshot.{twoThen, fourThen, nodeBytes}
+use Rattle.walks.specs.Snapshot.{bytesOfNode}
 use Rattle.walks.specs.Along.{partNumber}
 
 -- ---- bytes written one by one
@@ -27,10 +27,10 @@ module _ (l : List ℕ) (x : ℕ) where
 
   -- a node's: level, kind and cut, and then its three numbers
   pub node-stored : (level kind cut number width height : ℕ) (l₁ l₂ l₃ : List ℕ)
-      → l₁ ≡ sets (set (set (set l x level) (x + 1) kind) (x + 2) cut) (x + 3) (two number [])
-      → l₂ ≡ sets l₁ (x + 5) (four width [])
-      → l₃ ≡ sets l₂ (x + 9) (four height [])
-      → l₃ ≡ sets l x (bytesOf level kind cut number width height)
+      → l₁ ≡ sets (set (set (set l x level) (x + 1) kind) (x + 2) cut) (x + 3) (twoThen number [])
+      → l₂ ≡ sets l₁ (x + 5) (fourThen width [])
+      → l₃ ≡ sets l₂ (x + 9) (fourThen height [])
+      → l₃ ≡ sets l x (bytesOfNode level kind cut number width height)
   node-stored level kind cut number width height l₁ l₂ l₃ e f g =
       let e₂ : x + 2 ≡ suc (suc x) = omega arith in
       let e₃ : x + 3 ≡ suc (suc (suc x)) = omega arith in

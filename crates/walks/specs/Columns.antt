@@ -6,7 +6,7 @@ use Rattle.piece.specs.Numbers.{cutNo}
 use Rattle.table.specs.declared.Node.{Node}
 pub use Rattle.table.specs.Columns.{firstsOf, nextsOf, kindsOf, areasOf}
 use Rattle.walks.specs.Order.{orderOf}
-use Rattle.walks.specs.Usage.{usageOf}
+use Rattle.walks.specs.Usage.{usageAlong}
 use Rattle.walks.specs.Snapshot.{bytesAt, snapshotOf}
 use Rattle.walks.specs.declared.columns.Columns.{Columns}
 
@@ -48,14 +48,14 @@ columnsOf t =
     }
 
 -- the bytes of the node at a place, and of the subtree of x, down to so many nodes
-abbrev pub bytesIn : Columns → ℕ → List ℕ
-bytesIn c = bytesAt (c .level) (c .kind) (c .cut) (c .number) (c .width) (c .height)
+abbrev pub nodeBytesIn : Columns → ℕ → List ℕ
+nodeBytesIn c = bytesAt (c .level) (c .kind) (c .cut) (c .number) (c .width) (c .height)
 
 abbrev pub snapshotIn : ℕ → Columns → ℕ → ℕ → List ℕ
-snapshotIn limit c left x = snapshotOf limit (c .first) (c .next) (bytesIn c) left x
+snapshotIn limit c left x = snapshotOf limit (c .first) (c .next) (nodeBytesIn c) left x
 
 abbrev pub orderIn : ℕ → List Node → ℕ → ℕ → List ℕ
 orderIn limit t left x = orderOf limit (firstsOf t) (nextsOf t) left x
 
 abbrev pub usageIn : ℕ → List Node → ℕ → ℕ → Float
-usageIn limit t left x = usageOf limit (firstsOf t) (nextsOf t) (kindsOf t) (areasOf t) left x
+usageIn limit t left x = usageAlong limit (firstsOf t) (nextsOf t) (kindsOf t) (areasOf t) left x

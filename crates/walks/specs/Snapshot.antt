@@ -3,17 +3,17 @@
 use mathlib.Core.List.{List, [], _∷_}
 use Prim.Native.Nat.{ℕ}
 use lib.ListN.{getD}
-use Rattle.tree.specs.Snapshot.{two, four}
+use Rattle.tree.specs.Snapshot.{twoThen, fourThen}
 use Rattle.walks.specs.Walk.{nothing, walkOf}
 
 -- the bytes of a node
-abbrev pub bytesOf : (level kind cut number width height : ℕ) → List ℕ
-bytesOf level kind cut number width height = level ∷ kind ∷ cut ∷ two number (four width (four height []))
+abbrev pub bytesOfNode : (level kind cut number width height : ℕ) → List ℕ
+bytesOfNode level kind cut number width height = level ∷ kind ∷ cut ∷ twoThen number (fourThen width (fourThen height []))
 
 -- of the node at a place
 abbrev pub bytesAt : (level kind cut number width height : List ℕ) → ℕ → List ℕ
 bytesAt level kind cut number width height x =
-    bytesOf (getD level x 0) (getD kind x 0) (getD cut x 0) (getD number x 0) (getD width x 0) (getD height x 0)
+    bytesOfNode (getD level x 0) (getD kind x 0) (getD cut x 0) (getD number x 0) (getD width x 0) (getD height x 0)
 
 -- of the subtree of x, down to so many nodes, where g gives each node's
 abbrev pub snapshotOf : ℕ → (first next : List ℕ) → (ℕ → List ℕ) → ℕ → ℕ → List ℕ

@@ -7,14 +7,14 @@ ghost use mathlib.Core.List.{[]};
 ghost use Prim.Native.Nat.{_+_, _≤_, _<_};
 ghost use lib.ListN.{length};
 ghost use lib.Seq.{sets};
-ghost use Rattle.tree.specs.Snapshot.{two, four};
+ghost use Rattle.tree.specs.Snapshot.{twoThen, fourThen};
 ghost use Rattle.lists.specs.Lists.{limit};
-ghost use Rattle.walks.specs.Snapshot.{bytesOf, bytesAt, snapshotOf};
+ghost use Rattle.walks.specs.Snapshot.{bytesOfNode, bytesAt, snapshotOf};
 
 // The two bytes of a number, the highest first.
 pub fn put_two(v: u16, out: &mut [u8], at: usize)
     requires { ⌜ at + 2 ≤ length (now out) ⌝ }
-    ensures { λ _. ⌜ now (out .exit) ≡ sets (now (out .entry)) at (two v []) ⌝ }
+    ensures { λ _. ⌜ now (out .exit) ≡ sets (now (out .entry)) at (twoThen v []) ⌝ }
 {
     let high = (v / 256 % 256) as u8;
     let low = (v % 256) as u8;
@@ -25,7 +25,7 @@ pub fn put_two(v: u16, out: &mut [u8], at: usize)
 // The four bytes of a number, the highest first.
 pub fn put_four(v: u32, out: &mut [u8], at: usize)
     requires { ⌜ at + 4 ≤ length (now out) ⌝ }
-    ensures { λ _. ⌜ now (out .exit) ≡ sets (now (out .entry)) at (four v []) ⌝ }
+    ensures { λ _. ⌜ now (out .exit) ≡ sets (now (out .entry)) at (fourThen v []) ⌝ }
 {
     out[at] = (v / 16777216 % 256) as u8;
     out[at + 1] = (v / 65536 % 256) as u8;
@@ -45,7 +45,7 @@ fn put_node(
     at: usize,
 )
     requires { ⌜ at + 13 ≤ length (now out) ⌝ }
-    ensures { λ _. ⌜ now (out .exit) ≡ sets (now (out .entry)) at (bytesOf level kind cut number width height) ⌝ }
+    ensures { λ _. ⌜ now (out .exit) ≡ sets (now (out .entry)) at (bytesOfNode level kind cut number width height) ⌝ }
 {
     out[at] = level;
     out[at + 1] = kind;

@@ -4,7 +4,7 @@ use table::NONE;
 ghost use mathlib.Core.Path.{_≡_};
 ghost use Prim.Native.Nat.{_<_};
 ghost use Rattle.lists.specs.Lists.{limit};
-ghost use Rattle.walks.specs.Usage.{usageOf};
+ghost use Rattle.walks.specs.Usage.{usageAlong};
 ghost use Rattle.walks.specs.Inner.{Small};
 
 // The usage of the subtree of x: 0 for a free piece (kind 0), 1 for a part (kind 1), else its children's area times usage added in order
@@ -18,7 +18,7 @@ pub fn usage_of<'a>(
     left: usize,
 ) -> f64
     requires { ⌜ (x < limit) × Small (now area) ⌝ }
-    ensures { λ r. ⌜ r ≡ usageOf limit (now (first .entry)) (now (next .entry)) (now (kind .entry)) (now (area .entry)) left x ⌝ }
+    ensures { λ r. ⌜ r ≡ usageAlong limit (now (first .entry)) (now (next .entry)) (now (kind .entry)) (now (area .entry)) left x ⌝ }
 {
     if left == 0 {
         return 0.0;

@@ -11,7 +11,7 @@ use Rattle.lists.specs.Lists.{limit}
 use Rattle.table.proofs.Appended.{tied-first, tied-next, appended}
 use Rattle.booking.specs.declared.new_nodes.NewNode.{NewNode}
 use Rattle.booking.specs.declared.new_nodes.NewNodes.{NewNodes}
-use Rattle.booking.specs.Book.{newAt}
+use Rattle.booking.specs.Book.{newNodesAt}
 use Rattle.booking.specs.NewNodes.{appendEach, noNew}
 use Rattle.booking.proofs.Runs.{next-entry, none-left}
 use Rattle.booking.proofs.Typed.{all-places, five-new}
@@ -37,7 +37,7 @@ module _ (c : tie.After-list Inv-loop μ-loop) where
   abbrev new : NewNodes
   new = c .before .new-at .result
 
-  new-is : let a = begin .args in new ≡ newAt (a .nodes .nodes) (gone .unlink .result) (a .x) (a .shape) (a .size) (a .number) (a .last)
+  new-is : let a = begin .args in new ≡ newNodesAt (a .nodes .nodes) (gone .unlink .result) (a .x) (a .shape) (a .size) (a .number) (a .last)
   new-is =
       let a = begin .args in
       new-by (a .nodes) (a .x) (a .shape) (a .size) (a .number) (a .last) (gone .unlink .result) (c .before .before .before .new-places .ensures)
@@ -109,7 +109,7 @@ put-frees-requires c κs =
     let o = c .before .before .before .before .before .before in
     let a = begin o .args in
     put-needs (a .nodes) (a .x) (a .shape) (a .size) (a .number) (a .last) (begin o .pre) (gone o .unlink .ensures) (new-is o)
-    (c .before .cut .ensures)
+    (c .before .omit .ensures)
 
 less-parent-requires : tie.Need-less-parent-requires Inv-loop μ-loop
 less-parent-requires c κs = begin (c .before .before .before .before .before .before .before .before) .pre .removableKept
@@ -133,7 +133,7 @@ returns c =
     (new-is o)
     (rw (none-left (new o .list) (new o .count) (l .j) (after .loop-test .left)) at (l .inv .1))
     (c .before .before .before .before .before .before .before .areas-of .ensures)
-    (c .before .before .before .before .before .cut .ensures)
+    (c .before .before .before .before .before .omit .ensures)
     (c .before .before .before .put-frees .ensures)
     (c .before .less-parent .ensures)
     (c .enrol .ensures)
@@ -183,7 +183,7 @@ book-spec =
     (λ c. search needs)  -- loop-less
     loop-again
     (λ c κs. search needs)  -- areas-of-requires
-    (λ c κs. search needs)  -- cut-requires
+    (λ c κs. search needs)  -- omit-requires
     put-frees-requires
     less-parent-requires
     enrol-requires

@@ -1,26 +1,26 @@
 -- `read::insert` meets its contract. Assumes nothing.
 use borrow.Author.Tests.{le-leb, lt-leb}
 use borrow.Author.Needs.{needs}
-use Rattle.frames.specs.Requests.{insertOf}
+use Rattle.frames.specs.Requests.{readInsert}
 use Rattle.frames.proofs.Fields.{insert-read}
 use Rattle.frames.proofs.read.insert.Statement.{statement}
 use Rattle.frames.proofs.read.insert.Tie as tie
 
 returns : tie.Need-returns
-unfolding insertOf
+unfolding readInsert
 returns c = simp (lt-leb _ _ (c .if1 .taken))
 
 returns-2 : tie.Need-returns-2
-unfolding insertOf
+unfolding readInsert
 returns-2 c = simp (le-leb _ _ (c .before .if1 .left), lt-leb _ _ (c .if2 .taken))
 
 returns-3 : tie.Need-returns-3
-unfolding insertOf
+unfolding readInsert
 returns-3 c =
     simp (le-leb _ _ (c .before .before .if1 .left), le-leb _ _ (c .before .if2 .left), lt-leb _ _ (c .if3 .taken))
 
 returns-4 : tie.Need-returns-4
-unfolding insertOf
+unfolding readInsert
 returns-4 c =
     simp (
       le-leb _ _ (c .before .before .before .if1 .left),

@@ -1,16 +1,16 @@
 -- `read::offers` meets its contract. Assumes nothing.
 use borrow.Author.Tests.{le-leb, lt-leb}
 use borrow.Author.Needs.{needs}
-use Rattle.frames.specs.Requests.{offersOf}
+use Rattle.frames.specs.Requests.{readOffers}
 use Rattle.frames.proofs.read.offers.Statement.{statement}
 use Rattle.frames.proofs.read.offers.Tie as tie
 
 returns : tie.Need-returns
-unfolding offersOf
+unfolding readOffers
 returns c = simp (lt-leb _ _ (c .if1 .taken))
 
 returns-2 : tie.Need-returns-2
-unfolding offersOf
+unfolding readOffers
 returns-2 c = simp (le-leb _ _ (c .before .before .if1 .left), c .before .mark-at .ensures, c .part-at .ensures)
 
 pub offers-spec : {M : Type 1} → statement M

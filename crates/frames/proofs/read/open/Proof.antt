@@ -1,16 +1,16 @@
 -- `read::open` meets its contract. Assumes nothing.
 use borrow.Author.Tests.{le-leb, lt-leb}
 use borrow.Author.Needs.{needs}
-use Rattle.frames.specs.Requests.{openOf}
+use Rattle.frames.specs.Requests.{readOpen}
 use Rattle.frames.proofs.read.open.Statement.{statement}
 use Rattle.frames.proofs.read.open.Tie as tie
 
 returns : tie.Need-returns
-unfolding openOf
+unfolding readOpen
 returns c = simp (lt-leb _ _ (c .if1 .taken))
 
 returns-2 : tie.Need-returns-2
-unfolding openOf
+unfolding readOpen
 returns-2 c =
     let s = c .before in
     let n = s .before .before in

@@ -7,12 +7,12 @@ use borrow.Author.Needs.{needs}
 use Rattle.lists.specs.Lists.{limit}
 use Rattle.lists.proofs.Fill.{filled, fill-more, fill-column}
 use Rattle.table.specs.Table.{zeroNode}
-use Rattle.kiosk.specs.Records.{noRecord, nodeOf, nodesOf}
+use Rattle.kiosk.specs.Records.{noRecord, nodeOfRecord, nodesOfRecords}
 use Rattle.kiosk.proofs.records.nodes_of.Statement.{statement}
 use Rattle.kiosk.proofs.records.nodes_of.Tie as tie
 
 abbrev Inv-loop : tie.InvT-loop
-Inv-loop records nodes₀ i₀ nodes i = (i ≤ limit) × (nodes ≡ filled (replicate limit zeroNode) (nodesOf records) i)
+Inv-loop records nodes₀ i₀ nodes i = (i ≤ limit) × (nodes ≡ filled (replicate limit zeroNode) (nodesOfRecords records) i)
 
 abbrev μ-loop : tie.MeasureT-loop
 μ-loop records nodes₀ i₀ nodes i = limit - i
@@ -27,7 +27,7 @@ loop-again c =
     let t = s .args .t1 in
     let len : length t ≡ limit = s .good .0 .1 .0 .1 in
     let h : l .i < limit = omega arith in
-    (omega arith, fill-more nodeOf t len noRecord (replicate limit zeroNode) (l .nodes) (l .i) _ (l .inv .1) h (c .node-of .ensures))
+    (omega arith, fill-more nodeOfRecord t len noRecord (replicate limit zeroNode) (l .nodes) (l .i) _ (l .inv .1) h (c .node-of .ensures))
 
 returns : tie.Need-returns Inv-loop μ-loop
 returns c =
@@ -35,7 +35,7 @@ returns c =
     let s = c .before .before .before in
     let t = s .args .t1 in
     let len : length t ≡ limit = s .good .0 .1 .0 .1 in
-    fill-column nodeOf t len (replicate limit zeroNode) refl (l .nodes) (l .i) (l .inv .1) (omega arith)
+    fill-column nodeOfRecord t len (replicate limit zeroNode) refl (l .nodes) (l .i) (l .inv .1) (omega arith)
 
 pub nodes-of-spec : {M : Type 1} → statement M
 nodes-of-spec =

@@ -7,7 +7,7 @@ use Rattle.register.proofs.Areas.{areas-are}
 use Rattle.register.proofs.Listed.{entries-are, kept-as}
 use Rattle.removal.specs.Going.{places}
 use borrow.Author.Needs.{needs}
-use Rattle.tree.specs.ListSteps.{cutAll}
+use Rattle.tree.specs.ListSteps.{omitAll}
 use Rattle.removal.proofs.remove.free_list.Statement.{statement}
 use Rattle.removal.proofs.remove.free_list.Tie as tie
 
@@ -15,9 +15,9 @@ put-requires : tie.Need-put-requires
 put-requires c κs =
     let c1 = c .before .before in
     let s = c1 .before .before .before in
-    let xs = cutAll (entriesOf (s .args .free)) (places (s .args .g)) in
-    let n = ap (λ (l : Listing). l .count) (c1 .cut-all .ensures) in
-    (kept-as xs (c1 .cut-all .ensures) (omega (arith, s .pre .2)), omega (arith, s .pre .2))
+    let xs = omitAll (entriesOf (s .args .free)) (places (s .args .g)) in
+    let n = ap (λ (l : Listing). l .count) (c1 .omit-all .ensures) in
+    (kept-as xs (c1 .omit-all .ensures) (omega (arith, s .pre .2)), omega (arith, s .pre .2))
 
 returns : tie.Need-returns
 returns c =
@@ -25,15 +25,15 @@ returns c =
     let c1 = c2 .before in
     let s = c1 .before .before .before in
     let a = s .args in
-    let xs = cutAll (entriesOf (a .free)) (places (a .g)) in
+    let xs = omitAll (entriesOf (a .free)) (places (a .g)) in
     c .put .ensures
-    ∙ rw (c2 .areas-of .ensures, areas-are (a .nodes) (s .good .1 .1 .0 .1 .0 .1), entries-are xs (c1 .cut-all .ensures)) refl
+    ∙ rw (c2 .areas-of .ensures, areas-are (a .nodes) (s .good .1 .1 .0 .1 .0 .1), entries-are xs (c1 .omit-all .ensures)) refl
 
 pub free-list-spec : {M : Type 1} → statement M
 free-list-spec =
     tie.close
     (tie.spec
-    (λ c κs. search needs)  -- cut-all-requires
+    (λ c κs. search needs)  -- omit-all-requires
     (λ c κs. search needs)  -- areas-of-requires
     put-requires
     returns)

@@ -2,7 +2,7 @@
 use mathlib.Core.Path.{refl}
 use Rattle.table.specs.Steps.{freeLastDatum}
 use Rattle.removal.specs.Going.{places}
-use Rattle.removal.specs.Remove.{newFree, removed, removedFrom}
+use Rattle.removal.specs.Remove.{newFree, removedNodes, removedFrom}
 use Rattle.removal.specs.Inner.{Clearable}
 use borrow.Author.Needs.{needs}
 use Rattle.removal.proofs.remove.remove.Statement.{statement}
@@ -32,7 +32,7 @@ removable-list-requires c κs =
     (p .removableKept, start b .pre .0, p .removableRoom, p .removableSingle)
 
 returns : tie.Need-returns
-unfolding removed removedFrom newFree freeLastDatum
+unfolding removedNodes removedFrom newFree freeLastDatum
 returns c =
     let c2 = c .before .before in
     let c5 = c2 .before .before .before in

@@ -14,7 +14,7 @@ use Rattle.layout.proofs.Exactly.{sound-says}
 use Rattle.layout.proofs.Typed.{typed-sized}
 use Rattle.looks.proofs.Lent.{not-sound, too-short, done}
 use Rattle.walks.specs.declared.columns.Columns.{Columns}
-use Rattle.saw.specs.Cuts.{bytesOf}
+use Rattle.saw.specs.Cuts.{bytesOfCuts}
 use Rattle.saw.specs.Written.{sawBytes}
 use Rattle.saw.proofs.Call.{cutsIn, saw-room, saw-length, saw-stored}
 use Rattle.saw.proofs.cuts.cuts.Statement.{statement}
@@ -58,7 +58,7 @@ few c = omega (arith, c .list-cuts .ensures .1, room (c .before))
 stored-length : (c : tie.After-list-cuts) → length (c .list-cuts .last .1 .1 .1 .1 .1 .1 .1 .1 .0) ≡ 9 * limit
 stored-length c =
     ap length (c .list-cuts .ensures .0)
-    ∙ length-sets (zeros (9 * limit)) 0 (bytesOf (cutsIn (the-layout (c .before)) (the-columns (c .before))))
+    ∙ length-sets (zeros (9 * limit)) 0 (bytesOfCuts (cutsIn (the-layout (c .before)) (the-columns (c .before))))
     ∙ length-replicate {A = ℕ} (9 * limit) 0
 
 returns : tie.Need-returns

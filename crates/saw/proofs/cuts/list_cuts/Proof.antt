@@ -10,8 +10,8 @@ use Rattle.piece.specs.declared.orientation.Orientation.{Orientation}
 use Rattle.piece.specs.declared.orientation.Orientation.the-variants.{Horizontal, Vertical}
 use Rattle.lists.specs.Lists.{limit}
 use Rattle.saw.specs.declared.cut.Cut.{Cut}
-use Rattle.saw.specs.Cuts.{bytesOf}
-use Rattle.saw.specs.Listed.{listed}
+use Rattle.saw.specs.Cuts.{bytesOfCuts}
+use Rattle.saw.specs.Listed.{cutsListed}
 use Rattle.saw.proofs.cuts.list_cuts.Statement.{statement}
 use Rattle.saw.proofs.cuts.list_cuts.Tie as tie
 
@@ -21,15 +21,15 @@ module _ (cs : Orientation → List Cut) (way w : Orientation) (is : way ≡ w) 
       → (0 ≤ 0) × (0 + length (cs w) ≤ limit) × (9 * (0 + length (cs w)) ≤ length out)
   asks p = let e = ap (λ (x : Orientation). length (cs x)) is in (omega arith, omega arith, omega arith)
 
-  does : (after : List ℕ) (n : ℕ) → (after ≡ sets out 0 (bytesOf (cs w))) × (n ≡ 0 + length (cs w))
-      → (after ≡ sets out 0 (bytesOf (cs way))) × (n ≡ length (cs way))
+  does : (after : List ℕ) (n : ℕ) → (after ≡ sets out 0 (bytesOfCuts (cs w))) × (n ≡ 0 + length (cs w))
+      → (after ≡ sets out 0 (bytesOfCuts (cs way))) × (n ≡ length (cs way))
   does after n p = rw is (p .0, omega arith)
 
 -- the cuts by the way, over what is lent
 abbrev cuts-by : tie.Start → Orientation → List Cut
 cuts-by s way =
     let a = s .args in
-    listed limit (a .first .now) (a .next .now) (a .kind .now) (a .width .now) (a .height .now) way (a .left) 0 (a .c)
+    cutsListed limit (a .first .now) (a .next .now) (a .kind .now) (a .width .now) (a .height .now) way (a .left) 0 (a .c)
 
 list-horizontal-requires : tie.Need-list-horizontal-requires
 list-horizontal-requires c κs =

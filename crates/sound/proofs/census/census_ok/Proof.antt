@@ -12,7 +12,7 @@ use Rattle.lists.proofs.Fill.{filled, fill-more, fill-all}
 use Rattle.table.specs.Table.{zeroNode}
 use Rattle.table.specs.Columns.{areaOf, serialOf}
 use Rattle.sound.specs.Columns.{areasOf, serialsOf, kindsOf}
-use Rattle.sound.specs.Listed.{areaIn}
+use Rattle.sound.specs.Listed.{areaListed}
 use Rattle.sound.proofs.Sums.{held-most}
 use Rattle.sound.proofs.Counted.{passAt, every-next, held-next, area-next}
 use Rattle.sound.proofs.Counted.{Going, test-passed, test-failed, part-taken, part-over}
@@ -57,7 +57,7 @@ loop-again c =
     let h : l .i < limit = omega arith in
     let f = passAt limit t (a .last) (a .free .now) (a .removable .now) (a .hung .now) in
     let tests = every f (l .i) && f (l .i) in
-    let sum = areaIn 1 (kindsOf t) (areasOf t) (l .i) in
+    let sum = areaListed 1 (kindsOf t) (areasOf t) (l .i) in
     let is = node .node-ok .ensures in
     let g : Going tests sum (a .used) (tested .if1 .ok) (l .left) =
     ⊎-elim

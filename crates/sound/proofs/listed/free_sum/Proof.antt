@@ -1,17 +1,17 @@
--- The sum after i places is `areaIn` of these, and no more than that of all.
+-- The sum after i places is `areaListed` of these, and no more than that of all.
 use mathlib.Core.Path.{_≡_, sym}
 use mathlib.Core.Logic.{⊎-elim}
 use Prim.Native.Nat.{_+_, _-_, _≤_}
 use native.Mathlib.Omega.{arith}
 use borrow.Author.Needs.{needs}
 use Rattle.lists.specs.Lists.{limit}
-use Rattle.sound.specs.Listed.{areaIn}
+use Rattle.sound.specs.Listed.{areaListed}
 use Rattle.sound.proofs.Sums.{area-none, area-here, area-pass, area-grows}
 use Rattle.sound.proofs.listed.free_sum.Statement.{statement}
 use Rattle.sound.proofs.listed.free_sum.Tie as tie
 
 abbrev Inv-loop : tie.InvT-loop
-Inv-loop kind area sum₀ i₀ sum i = (i ≤ limit) × (sum ≡ areaIn 0 kind area i)
+Inv-loop kind area sum₀ i₀ sum i = (i ≤ limit) × (sum ≡ areaListed 0 kind area i)
 
 abbrev μ-loop : tie.MeasureT-loop
 μ-loop kind area sum₀ i₀ sum i = limit - i
@@ -29,7 +29,7 @@ loop-again c =
     let l = c .before .before .before .loop in
     let k = c .before .before .before .before .args .kind .now in
     let a = c .before .before .before .before .args .area .now in
-    let more : c .if1 .sum ≡ areaIn 0 k a (l .i + 1) = ⊎-elim
+    let more : c .if1 .sum ≡ areaListed 0 k a (l .i + 1) = ⊎-elim
     (λ w. omega (arith, w .2, area-here 0 k a (l .i) (w .0 .taken)))
     (λ w. omega (arith, w .1, area-pass 0 k a (l .i) (w .0 .left)))
     (c .if1 .came)

@@ -5,7 +5,7 @@ use native.Mathlib.Omega.{arith}
 use borrow.Author.Needs.{needs}
 use Rattle.register.specs.declared.LayoutNodes.{LayoutNodes}
 use Rattle.removal.specs.Going.{places}
-use Rattle.removal.specs.Remove.{removed}
+use Rattle.removal.specs.Remove.{removedNodes}
 use Rattle.layout.specs.Parts.{nodesOf}
 use Rattle.layout.proofs.TakenOut.{clearable, count-most, area-most, area-fits, lists-room, place-is, next-out, numbers-few}
 use Rattle.layout.proofs.layout.Layout.without.Statement.{statement}
@@ -39,11 +39,11 @@ sub-with-nodes-2 c =
 -- what `remove` gives
 gave : (c : tie.After-remove)
     → c .remove .result
-    ≡ removed (nodesOf (c .before .before .before .args .self)) (places (c .before .before .before .args .g)) (c .before .before .before .args .place)
+    ≡ removedNodes (nodesOf (c .before .before .before .args .self)) (places (c .before .before .before .args .g)) (c .before .before .before .args .place)
     (c .before .before .before .args .self .serial)
 gave c =
     let a = c .before .before .before .args in
-    c .remove .ensures ∙ ap (λ (n : LayoutNodes). removed n (places (a .g)) (a .place) (a .self .serial)) (c .before .layout-nodes .ensures)
+    c .remove .ensures ∙ ap (λ (n : LayoutNodes). removedNodes n (places (a .g)) (a .place) (a .self .serial)) (c .before .layout-nodes .ensures)
 
 with-nodes-requires : tie.Need-with-nodes-requires
 with-nodes-requires c κs =

@@ -1,12 +1,12 @@
 -- `Pending::one` meets its contract: one test for each case. Assumes nothing.
 use borrow.Author.Tests.{lt-ltb, le-ltb}
-use Rattle.lines.specs.Stream.{add}
+use Rattle.lines.specs.Stream.{addChar}
 use borrow.Author.Needs.{needs}
 use Rattle.lines.proofs.stream.Pending.one.Statement.{statement}
 use Rattle.lines.proofs.stream.Pending.one.Tie as tie
 
 pub one-spec : {M : Type 1} → statement M
-unfolding add
+unfolding addChar
 one-spec =
     tie.close
     (tie.spec

@@ -1,4 +1,4 @@
--- `Listing::cut_all` meets its contract: the pass keeps, of the entries that it has come by, those that the order leaves. The measure is what is
+-- `Listing::omit_all` meets its contract: the pass keeps, of the entries that it has come by, those that the order leaves. The measure is what is
 -- left of the entries. Assumes nothing.
 use mathlib.Core.Path.{_≡_}
 use mathlib.Core.Logic.{⊎-elim}
@@ -9,8 +9,8 @@ use lib.ListN.{getD, take}
 use Rattle.lists.specs.Lists.{limit}
 use Rattle.register.specs.Listings.{entriesOf}
 use Rattle.register.proofs.OnePass.{Passed, low, passed-none, passed-room, passed-keep, passed-drop, passed-all}
-use Rattle.register.proofs.listing.Listing.cut_all.Statement.{statement}
-use Rattle.register.proofs.listing.Listing.cut_all.Tie as tie
+use Rattle.register.proofs.listing.Listing.omit_all.Statement.{statement}
+use Rattle.register.proofs.listing.Listing.omit_all.Tie as tie
 
 abbrev Inv-loop : tie.InvT-loop
 Inv-loop order count old n spots list₀ kept₀ i₀ list kept i =
@@ -76,8 +76,8 @@ returns c =
     let e : l .i ≡ s .args .self .count = omega arith in
     passed-all (s .args .order .now) (s .args .count) (s .pre .0) e (l .inv .1)
 
-pub cut-all-spec : {M : Type 1} → statement M
-cut-all-spec =
+pub omit-all-spec : {M : Type 1} → statement M
+omit-all-spec =
     tie.close
     (tie.spec
     Inv-loop

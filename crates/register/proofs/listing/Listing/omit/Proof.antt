@@ -1,8 +1,8 @@
--- `Listing::cut` meets its contract: the place is found and deleted, or is not there. Assumes nothing.
+-- `Listing::omit` meets its contract: the place is found and deleted, or is not there. Assumes nothing.
 use borrow.Author.Needs.{needs}
 use Rattle.register.proofs.Listed.{cut-none, cut-one}
-use Rattle.register.proofs.listing.Listing.cut.Statement.{statement}
-use Rattle.register.proofs.listing.Listing.cut.Tie as tie
+use Rattle.register.proofs.listing.Listing.omit.Statement.{statement}
+use Rattle.register.proofs.listing.Listing.omit.Tie as tie
 
 returns : tie.Need-returns
 returns c =
@@ -14,8 +14,8 @@ returns-2 c =
     let s = c .before .before .before .before in
     cut-none (s .pre) (s .args .place) (c .before .index-of .ensures) (c .if1 .left)
 
-pub cut-spec : {M : Type 1} → statement M
-cut-spec =
+pub omit-spec : {M : Type 1} → statement M
+omit-spec =
     tie.close
     (tie.spec
     (λ c κs. search needs)  -- index-of-requires
