@@ -10,7 +10,7 @@ cd "$(dirname "$0")/.." || exit 2
 . tests/run.bash
 papers=(RULES FRAMES REFUSALS DIFFERENCES)
 
-# Of each session, in the order of the papers: PAPER.N.sent, its lines; PAPER.N.said, their answers; PAPER.N.long, if it repeats. A line for each answer in `answers`:
+# Of each session, in the order of the papers: PAPER.N.sent, its lines; PAPER.N.said, their answers; PAPER.N.long, if it repeats. A line for each answer in `marks`:
 # the paper, the number of its section, the answer's op and its second byte. What is neither goes to `unread`.
 read_paper() { # FILE
   awk -v room="$room" -v paper="$(basename "$1" .md)" '

@@ -19,9 +19,9 @@ use Rattle.piece.specs.Kinds.{isFree, isPart}
 use Rattle.tree.specs.Tree.{Tree, At}
 use Rattle.piece.proofs.Padded.{padded-whole}
 use Rattle.tree.specs.Booking.{Booking, planted, block}
-use Rattle.answers.specs.declared.Mark.{Mark}
+use Rattle.marks.specs.declared.Mark.{Mark}
 use Rattle.booking.specs.declared.new_nodes.NewNode.{NewNode}
-use Rattle.booking.specs.declared.marks.NewMarks.{NewMarks}
+use Rattle.booking.specs.declared.new_marks.NewMarks.{NewMarks}
 use Rattle.booking.specs.NewNodes.{leaves}
 use Rattle.booking.specs.Marks.{blockMarks, firstMark, headMark, marksIn, marksOf, newMark, newMarks, zeroMark}
 use Rattle.booking.proofs.Made.{frees-few}

@@ -26,7 +26,7 @@ use Rattle.tree.specs.Pieces.{Pieces, piecesOf, FreeOf, FreeList, Serials}
 use Rattle.tree.proofs.Rows.{at-in}
 use Rattle.tree.proofs.Numbered.{Numbered}
 use Rattle.tree.proofs.BookPieces.{less-gone, less-was, less-keeps, less-one, book-pieces, book-left, book-new, book-one}
-use Rattle.register.proofs.FreeSteps.{free-same, free-cut, free-put}
+use Rattle.layout_nodes.proofs.FreeSteps.{free-same, free-cut, free-put}
 use Rattle.booking.specs.declared.new_nodes.NewNode.{NewNode}
 use Rattle.booking.specs.NewNodes.{leaves, freesOf}
 use Rattle.booking.proofs.Issued.{block-numbered, older}

@@ -9,9 +9,9 @@ use Rattle.piece.specs.Kinds.{isFree}
 use Rattle.lists.specs.Lists.{limit}
 use Rattle.tree.specs.ListSteps.{push, put, putAll}
 use Rattle.tree.specs.Enrolment.{when}
-use Rattle.register.specs.declared.listing.Listing.{Listing}
-use Rattle.register.specs.Listings.{Kept, entriesOf, listing}
-use Rattle.register.proofs.Listed.{entries-are, kept-as, length-entries, push-length, put-length}
+use Rattle.layout_nodes.specs.declared.listing.Listing.{Listing}
+use Rattle.layout_nodes.specs.Listings.{Kept, entriesOf, listing}
+use Rattle.layout_nodes.proofs.Listed.{entries-are, kept-as, length-entries, push-length, put-length}
 use Rattle.booking.specs.declared.new_nodes.NewNode.{NewNode}
 use Rattle.booking.specs.NewNodes.{freesOf}
 

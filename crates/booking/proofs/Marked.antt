@@ -10,7 +10,7 @@ use lib.ListN.{length, set, take, replicate}
 use lib.Seq.{sets}
 use Rattle.piece.specs.Kinds.{isFree, isPart}
 use Rattle.tree.specs.Enrolment.{when}
-use Rattle.answers.specs.declared.Mark.{Mark}
+use Rattle.marks.specs.declared.Mark.{Mark}
 use Rattle.booking.specs.declared.new_nodes.NewNode.{NewNode}
 use Rattle.booking.specs.NewNodes.{freesOf}
 use Rattle.booking.specs.Marks.{firstMark, headMark, marksOf, newMark, newMarks, zeroMark}

@@ -22,7 +22,7 @@ use Rattle.tree.proofs.Rows.{same?, at-in, in-at}
 use Rattle.tree.proofs.Blocks.{block-distinct}
 use Rattle.tree.proofs.Bookings.{at-unique}
 use Rattle.tree.proofs.BookPieces.{less-was, less-keeps, book-pieces, book-left, book-new, book-one, block-apart}
-use Rattle.register.proofs.HoldingSteps.{holding-same, holding-push, holding-strike}
+use Rattle.layout_nodes.proofs.HoldingSteps.{holding-same, holding-push, holding-strike}
 use Rattle.booking.proofs.Enrolled.{Once, Solid, solid-in, enrolled-parent, enrolled-named, solid-named, enrolled-once, block-built, block-some}
 
 -- several new pieces, one after the other: at the end the pieces of which P holds are those of B, half way those of A and what is pushed already

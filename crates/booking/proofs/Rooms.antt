@@ -16,7 +16,7 @@ use Rattle.tree.specs.Booking.{Booking, book}
 use Rattle.tree.specs.Steps.{less}
 use Rattle.tree.specs.ListSteps.{omit}
 use Rattle.tree.specs.Pieces.{piecesOf, Holding, FreeList}
-use Rattle.register.proofs.HoldingSteps.{holding-most}
+use Rattle.layout_nodes.proofs.HoldingSteps.{holding-most}
 use Rattle.booking.proofs.Sums.{less-count, book-count}
 use Rattle.booking.proofs.FreeList.{cut-free}
 

@@ -38,10 +38,10 @@ use Rattle.table.specs.Table.{at, Holds, unlink}
 use Rattle.table.proofs.Links.{datum-is}
 use Rattle.table.proofs.Steps.{free-gone}
 use Rattle.table.proofs.Family.{parent-is, no-child, lowest-is}
-use Rattle.register.specs.declared.LayoutNodes.{LayoutNodes}
-use Rattle.register.specs.Listings.{areaIn, entriesOf}
-use Rattle.register.specs.Standing.{Stands}
-use Rattle.register.proofs.Listed.{entries-listing, kept-listing}
+use Rattle.layout_nodes.specs.declared.LayoutNodes.{LayoutNodes}
+use Rattle.layout_nodes.specs.Listings.{areaIn, entriesOf}
+use Rattle.layout_nodes.specs.Standing.{Stands}
+use Rattle.layout_nodes.proofs.Listed.{entries-listing, kept-listing}
 use Rattle.booking.specs.declared.new_nodes.NewNode.{NewNode}
 use Rattle.booking.specs.declared.new_nodes.Site.{Site}
 use Rattle.booking.specs.NewNodes.{appendEach, bookingAt, deepest, enrolments, freesOf, heldNew, leaves, noNew, those}

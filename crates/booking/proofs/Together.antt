@@ -14,11 +14,11 @@ use Rattle.table.specs.declared.Node.{Node}
 use Rattle.table.specs.Table.{append, at, unlink}
 use Rattle.table.proofs.Touch.{append-length, unlink-length}
 use Rattle.table.specs.Columns.{areasOf}
-use Rattle.register.specs.declared.listing.Listing.{Listing}
-use Rattle.register.specs.declared.LayoutNodes.{LayoutNodes}
-use Rattle.register.specs.Listings.{Kept, areaAt, areaIn, entriesOf, listing}
-use Rattle.register.proofs.Listed.{entries-are, kept-as}
-use Rattle.register.proofs.Areas.{areas-are}
+use Rattle.layout_nodes.specs.declared.listing.Listing.{Listing}
+use Rattle.layout_nodes.specs.declared.LayoutNodes.{LayoutNodes}
+use Rattle.layout_nodes.specs.Listings.{Kept, areaAt, areaIn, entriesOf, listing}
+use Rattle.layout_nodes.proofs.Listed.{entries-are, kept-as}
+use Rattle.layout_nodes.proofs.Areas.{areas-are}
 use Rattle.booking.specs.declared.new_nodes.NewNodes.{NewNodes}
 use Rattle.booking.specs.declared.new_nodes.NewNode.{NewNode}
 use Rattle.booking.specs.declared.new_nodes.Site.{Site}

@@ -9,8 +9,8 @@ use denote.Struct.Declared.{row}
 use Rattle.piece.specs.declared.insertion_blueprint.InsertionBlueprint.{InsertionBlueprint}
 use Rattle.piece.proofs.insertion_blueprint.InsertionBlueprint as blueprint
 use Rattle.lists.specs.Lists.{limit}
-use Rattle.register.specs.declared.LayoutNodes.{LayoutNodes}
-use Rattle.register.proofs.LayoutNodes as registered
+use Rattle.layout_nodes.specs.declared.LayoutNodes.{LayoutNodes}
+use Rattle.layout_nodes.proofs.LayoutNodes as registered
 use Rattle.booking.specs.declared.new_nodes.NewNodes.{NewNodes}
 use Rattle.booking.proofs.new_nodes.NewNodes as new
 

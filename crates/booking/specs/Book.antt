@@ -13,8 +13,8 @@ use Rattle.table.specs.declared.Node.{Node}
 use Rattle.table.specs.Table.{at, unlink}
 use Rattle.table.specs.Unheld.{lowestFrom}
 use Rattle.lists.specs.Lists.{limit}
-use Rattle.register.specs.declared.LayoutNodes.{LayoutNodes}
-use Rattle.register.specs.Listings.{areaIn, entriesOf, listing}
+use Rattle.layout_nodes.specs.declared.LayoutNodes.{LayoutNodes}
+use Rattle.layout_nodes.specs.Listings.{areaIn, entriesOf, listing}
 use Rattle.booking.specs.declared.new_nodes.NewNodes.{NewNodes}
 use Rattle.booking.specs.declared.new_nodes.Site.{Site}
 use Rattle.booking.specs.declared.book.Booked.{Booked}

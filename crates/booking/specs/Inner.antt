@@ -8,8 +8,8 @@ use Rattle.piece.specs.Insertion.{newNodes}
 use Rattle.lists.specs.Lists.{limit}
 use Rattle.tree.specs.ListSteps.{omit}
 use Rattle.table.specs.Table.{at, unlink}
-use Rattle.register.specs.declared.LayoutNodes.{LayoutNodes}
-use Rattle.register.specs.Listings.{Kept, entriesOf}
+use Rattle.layout_nodes.specs.declared.LayoutNodes.{LayoutNodes}
+use Rattle.layout_nodes.specs.Listings.{Kept, entriesOf}
 use Rattle.booking.specs.NewNodes.{enrolments, noNew, those}
 use Rattle.booking.specs.Book.{lessParent, newNodesAt}
 

@@ -7,9 +7,9 @@ use Rattle.piece.specs.declared.node.Kind.{Kind}
 use Rattle.piece.specs.Row.{nil, grow}
 use Rattle.piece.specs.Kinds.{isFree, isPart}
 use Rattle.tree.specs.Tree.{Tree}
-use Rattle.answers.specs.declared.Mark.{Mark}
+use Rattle.marks.specs.declared.Mark.{Mark}
 use Rattle.booking.specs.declared.new_nodes.NewNode.{NewNode}
-use Rattle.booking.specs.declared.marks.NewMarks.{NewMarks}
+use Rattle.booking.specs.declared.new_marks.NewMarks.{NewMarks}
 
 abbrev pub zeroMark : Mark
 zeroMark = record { layout = 0; place = 0; serial = 0 }

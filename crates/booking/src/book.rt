@@ -1,7 +1,7 @@
 // The booking itself.
 ghost use mathlib.Core.Path.{_≡_};
 ghost use Prim.Native.Nat.{_+_, _≤_};
-ghost use Rattle.register.specs.Listings.{Kept, entriesOf, listing};
+ghost use Rattle.layout_nodes.specs.Listings.{Kept, entriesOf, listing};
 ghost use Rattle.booking.specs.Book.{nodeBare, bookedNodes, lessUp, newOf, siteLeft};
 ghost use Rattle.booking.specs.Inner.{Bookable};
 use crate::new_nodes::NewNodes;
@@ -10,12 +10,12 @@ use crate::new_nodes::enrol;
 use crate::new_nodes::new_nodes;
 use crate::new_nodes::new_places;
 use crate::new_nodes::put_frees;
+use layout_nodes::LayoutNodes;
+use layout_nodes::listing::Listing;
+use layout_nodes::listing::areas_of;
 use piece::insertion_blueprint::InsertionShape;
 use piece::insertion_blueprint::nodes as blueprint_of;
 use piece::size::Size;
-use register::LayoutNodes;
-use register::listing::Listing;
-use register::listing::areas_of;
 use table::NONE;
 use table::Node;
 use table::nodes::leaf;

@@ -2,14 +2,14 @@
 // parts under the top, since the cuts are listed call by call along a row too. The proofs know no stack: tests/stack.sh runs this on one of 2 MiB.
 ghost use Prim.Native.Nat.{_<_};
 use layout::layout::Layout;
-use looks::replies::AreaAnswer;
-use looks::replies::CountAnswer;
-use looks::replies::UsageAnswer;
 use piece::node::Datum;
 use piece::node::Kind;
 use piece::orientation::Orientation;
 use piece::settings::Settings;
 use piece::size::Size;
+use questions::replies::AreaAnswer;
+use questions::replies::CountAnswer;
+use questions::replies::UsageAnswer;
 use table::NONE;
 use table::Node;
 
@@ -194,14 +194,17 @@ fn main() {
     if l.sound() {
         io::write_all(libc::STDOUT_FILENO, b"sound\n");
     }
-    say(b"nodes ", count_in(looks::figures::nodes_held(l)));
-    say(b"used area ", area_in(looks::figures::used_area(l)));
-    say(b"free area ", area_in(looks::figures::free_area(l)));
-    say(b"sheet usage ", usage_in(looks::figures::sheet_usage(l)));
-    say(b"tree usage ", usage_in(looks::figures::tree_usage(l)));
+    say(b"nodes ", count_in(questions::figures::nodes_held(l)));
+    say(b"used area ", area_in(questions::figures::used_area(l)));
+    say(b"free area ", area_in(questions::figures::free_area(l)));
+    say(
+        b"sheet usage ",
+        usage_in(questions::figures::sheet_usage(l)),
+    );
+    say(b"tree usage ", usage_in(questions::figures::tree_usage(l)));
     say(
         b"snapshot ",
-        count_in(looks::written::snapshot(l, &mut out)),
+        count_in(questions::written::snapshot(l, &mut out)),
     );
     say(b"its last node's level ", wide(out[3302]));
     say(b"its last node's kind ", wide(out[3303]));

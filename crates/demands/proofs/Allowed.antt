@@ -11,7 +11,7 @@ use Rattle.piece.specs.declared.parttype.PartType.{PartType}
 use Rattle.piece.specs.declared.insertion_blueprint.InsertionShape.{InsertionShape}
 use Rattle.piece.specs.Insertion.{newNodes}
 use Rattle.piece.specs.Kinds.{isFree}
-use Rattle.answers.specs.declared.Mark.{Mark}
+use Rattle.marks.specs.declared.Mark.{Mark}
 use Rattle.layout.specs.declared.layout.Layout.{Layout}
 use Rattle.layout.specs.declared.replies.Sought.the-variants as sought
 use Rattle.layout.specs.declared.insert.Inserted.{Inserted}

@@ -14,7 +14,7 @@ use Rattle.piece.specs.declared.settings.Opening.{Opening}
 use Rattle.piece.specs.declared.settings.Settings.{Settings}
 use Rattle.tree.specs.Tree.{Tree}
 use Rattle.tree.specs.Figures.{partArea, freeArea}
-use Rattle.answers.specs.declared.Mark.{Mark}
+use Rattle.marks.specs.declared.Mark.{Mark}
 use Rattle.layout.specs.declared.layout.Layout.{Layout}
 use Rattle.layout.specs.declared.open.Opened.{Opened}
 use Rattle.layout.specs.declared.insert.Inserted.{Inserted}
@@ -31,9 +31,9 @@ use Rattle.layout.specs.Restore.{greater, restoreOf, withSerial}
 use Rattle.layout.proofs.Exactly.{sound-says, sound-shown}
 use Rattle.layout.proofs.Opened.{fresh-sized, fresh-sound}
 use Rattle.layout.proofs.Restored.{restored-sound}
-use Rattle.looks.specs.declared.replies.AreaAnswer.the-variants.{Area}
-use Rattle.looks.specs.Answers.{usedAreaOf, freeAreaOf}
-use Rattle.looks.proofs.FiguresSay.{areas-cover}
+use Rattle.questions.specs.declared.replies.AreaAnswer.the-variants.{Area}
+use Rattle.questions.specs.Answers.{usedAreaOf, freeAreaOf}
+use Rattle.questions.proofs.FiguresSay.{areas-cover}
 use Rattle.demands.specs.Calls.{AreasCover, OpenAccepted, RestoreAccepted}
 use Rattle.demands.proofs.Outcomes.{opened-so, inserted-so, removed-so, PutBack, restored-so}
 

@@ -13,10 +13,10 @@ use Rattle.tree.specs.Snapshot.{Same}
 use Rattle.tree.specs.Booking.{Booking, block, book}
 use Rattle.tree.specs.Removal.{remove}
 use Rattle.tree.proofs.Laws.BookThenRemove.{book-then-remove}
-use Rattle.booking.specs.declared.marks.NewMarks.{NewMarks}
+use Rattle.booking.specs.declared.new_marks.NewMarks.{NewMarks}
 use Rattle.booking.specs.Marks.{blockMarks}
 use Rattle.booking.proofs.BlockMarks.{block-first-is}
-use Rattle.answers.specs.declared.Mark.{Mark}
+use Rattle.marks.specs.declared.Mark.{Mark}
 use Rattle.layout.specs.declared.layout.Layout.{Layout}
 use Rattle.layout.specs.declared.insert.Inserted.{Inserted}
 use Rattle.layout.specs.declared.remove.Removed.{Removed}
@@ -24,7 +24,7 @@ use Rattle.layout.specs.Check.{tree}
 use Rattle.layout.specs.SoundLayout.{Sized}
 use Rattle.layout.specs.Insert.{bookingFor, pieceAt}
 use Rattle.layout.specs.Remove.{placeFor}
-use Rattle.looks.specs.Written.{snapshotBytes}
+use Rattle.questions.specs.Written.{snapshotBytes}
 use Rattle.demands.specs.Calls.{InsertAccepted, RemoveAccepted, SameTree}
 use Rattle.demands.proofs.Outcomes.{InsertMeans, RemoveMeans, accepted-insert, accepted-remove}
 

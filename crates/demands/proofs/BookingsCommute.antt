@@ -24,14 +24,14 @@ use Rattle.tree.proofs.Laws.BookingsCommute.{bookings-commute}
 use Rattle.tree.proofs.Family.{new-place-absent}
 use Rattle.tree.proofs.BookPieces.{less-gone, less-keeps}
 use Rattle.tree.proofs.Stays.{less-at}
-use Rattle.answers.specs.declared.Mark.{Mark}
+use Rattle.marks.specs.declared.Mark.{Mark}
 use Rattle.layout.specs.declared.layout.Layout.{Layout}
 use Rattle.layout.specs.declared.insert.Inserted.{Inserted}
 use Rattle.layout.specs.Check.{limit, maxSerial, tree}
 use Rattle.layout.specs.SoundLayout.{SoundLayout, Sized}
 use Rattle.layout.specs.Insert.{InsertDone, InsertSays, bookingFor, pieceAt}
 use Rattle.layout.specs.Inner.{Insertable}
-use Rattle.looks.specs.Written.{snapshotBytes}
+use Rattle.questions.specs.Written.{snapshotBytes}
 use Rattle.demands.specs.Life.{NamesPiece}
 use Rattle.demands.specs.Calls.{InsertAccepted, SameTree}
 use Rattle.demands.proofs.Outcomes.{InsertMeans, accepted-insert, insert-names}

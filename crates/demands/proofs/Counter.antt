@@ -10,9 +10,9 @@ use Prim.Native.Nat.{ℕ}
 use lib.Dec.{eqb}
 use borrow.Author.Tests.{eqb-true, eqb-false, ne-eqb}
 use Rattle.lists.proofs.Scan.{clash}
-use Rattle.answers.specs.declared.Mark.{Mark}
-use Rattle.answers.specs.declared.Refusal.{Refusal}
-use Rattle.answers.specs.declared.Refusal.the-variants.{OtherLayout, Gone}
+use Rattle.marks.specs.declared.Mark.{Mark}
+use Rattle.marks.specs.declared.Refusal.{Refusal}
+use Rattle.marks.specs.declared.Refusal.the-variants.{OtherLayout, Gone}
 use Rattle.lines.specs.Text.{Line}
 use Rattle.lines.specs.Stream.{empty, feeds}
 use Rattle.layout.specs.declared.layout.Layout.{Layout}
@@ -23,7 +23,7 @@ use Rattle.layout.specs.Insert.{InsertSays, insertNo, refusedInsert}
 use Rattle.layout.specs.Remove.{RemoveSays, removeNo, refusedRemove}
 use Rattle.layout.proofs.Exactly.{sound-says, sound-shown}
 use Rattle.layout.proofs.Ways.{ended}
-use Rattle.looks.specs.Answers.{offersCall}
+use Rattle.questions.specs.Answers.{offersCall}
 use Rattle.frames.specs.declared.Request.{Request}
 use Rattle.frames.specs.Answers.{Answer, refused}
 use Rattle.session.specs.declared.Session.{Session}

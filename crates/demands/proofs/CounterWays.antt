@@ -14,9 +14,9 @@ use Rattle.piece.specs.declared.insertion_blueprint.InsertionShape.{InsertionSh
 use Rattle.piece.specs.declared.settings.Opening.{Opening}
 use Rattle.tree.specs.Tree.{Tree}
 use Rattle.lists.proofs.Scan.{clash}
-use Rattle.answers.specs.declared.Mark.{Mark}
-use Rattle.answers.specs.declared.Refusal.{Refusal}
-use Rattle.answers.specs.declared.Refusal.the-variants.{NotSound}
+use Rattle.marks.specs.declared.Mark.{Mark}
+use Rattle.marks.specs.declared.Refusal.{Refusal}
+use Rattle.marks.specs.declared.Refusal.the-variants.{NotSound}
 use Rattle.layout.specs.declared.layout.Layout.{Layout}
 use Rattle.layout.specs.declared.open.OpenOutcome.{OpenOutcome}
 use Rattle.layout.specs.declared.open.OpenOutcome.the-variants as opening
@@ -39,7 +39,7 @@ use Rattle.frames.specs.declared.Request.{Request}
 use Rattle.frames.specs.declared.Request.the-variants.{OfLayout, Keep, Restore, Malformed}
 use Rattle.frames.specs.Answers.{Answer, refused, opened, done}
 use Rattle.session.specs.declared.Session.{Session}
-use Rattle.looks.specs.Answers.{offersCall}
+use Rattle.questions.specs.Answers.{offersCall}
 use Rattle.session.specs.Session.{started, withLayout, Reply, reply, answerBy, openedBy, afterOpen, offersSaid, afterOffers, marksSaid, afterInsert}
 use Rattle.session.specs.Session.{numbersSaid, afterRemove, keptBy, afterKeep, afterRestore, reportBy, afterReport, Answers}
 use Rattle.demands.specs.Counter.{marksWritten, opens, Stale}

@@ -17,9 +17,9 @@ use Rattle.piece.specs.declared.settings.Opening.{Opening}
 use Rattle.tree.specs.Tree.{At, Inside}
 use Rattle.tree.specs.Family.{parentOf}
 use Rattle.booking.specs.Marks.{zeroMark, zeroMarks}
-use Rattle.answers.specs.declared.Mark.{Mark}
-use Rattle.answers.specs.declared.Refusal.{Refusal}
-use Rattle.answers.specs.declared.Refusal.the-variants.{Gone}
+use Rattle.marks.specs.declared.Mark.{Mark}
+use Rattle.marks.specs.declared.Refusal.{Refusal}
+use Rattle.marks.specs.declared.Refusal.the-variants.{Gone}
 use Rattle.layout.specs.declared.layout.Layout.{Layout}
 use Rattle.layout.specs.declared.replies.Outcome.the-variants.{Refused}
 use Rattle.layout.specs.declared.replies.Sought.the-variants as sought
@@ -35,11 +35,11 @@ use Rattle.layout.specs.Insert.{InsertSays, insertNo, pieceAt}
 use Rattle.layout.specs.Remove.{RemoveSays, numbersLeft, removeNo}
 use Rattle.layout.specs.Restore.{restoreOf}
 use Rattle.layout.proofs.Refusals as refusals
-use Rattle.looks.specs.declared.replies.CountAnswer.the-variants as counts
-use Rattle.looks.specs.Answers.{offersCall}
-use Rattle.looks.specs.Written.{answerTo, leftInBuffer}
-use Rattle.looks.proofs.Refusals as looking
-use Rattle.reasons.specs.Answers.{whyCall}
+use Rattle.questions.specs.declared.replies.CountAnswer.the-variants as counts
+use Rattle.questions.specs.Answers.{offersCall}
+use Rattle.questions.specs.Written.{answerTo, leftInBuffer}
+use Rattle.questions.proofs.Refusals as looking
+use Rattle.questions.specs.WhyNot.{whyCall}
 use Rattle.lines.specs.Text.{Line}
 use Rattle.frames.specs.declared.Request.{Request}
 use Rattle.frames.specs.declared.Ask.the-variants.{Open}

@@ -10,10 +10,10 @@ use Rattle.layout.specs.Asked.{freePieceOf}
 use Rattle.layout.specs.Zero.{zeroLayout}
 use Rattle.layout.proofs.Exactly.{zero-refused}
 use Rattle.layout.proofs.Refusals.{insert-unsound, remove-unsound, numbers-unsound, restore-unsound, snapshot-unsound}
-use Rattle.looks.specs.Answers.{usedAreaOf, freeAreaOf, nodesHeldOf, sheetUsageOf, treeUsageOf, isEmptyOf, freeMarkOf, removableMarkOf, lightOf, offersCall}
-use Rattle.looks.specs.Written.{heldNumbers, snapshotBytes}
+use Rattle.questions.specs.Answers.{usedAreaOf, freeAreaOf, nodesHeldOf, sheetUsageOf, treeUsageOf, isEmptyOf, freeMarkOf, removableMarkOf, lightOf, offersCall}
+use Rattle.questions.specs.Written.{heldNumbers, snapshotBytes}
 use Rattle.saw.specs.Written.{sawBytes}
-use Rattle.reasons.specs.Answers.{whyCall}
+use Rattle.questions.specs.WhyNot.{whyCall}
 use Rattle.session.specs.Replies.{both}
 use Rattle.session.proofs.Refused.{unsound-refused, unsound-kept-refused}
 use Rattle.demands.specs.Examined.{Examined, NothingWritten}

@@ -20,7 +20,7 @@ use Rattle.tree.proofs.Stays.{less-at, cleared-at, at-remove}
 use Rattle.tree.proofs.BookPieces.{book-pieces, book-left}
 use Rattle.tree.proofs.Family.{fresh-removal}
 use Rattle.tree.proofs.Parents.{SameParent, book-parent, remove-parent}
-use Rattle.answers.specs.declared.Mark.{Mark}
+use Rattle.marks.specs.declared.Mark.{Mark}
 use Rattle.booking.proofs.Issued.{newer}
 use Rattle.removal.specs.Remove.{newFree}
 use Rattle.removal.proofs.Pieces.{remove-pieces}

@@ -18,7 +18,7 @@ use Rattle.tree.proofs.Bookings.{at-unique}
 use Rattle.tree.proofs.Parents.{SameParent}
 use Rattle.table.specs.declared.Node.{Node}
 use Rattle.table.specs.Table.{zeroDatum, zeroNode}
-use Rattle.answers.specs.declared.Mark.{Mark}
+use Rattle.marks.specs.declared.Mark.{Mark}
 use Rattle.layout.specs.declared.layout.Layout.{Layout}
 use Rattle.layout.specs.declared.open.OpenOutcome.the-variants as opening
 use Rattle.layout.specs.declared.insert.Inserted.{Inserted}

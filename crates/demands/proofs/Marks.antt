@@ -10,8 +10,8 @@ use borrow.Author.Tests.{eq-eqb}
 use Rattle.piece.specs.declared.rotation.Rotation.{Rotation}
 use Rattle.piece.specs.declared.parttype.PartType.{PartType}
 use Rattle.piece.specs.declared.insertion_blueprint.InsertionShape.{InsertionShape}
-use Rattle.answers.specs.declared.Mark.{Mark}
-use Rattle.answers.specs.declared.Refusal.the-variants.{Gone}
+use Rattle.marks.specs.declared.Mark.{Mark}
+use Rattle.marks.specs.declared.Refusal.the-variants.{Gone}
 use Rattle.layout.specs.declared.layout.Layout.{Layout}
 use Rattle.layout.specs.declared.replies.Outcome.the-variants.{Refused}
 use Rattle.layout.specs.declared.replies.Sought.the-variants as sought
@@ -23,8 +23,8 @@ use Rattle.layout.specs.Remove.{removeNo}
 use Rattle.layout.proofs.Exactly.{sound-shown}
 use Rattle.layout.proofs.Marks.{sought-names}
 use Rattle.layout.proofs.Ways.{onward, ended}
-use Rattle.looks.specs.Answers.{offersCall}
-use Rattle.reasons.specs.Answers.{whyCall}
+use Rattle.questions.specs.Answers.{offersCall}
+use Rattle.questions.specs.WhyNot.{whyCall}
 use Rattle.demands.specs.Life.{OneOf, Life, Later, NamesPiece, SamePiece}
 use Rattle.demands.proofs.Lives.{states-sound, one-number, one-piece}
 

@@ -1,7 +1,7 @@
 -- Every mark that a call answers names a piece of the state that the call gave, or in which it was asked. Assumes nothing.
 use mathlib.Core.Path.{_≡_}
 use mathlib.Core.List.{List}
-use Rattle.answers.specs.declared.Mark.{Mark}
+use Rattle.marks.specs.declared.Mark.{Mark}
 use Rattle.layout.specs.declared.layout.Layout.{Layout}
 use Rattle.layout.specs.SoundLayout.{SoundLayout, Sized}
 use Rattle.demands.specs.Life.{Given, byOpen, byInsertFirst, byInsertPart, byInsertFree, byRemove, byFreeList, byRemovableList, Later, Life, NamesPiece}

@@ -26,8 +26,8 @@ use Rattle.tree.specs.Booking.{Booking, block}
 use Rattle.tree.specs.Steps.{less}
 use Rattle.tree.specs.Family.{newPlace}
 use Rattle.tree.proofs.BookPieces.{book-new}
-use Rattle.answers.specs.declared.Mark.{Mark}
-use Rattle.answers.specs.declared.Refusal.{Refusal}
+use Rattle.marks.specs.declared.Mark.{Mark}
+use Rattle.marks.specs.declared.Refusal.{Refusal}
 use Rattle.booking.proofs.BlockMarks.{Of, every, block-first-is, block-first, block-part, block-frees}
 use Rattle.removal.specs.Remove.{newFree}
 use Rattle.removal.proofs.Pieces.{new-there}
@@ -46,10 +46,10 @@ use Rattle.layout.specs.Remove.{placeFor, RemoveSays}
 use Rattle.layout.proofs.Listed.{piece-is}
 use Rattle.layout.proofs.Admitted.{is-free}
 use Rattle.layout.proofs.Opened.{fresh-tree, fresh-sound}
-use Rattle.looks.specs.declared.replies.MarkAnswer.{MarkAnswer}
-use Rattle.looks.specs.declared.replies.MarkAnswer.the-variants as answer
-use Rattle.looks.specs.Answers.{freeMarkOf, removableMarkOf}
-use Rattle.looks.proofs.ListMarks.{free-mark-names, removable-mark-names}
+use Rattle.questions.specs.declared.replies.MarkAnswer.{MarkAnswer}
+use Rattle.questions.specs.declared.replies.MarkAnswer.the-variants as answer
+use Rattle.questions.specs.Answers.{freeMarkOf, removableMarkOf}
+use Rattle.questions.proofs.ListMarks.{free-mark-names, removable-mark-names}
 use Rattle.demands.specs.Life.{NamesPiece}
 use Rattle.demands.proofs.Outcomes.{opened-so, accepted-insert, accepted-remove}
 

@@ -21,9 +21,9 @@ use Rattle.piece.proofs.Offering.{offered-says}
 use Rattle.lists.proofs.Scan.{clash}
 use Rattle.tree.specs.Accepted.{Fresh}
 use Rattle.tree.proofs.Family.{fresh-booking}
-use Rattle.answers.specs.declared.Mark.{Mark}
-use Rattle.answers.specs.declared.Refusal.{Refusal}
-use Rattle.answers.specs.declared.Refusal.the-variants.{BufferTooShort}
+use Rattle.marks.specs.declared.Mark.{Mark}
+use Rattle.marks.specs.declared.Refusal.{Refusal}
+use Rattle.marks.specs.declared.Refusal.the-variants.{BufferTooShort}
 use Rattle.layout.specs.declared.layout.Layout.{Layout}
 use Rattle.layout.specs.declared.open.OpenOutcome.the-variants as opening
 use Rattle.layout.specs.declared.replies.Outcome.the-variants.{Done}

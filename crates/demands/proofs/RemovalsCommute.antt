@@ -17,7 +17,7 @@ use Rattle.tree.proofs.RemoveKept.{in-left}
 use Rattle.tree.proofs.Stays.{at-cleared}
 use Rattle.tree.proofs.Laws.RemovalsCommute.{removals-commute}
 use Rattle.tree.proofs.Beside.{left-outside, subtree-beside}
-use Rattle.answers.specs.declared.Mark.{Mark}
+use Rattle.marks.specs.declared.Mark.{Mark}
 use Rattle.layout.specs.declared.layout.Layout.{Layout}
 use Rattle.layout.specs.declared.remove.Removed.{Removed}
 use Rattle.layout.specs.Check.{tree}
@@ -26,7 +26,7 @@ use Rattle.layout.specs.Insert.{pieceAt}
 use Rattle.layout.specs.Remove.{RemoveDone, RemoveSays, numbersOut, placeFor}
 use Rattle.layout.specs.Inner.{Takeable}
 use Rattle.layout.proofs.Listed.{piece-is}
-use Rattle.looks.specs.Written.{snapshotBytes}
+use Rattle.questions.specs.Written.{snapshotBytes}
 use Rattle.demands.specs.Life.{NamesPiece}
 use Rattle.demands.specs.Calls.{RemoveAccepted, SameTree}
 use Rattle.demands.proofs.Outcomes.{RemoveMeans, accepted-remove, remove-names}

@@ -26,8 +26,8 @@ use Rattle.removal.specs.declared.remove.Cleared.{Cleared}
 use Rattle.removal.specs.Going.{goingOf, places, areaAlong}
 use Rattle.removal.specs.Remove.{removedNodes}
 use Rattle.removal.proofs.Gone.{going-placed}
-use Rattle.answers.specs.declared.Mark.{Mark}
-use Rattle.answers.specs.declared.Refusal.{Refusal}
+use Rattle.marks.specs.declared.Mark.{Mark}
+use Rattle.marks.specs.declared.Refusal.{Refusal}
 use Rattle.layout.specs.declared.layout.Layout.{Layout}
 use Rattle.layout.specs.declared.replies.Outcome.the-variants.{Done}
 use Rattle.layout.specs.declared.insert.Inserted.{Inserted}

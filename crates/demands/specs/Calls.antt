@@ -9,7 +9,7 @@ use Rattle.piece.specs.declared.insertion_blueprint.InsertionShape.{InsertionSh
 use Rattle.piece.specs.declared.settings.Opening.{Opening}
 use Rattle.piece.specs.Sides.{area}
 use Rattle.tree.specs.Figures.{partArea, freeArea}
-use Rattle.answers.specs.declared.Mark.{Mark}
+use Rattle.marks.specs.declared.Mark.{Mark}
 use Rattle.layout.specs.declared.layout.Layout.{Layout}
 use Rattle.layout.specs.declared.open.Opened.{Opened}
 use Rattle.layout.specs.declared.open.OpenOutcome.the-variants.{Free}
@@ -22,9 +22,9 @@ use Rattle.layout.specs.Open.{openOf}
 use Rattle.layout.specs.Insert.{InsertSays}
 use Rattle.layout.specs.Remove.{RemoveSays}
 use Rattle.layout.specs.Restore.{restoreOf}
-use Rattle.looks.specs.declared.replies.AreaAnswer.the-variants.{Area}
-use Rattle.looks.specs.Answers.{usedAreaOf, freeAreaOf}
-use Rattle.looks.specs.Written.{snapshotBytes}
+use Rattle.questions.specs.declared.replies.AreaAnswer.the-variants.{Area}
+use Rattle.questions.specs.Answers.{usedAreaOf, freeAreaOf}
+use Rattle.questions.specs.Written.{snapshotBytes}
 
 -- `insert` of the part p, in rotation r and shape s, into the piece that m names, on the layout l, answers a and is not refused
 pub record InsertAccepted (l : Layout) (m : Mark) (p : PartType) (r : Rotation) (s : InsertionShape) (a : Inserted) : Type 0 where

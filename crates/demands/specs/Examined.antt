@@ -8,8 +8,8 @@ use Prim.Native.Nat.{ℕ}
 use Rattle.piece.specs.declared.rotation.Rotation.{Rotation}
 use Rattle.piece.specs.declared.parttype.PartType.{PartType}
 use Rattle.piece.specs.declared.insertion_blueprint.InsertionShape.{InsertionShape}
-use Rattle.answers.specs.declared.Mark.{Mark}
-use Rattle.answers.specs.declared.Refusal.the-variants.{NotSound}
+use Rattle.marks.specs.declared.Mark.{Mark}
+use Rattle.marks.specs.declared.Refusal.the-variants.{NotSound}
 use Rattle.layout.specs.declared.layout.Layout.{Layout}
 use Rattle.layout.specs.declared.insert.Inserted.{Inserted}
 use Rattle.layout.specs.declared.remove.Removed.{Removed}
@@ -18,16 +18,16 @@ use Rattle.layout.specs.Remove.{RemoveSays, numbersLeft, refusedRemove}
 use Rattle.layout.specs.Restore.{restoreOf, refusedRestore}
 use Rattle.layout.specs.declared.replies.Sought.the-variants as sought
 use Rattle.layout.specs.Asked.{freePieceOf}
-use Rattle.looks.specs.declared.replies.AreaAnswer.the-variants as areas
-use Rattle.looks.specs.declared.replies.CountAnswer.the-variants as counts
-use Rattle.looks.specs.declared.replies.UsageAnswer.the-variants as usages
-use Rattle.looks.specs.declared.replies.LightAnswer.the-variants as lights
-use Rattle.looks.specs.declared.replies.MarkAnswer.the-variants as marks
-use Rattle.looks.specs.Answers.{usedAreaOf, freeAreaOf, nodesHeldOf, sheetUsageOf, treeUsageOf, isEmptyOf, freeMarkOf, removableMarkOf, lightOf}
-use Rattle.looks.specs.Answers.{offersCall, refusedOffers}
-use Rattle.looks.specs.Written.{answerTo, heldNumbers, leftInBuffer, snapshotBytes}
+use Rattle.questions.specs.declared.replies.AreaAnswer.the-variants as areas
+use Rattle.questions.specs.declared.replies.CountAnswer.the-variants as counts
+use Rattle.questions.specs.declared.replies.UsageAnswer.the-variants as usages
+use Rattle.questions.specs.declared.replies.LightAnswer.the-variants as lights
+use Rattle.questions.specs.declared.replies.MarkAnswer.the-variants as marks
+use Rattle.questions.specs.Answers.{usedAreaOf, freeAreaOf, nodesHeldOf, sheetUsageOf, treeUsageOf, isEmptyOf, freeMarkOf, removableMarkOf, lightOf}
+use Rattle.questions.specs.Answers.{offersCall, refusedOffers}
+use Rattle.questions.specs.Written.{answerTo, heldNumbers, leftInBuffer, snapshotBytes}
 use Rattle.saw.specs.Written.{sawBytes}
-use Rattle.reasons.specs.Answers.{refusedWhy, whyCall}
+use Rattle.questions.specs.WhyNot.{refusedWhy, whyCall}
 use Rattle.frames.specs.declared.Request.{Request}
 use Rattle.frames.specs.declared.Request.the-variants.{Restore}
 use Rattle.frames.specs.Answers.{Answer, refused}
@@ -48,7 +48,7 @@ pub record Examined (l : Layout) : Type 0 where
   pub restore : (snapshot : Layout) → restoreOf l snapshot ≡ refusedRestore l NotSound
   pub restoreTo : (k : Layout) → restoreOf k l ≡ refusedRestore k NotSound
   pub freePiece : (m : Mark) (p : PartType) → freePieceOf l m p ≡ sought.Refused NotSound
-  -- crate looks
+  -- crate questions
   pub usedArea : usedAreaOf l ≡ areas.Refused NotSound
   pub freeArea : freeAreaOf l ≡ areas.Refused NotSound
   pub nodesHeld : nodesHeldOf l ≡ counts.Refused NotSound

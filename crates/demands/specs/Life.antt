@@ -17,7 +17,7 @@ use Rattle.piece.specs.declared.settings.Opening.{Opening}
 use Rattle.piece.specs.declared.settings.Settings.{Settings}
 use Rattle.tree.specs.Tree.{At}
 use Rattle.tree.specs.Family.{parentOf}
-use Rattle.answers.specs.declared.Mark.{Mark}
+use Rattle.marks.specs.declared.Mark.{Mark}
 use Rattle.layout.specs.declared.layout.Layout.{Layout}
 use Rattle.layout.specs.declared.open.OpenOutcome.the-variants.{Free}
 use Rattle.layout.specs.declared.replies.Outcome.the-variants.{Done}
@@ -29,8 +29,8 @@ use Rattle.layout.specs.Open.{openOf}
 use Rattle.layout.specs.Insert.{InsertSays, pieceAt}
 use Rattle.layout.specs.Remove.{RemoveSays}
 use Rattle.layout.specs.Restore.{restoreOf}
-use Rattle.looks.specs.declared.replies.MarkAnswer.the-variants.{Found}
-use Rattle.looks.specs.Answers.{freeMarkOf, removableMarkOf}
+use Rattle.questions.specs.declared.replies.MarkAnswer.the-variants.{Found}
+use Rattle.questions.specs.Answers.{freeMarkOf, removableMarkOf}
 
 -- l is one of the states
 abbrev pub OneOf : Layout → List Layout → Type 0

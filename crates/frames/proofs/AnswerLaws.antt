@@ -5,10 +5,10 @@ use Prim.Native.Nat.{ℕ, _-_, _%_, _<_}
 use native.Mathlib.Omega.{arith}
 use Rattle.piece.specs.declared.insertion_option.Offer.{Offer}
 use Rattle.piece.proofs.Numbers.{rotation-small, shape-small}
-use Rattle.answers.specs.declared.Refusal.{Refusal}
-use Rattle.answers.specs.declared.Refusal.the-variants.{NotSound, OpeningOutside, PartOutside, OtherLayout, Gone, NotFree, NotOffered, TheTop}
-use Rattle.answers.specs.declared.Refusal.the-variants.{FreePiece, TooManyNodes, SerialsSpent, PastTheEnd, BufferTooShort, Malformed as BadFrame}
-use Rattle.answers.specs.Refusals.{refusalNo}
+use Rattle.marks.specs.declared.Refusal.{Refusal}
+use Rattle.marks.specs.declared.Refusal.the-variants.{NotSound, OpeningOutside, PartOutside, OtherLayout, Gone, NotFree, NotOffered, TheTop}
+use Rattle.marks.specs.declared.Refusal.the-variants.{FreePiece, TooManyNodes, SerialsSpent, PastTheEnd, BufferTooShort, Malformed as BadFrame}
+use Rattle.marks.specs.Refusals.{refusalNo}
 use Rattle.frames.specs.Bytes.{pairs, charsOf, total, two}
 use Rattle.frames.specs.Fields.{markBytes}
 use Rattle.frames.specs.Answers.{Answer, refused, opened, offered, inserted, removed, done, reported, malformed, each, offerBytes, contentOf}

@@ -9,7 +9,7 @@ use Rattle.piece.specs.declared.rotation.Rotation.{Rotation}
 use Rattle.piece.specs.declared.parttype.PartType.{PartType}
 use Rattle.piece.specs.declared.insertion_blueprint.InsertionShape.{InsertionShape}
 use Rattle.piece.specs.Numbers.{rotationOf, shapeOf}
-use Rattle.answers.specs.declared.Mark.{Mark}
+use Rattle.marks.specs.declared.Mark.{Mark}
 use Rattle.frames.specs.declared.Ask.the-variants.{Insert}
 use Rattle.frames.specs.declared.Request.the-variants.{OfLayout}
 use Rattle.frames.specs.Fields.{markAt, partAt}

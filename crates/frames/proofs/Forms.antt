@@ -11,7 +11,7 @@ use lib.Seq.{getD-drop, drop-drop}
 use borrow.Author.Tests.{ltb-true}
 use Rattle.piece.specs.declared.parttype.PartType.{PartType}
 use Rattle.piece.proofs.Numbers.{turn-small}
-use Rattle.answers.specs.declared.Mark.{Mark}
+use Rattle.marks.specs.declared.Mark.{Mark}
 use Rattle.frames.specs.Bytes.{allBytes, two, four}
 use Rattle.frames.specs.Fields.{Width, single, double, quad, Field, markFields, partFields, sizeOf, widths, valueAt, values, fieldBytes, written}
 use Rattle.frames.specs.Fields.{markNos, partNos, markBytes}

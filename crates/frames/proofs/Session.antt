@@ -10,8 +10,8 @@ use Rattle.piece.specs.declared.orientation.Orientation.the-variants.{Vertical}
 use Rattle.piece.specs.declared.rotation.Rotation.the-variants.{Default}
 use Rattle.piece.specs.declared.parttype.Turn.the-variants.{Either}
 use Rattle.piece.specs.declared.insertion_blueprint.InsertionShape.the-variants.{AlongCurrentCut}
-use Rattle.answers.specs.declared.Mark.{Mark}
-use Rattle.answers.specs.declared.Refusal.the-variants.{Gone}
+use Rattle.marks.specs.declared.Mark.{Mark}
+use Rattle.marks.specs.declared.Refusal.the-variants.{Gone}
 use Rattle.frames.specs.declared.Ask.the-variants.{Open, Insert}
 use Rattle.frames.specs.declared.Request.the-variants.{OfLayout, Malformed}
 use Rattle.frames.specs.Bytes.{pairs, allBytes, charsOf, total}

@@ -5,9 +5,9 @@ use Prim.Native.Nat.{ℕ, _%_}
 use lib.ListN.{length}
 use Rattle.piece.specs.declared.insertion_option.Offer.{Offer}
 use Rattle.piece.specs.Numbers.{rotationNo, shapeNo}
-use Rattle.answers.specs.declared.Mark.{Mark}
-use Rattle.answers.specs.declared.Refusal.{Refusal}
-use Rattle.answers.specs.Refusals.{refusalNo}
+use Rattle.marks.specs.declared.Mark.{Mark}
+use Rattle.marks.specs.declared.Refusal.{Refusal}
+use Rattle.marks.specs.Refusals.{refusalNo}
 use Rattle.frames.specs.Bytes.{framed, lineOfBytes, two, eight}
 use Rattle.frames.specs.Fields.{markBytes}
 

@@ -7,7 +7,7 @@ use Rattle.piece.specs.declared.parttype.PartType.{PartType}
 use Rattle.piece.specs.declared.settings.Opening.{Opening}
 use Rattle.piece.specs.declared.size.Size.{Size}
 use Rattle.piece.specs.Numbers.{cutListed, turnListed, rotationListed, shapeListed, cutNo, turnNo, cutOf, turnOf}
-use Rattle.answers.specs.declared.Mark.{Mark}
+use Rattle.marks.specs.declared.Mark.{Mark}
 use Rattle.frames.specs.Bytes.{two, four, twoAt, fourAt}
 
 -- ---- a field: how many bytes it has, and which of their numbers are listed

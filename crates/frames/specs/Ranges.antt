@@ -6,7 +6,7 @@ use lib.ListN.{length}
 use Rattle.piece.specs.declared.parttype.PartType.{PartType}
 use Rattle.piece.specs.declared.settings.Opening.{Opening}
 use Rattle.piece.specs.declared.size.Size.{Size}
-use Rattle.answers.specs.declared.Mark.{Mark}
+use Rattle.marks.specs.declared.Mark.{Mark}
 use Rattle.frames.specs.declared.Ask.the-variants.{Open, Offers, Insert, Remove, Report}
 use Rattle.frames.specs.declared.Request.{Request}
 use Rattle.frames.specs.declared.Request.the-variants.{OfLayout, Keep, Restore, Malformed}

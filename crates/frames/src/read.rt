@@ -8,7 +8,7 @@ ghost use Rattle.frames.specs.Fields.{markFields, partFields, widths, si
 ghost use Rattle.frames.specs.Requests.{readOpen, readOffers, readInsert, readRemove, lengthOf, askedBy, requestOf};
 use crate::Ask;
 use crate::Request;
-use answers::Mark;
+use marks::Mark;
 use piece::insertion_blueprint::InsertionShape;
 use piece::orientation::Orientation;
 use piece::parttype::PartType;

@@ -9,8 +9,8 @@ ghost use Rattle.frames.specs.Fields.{markBytes};
 ghost use Rattle.frames.specs.Answers.{Answer, offerBytes, each};
 ghost use Rattle.frames.specs.Writing.{AnswerPut};
 ghost use Rattle.frames.specs.Inner.{Wrote, freshPen, ending};
-use answers::Mark;
-use answers::Refusal;
+use marks::Mark;
+use marks::Refusal;
 use piece::insertion_option::Offer;
 use piece::insertion_option::OfferList;
 

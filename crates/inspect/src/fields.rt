@@ -1,5 +1,5 @@
 // The eight fields of a line, each '-' where it is empty or missing, all but the first after a space. What frames don't show comes from the
-// calls of `looks` and `saw` alone; a layout that isn't sound refuses them, and so its fields are missing.
+// calls of `questions` and `saw` alone; a layout that isn't sound refuses them, and so its fields are missing.
 use crate::pen::Pen;
 use crate::pen::ROOM;
 use crate::pen::put;
@@ -7,16 +7,16 @@ use crate::pen::put_byte;
 use crate::pen::put_eight;
 use crate::pen::put_four;
 use crate::pen::put_two;
-use answers::Mark;
 use frames::Ask;
 use frames::Request;
 use layout::layout::Layout;
-use looks::replies::AreaAnswer;
-use looks::replies::CountAnswer;
-use looks::replies::LightAnswer;
-use looks::replies::MarkAnswer;
-use looks::replies::UsageAnswer;
+use marks::Mark;
 use piece::parttype::PartType;
+use questions::replies::AreaAnswer;
+use questions::replies::CountAnswer;
+use questions::replies::LightAnswer;
+use questions::replies::MarkAnswer;
+use questions::replies::UsageAnswer;
 use session::LONGEST_ANSWER;
 use table::LIMIT;
 
@@ -64,7 +64,7 @@ fn put_bytes(out: &mut [u8; ROOM], pen: Pen, bytes: &[u8], n: usize) -> Pen {
 pub fn snapshot(out: &mut [u8; ROOM], pen: Pen, layout: Layout) -> Pen {
     let p = put(out, pen, b' ');
     let mut bytes = [0u8; SNAPSHOT];
-    let CountAnswer::Count(count) = looks::written::snapshot(layout, &mut bytes) else {
+    let CountAnswer::Count(count) = questions::written::snapshot(layout, &mut bytes) else {
         return missing(out, p);
     };
     put_bytes(out, p, &bytes, count as usize)
@@ -78,8 +78,8 @@ fn put_mark(out: &mut [u8; ROOM], pen: Pen, mark: Mark) -> Pen {
 
 fn mark_at(layout: Layout, listing: Listing, position: u16) -> MarkAnswer {
     match listing {
-        Listing::Free => looks::positions::free_mark(layout, position),
-        Listing::Removable => looks::positions::removable_mark(layout, position),
+        Listing::Free => questions::positions::free_mark(layout, position),
+        Listing::Removable => questions::positions::removable_mark(layout, position),
     }
 }
 
@@ -109,16 +109,16 @@ fn bits(usage: f64) -> u64 {
 // Used area, free area, and the bits of the sheet's usage and the tree's.
 pub fn figures(out: &mut [u8; ROOM], pen: Pen, layout: Layout) -> Pen {
     let p = put(out, pen, b' ');
-    let AreaAnswer::Area(used) = looks::figures::used_area(layout) else {
+    let AreaAnswer::Area(used) = questions::figures::used_area(layout) else {
         return missing(out, p);
     };
-    let AreaAnswer::Area(free) = looks::figures::free_area(layout) else {
+    let AreaAnswer::Area(free) = questions::figures::free_area(layout) else {
         return missing(out, p);
     };
-    let UsageAnswer::Usage(sheet) = looks::figures::sheet_usage(layout) else {
+    let UsageAnswer::Usage(sheet) = questions::figures::sheet_usage(layout) else {
         return missing(out, p);
     };
-    let UsageAnswer::Usage(tree) = looks::figures::tree_usage(layout) else {
+    let UsageAnswer::Usage(tree) = questions::figures::tree_usage(layout) else {
         return missing(out, p);
     };
     let one = put_eight(out, p, used);
@@ -131,7 +131,7 @@ pub fn figures(out: &mut [u8; ROOM], pen: Pen, layout: Layout) -> Pen {
 pub fn part_numbers(out: &mut [u8; ROOM], pen: Pen, layout: Layout) -> Pen {
     let mut p = put(out, pen, b' ');
     let mut numbers = [0u16; LIMIT];
-    let CountAnswer::Count(count) = looks::written::part_numbers(layout, &mut numbers) else {
+    let CountAnswer::Count(count) = questions::written::part_numbers(layout, &mut numbers) else {
         return missing(out, p);
     };
     let n = count as usize;
@@ -147,7 +147,7 @@ pub fn part_numbers(out: &mut [u8; ROOM], pen: Pen, layout: Layout) -> Pen {
 }
 
 fn light_for(out: &mut [u8; ROOM], pen: Pen, layout: Layout, part: PartType) -> Pen {
-    match looks::room::room_light(layout, part) {
+    match questions::room::room_light(layout, part) {
         LightAnswer::Says(yes) => {
             let p = put_byte(out, pen, 0);
             put_byte(out, p, if yes { 1 } else { 0 })

@@ -13,15 +13,15 @@ use borrow.Author.Tests.{le-leb}
 use mir.Val.{Val}
 use denote.Laws.{Is}
 use denote.Struct.Declared.{row}
-use Rattle.answers.specs.declared.Refusal.the-variants.{NotSound, BufferTooShort}
+use Rattle.marks.specs.declared.Refusal.the-variants.{NotSound, BufferTooShort}
 use Rattle.layout.specs.declared.layout.Layout.{Layout}
 use Rattle.layout.specs.Check.{limit, tree, soundB}
 use Rattle.layout.specs.SoundLayout.{SoundLayout, Sized}
 use Rattle.layout.specs.Zero.{zeroLayout}
 use Rattle.layout.proofs.Exactly.{sound-says, zero-sized}
-use Rattle.looks.specs.declared.replies.CountAnswer.{CountAnswer}
-use Rattle.looks.specs.declared.replies.CountAnswer.the-variants.{Count, Refused}
-use Rattle.looks.specs.Written.{answerTo, leftInBuffer}
+use Rattle.questions.specs.declared.replies.CountAnswer.{CountAnswer}
+use Rattle.questions.specs.declared.replies.CountAnswer.the-variants.{Count, Refused}
+use Rattle.questions.specs.Written.{answerTo, leftInBuffer}
 use Rattle.saw.specs.Saw.{saw}
 use Rattle.saw.specs.Cuts.{cuts, boards}
 use Rattle.saw.specs.Read.{readCuts}

@@ -9,7 +9,7 @@ use mathlib.Core.Option.{some}
 use Prim.Native.Nat.{ℕ}
 use lib.ListN.{length}
 use Rattle.lists.proofs.Scan.{test, clash}
-use Rattle.answers.specs.declared.Refusal.the-variants.{NotSound}
+use Rattle.marks.specs.declared.Refusal.the-variants.{NotSound}
 use Rattle.frames.specs.declared.Ask.{Ask}
 use Rattle.frames.specs.declared.Request.{Request}
 use Rattle.frames.specs.declared.Request.the-variants.{OfLayout, Keep, Restore, Malformed}

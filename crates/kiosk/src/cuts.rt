@@ -4,7 +4,7 @@ ghost use Rattle.kiosk.specs.Cuts.{Handed};
 use crate::records::LayoutRecord;
 use crate::records::SessionRecord;
 use crate::records::layout_of;
-use looks::replies::CountAnswer;
+use questions::replies::CountAnswer;
 use saw::cuts::ROOM;
 use saw::cuts::cuts;
 

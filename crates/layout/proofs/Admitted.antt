@@ -19,9 +19,9 @@ use Rattle.piece.specs.Kinds.{isFree}
 use Rattle.tree.specs.Tree.{Tree, count}
 use Rattle.tree.specs.Sound.{Topped}
 use Rattle.sound.proofs.Says.{clash}
-use Rattle.answers.specs.declared.Mark.{Mark}
-use Rattle.answers.specs.declared.Refusal.{Refusal}
-use Rattle.answers.specs.declared.Refusal.the-variants.{NotOffered, TooManyNodes, SerialsSpent}
+use Rattle.marks.specs.declared.Mark.{Mark}
+use Rattle.marks.specs.declared.Refusal.{Refusal}
+use Rattle.marks.specs.declared.Refusal.the-variants.{NotOffered, TooManyNodes, SerialsSpent}
 use Rattle.piece.specs.Offered.{offeredB}
 use Rattle.layout.specs.declared.layout.Layout.{Layout}
 use Rattle.layout.specs.declared.insert.Inserted.{Inserted}

@@ -32,10 +32,10 @@ use Rattle.tree.proofs.Levels.{level-low}
 use Rattle.tree.proofs.Usage.{sheet-small}
 use Rattle.tree.proofs.Laws.AreaConserved.{area-conserved}
 use Rattle.lists.proofs.Scan.{and-left, and-right}
-use Rattle.register.specs.declared.LayoutNodes.{LayoutNodes}
-use Rattle.register.specs.Standing.{Stands}
+use Rattle.layout_nodes.specs.declared.LayoutNodes.{LayoutNodes}
+use Rattle.layout_nodes.specs.Standing.{Stands}
 use Rattle.booking.specs.declared.book.Booked.{Booked}
-use Rattle.booking.specs.declared.marks.NewMarks.{NewMarks}
+use Rattle.booking.specs.declared.new_marks.NewMarks.{NewMarks}
 use Rattle.booking.specs.declared.new_nodes.NewNode.{NewNode}
 use Rattle.booking.specs.NewNodes.{deepest, freesOf, heldNew, leaves, those}
 use Rattle.booking.specs.Marks.{blockMarks, newMarks}

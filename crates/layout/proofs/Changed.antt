@@ -10,11 +10,11 @@ use Rattle.tree.specs.Figures.{partArea}
 use Rattle.table.proofs.Steps.{sound-tree}
 use Rattle.lists.specs.Lists.{padded}
 use Rattle.lists.proofs.Padded.{length-padded, drop-padded}
-use Rattle.register.specs.declared.listing.Listing.{Listing}
-use Rattle.register.specs.declared.LayoutNodes.{LayoutNodes}
-use Rattle.register.specs.Listings.{Kept, entriesOf, listing}
-use Rattle.register.specs.Standing.{Stands}
-use Rattle.register.proofs.Listed.{length-entries, room-entries}
+use Rattle.layout_nodes.specs.declared.listing.Listing.{Listing}
+use Rattle.layout_nodes.specs.declared.LayoutNodes.{LayoutNodes}
+use Rattle.layout_nodes.specs.Listings.{Kept, entriesOf, listing}
+use Rattle.layout_nodes.specs.Standing.{Stands}
+use Rattle.layout_nodes.proofs.Listed.{length-entries, room-entries}
 use Rattle.layout.specs.declared.layout.Layout.{Layout}
 use Rattle.layout.specs.Check.{limit, tree}
 use Rattle.layout.specs.SoundLayout.{Counted, SoundLayout, Sized}

@@ -1,5 +1,5 @@
 -- The contract of each call determines its answer, and the lent buffer where there is one: two answers that meet it are the same. (Of the calls that
--- only read a layout crate `looks` says so.)
+-- only read a layout crate `questions` says so.)
 use mathlib.Core.Path.{_≡_, sym, _∙_}
 use mathlib.Core.Bool.{Bool}
 use mathlib.Core.List.{List}
@@ -10,8 +10,8 @@ use Rattle.piece.specs.declared.rotation.Rotation.{Rotation}
 use Rattle.piece.specs.declared.parttype.PartType.{PartType}
 use Rattle.piece.specs.declared.insertion_blueprint.InsertionShape.{InsertionShape}
 use Rattle.tree.specs.Booking.{Booking}
-use Rattle.answers.specs.declared.Mark.{Mark}
-use Rattle.answers.specs.declared.Refusal.{Refusal}
+use Rattle.marks.specs.declared.Mark.{Mark}
+use Rattle.marks.specs.declared.Refusal.{Refusal}
 use Rattle.layout.specs.declared.layout.Layout.{Layout}
 use Rattle.layout.specs.declared.open.Opened.{Opened}
 use Rattle.layout.specs.declared.replies.Sought.{Sought}

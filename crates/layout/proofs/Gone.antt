@@ -13,9 +13,9 @@ use Rattle.tree.specs.Tree.{At, Inside}
 use Rattle.tree.specs.Removal.{cleared}
 use Rattle.tree.proofs.Laws.UntouchedByRemoval.{untouched-by-removal}
 use Rattle.tree.proofs.Laws.SolidUntouched.{solid-untouched-by-removal}
-use Rattle.answers.specs.declared.Mark.{Mark}
-use Rattle.answers.specs.declared.Refusal.{Refusal}
-use Rattle.answers.specs.declared.Refusal.the-variants.{NotSound}
+use Rattle.marks.specs.declared.Mark.{Mark}
+use Rattle.marks.specs.declared.Refusal.{Refusal}
+use Rattle.marks.specs.declared.Refusal.the-variants.{NotSound}
 use Rattle.sound.proofs.Says.{clash}
 use Rattle.layout.specs.declared.layout.Layout.{Layout}
 use Rattle.layout.specs.declared.replies.Outcome.the-variants.{Done, Refused}

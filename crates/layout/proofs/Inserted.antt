@@ -12,8 +12,8 @@ use Rattle.tree.specs.Tree.{At}
 use Rattle.tree.specs.Booking.{Booking}
 use Rattle.tree.proofs.Laws.UntouchedByBooking.{untouched-by-booking}
 use Rattle.sound.proofs.Says.{clash}
-use Rattle.answers.specs.declared.Mark.{Mark}
-use Rattle.answers.specs.declared.Refusal.{Refusal}
+use Rattle.marks.specs.declared.Mark.{Mark}
+use Rattle.marks.specs.declared.Refusal.{Refusal}
 use Rattle.booking.specs.Marks.{blockMarks}
 use Rattle.booking.proofs.BlockMarks.{block-marks-few}
 use Rattle.layout.specs.declared.layout.Layout.{Layout}

@@ -1,5 +1,5 @@
 -- Document 01, "Marks": in a sound layout a mark names the piece of the tree that stands at its place with its serial, and `sought` finds exactly
--- that piece; what the head of a call on a free piece has passed. (Crate `looks` says that every piece has one mark, and which marks the two lists
+-- that piece; what the head of a call on a free piece has passed. (Crate `questions` says that every piece has one mark, and which marks the two lists
 -- give.)
 use mathlib.Core.Path.{_≡_, refl, sym, ap, _∙_}
 use mathlib.Core.Bool.{Bool, true, false, cond, not, _||_}
@@ -12,8 +12,8 @@ use Rattle.piece.specs.declared.parttype.PartType.{PartType}
 use Rattle.piece.specs.Kinds.{isFree}
 use Rattle.tree.specs.Tree.{At}
 use Rattle.table.specs.Table.{at}
-use Rattle.answers.specs.declared.Mark.{Mark}
-use Rattle.answers.specs.declared.Refusal.the-variants.{NotSound, PartOutside, OtherLayout, Gone, NotFree}
+use Rattle.marks.specs.declared.Mark.{Mark}
+use Rattle.marks.specs.declared.Refusal.the-variants.{NotSound, PartOutside, OtherLayout, Gone, NotFree}
 use Rattle.sound.proofs.Says.{clash}
 use Rattle.layout.specs.declared.layout.Layout.{Layout}
 use Rattle.layout.specs.declared.replies.Sought.{Sought}

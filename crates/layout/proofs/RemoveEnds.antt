@@ -10,9 +10,9 @@ use lib.ListN.{length}
 use borrow.Author.Tests.{eqb-false, le-leb, lt-leb, leb-true}
 use Rattle.piece.specs.declared.node.Datum.{Datum}
 use Rattle.piece.specs.Kinds.{isFree}
-use Rattle.answers.specs.declared.Mark.{Mark}
-use Rattle.answers.specs.declared.Refusal.{Refusal}
-use Rattle.answers.specs.declared.Refusal.the-variants.{NotSound, TheTop, FreePiece, SerialsSpent, BufferTooShort}
+use Rattle.marks.specs.declared.Mark.{Mark}
+use Rattle.marks.specs.declared.Refusal.{Refusal}
+use Rattle.marks.specs.declared.Refusal.the-variants.{NotSound, TheTop, FreePiece, SerialsSpent, BufferTooShort}
 use Rattle.sound.proofs.Says.{clash}
 use Rattle.layout.specs.declared.layout.Layout.{Layout}
 use Rattle.layout.specs.declared.replies.Sought.the-variants as sought

@@ -23,8 +23,8 @@ use Rattle.walks.specs.Along.{numbersAlong, parts, PartsEnd}
 use Rattle.lists.specs.Lists.{entries}
 use Rattle.walks.proofs.Meaning.{length-order}
 use Rattle.walks.proofs.Along.{each-subtree, sound-ends, length-numbers, parts-most}
-use Rattle.register.specs.Listings.{entriesOf}
-use Rattle.register.specs.Standing.{Stands}
+use Rattle.layout_nodes.specs.Listings.{entriesOf}
+use Rattle.layout_nodes.specs.Standing.{Stands}
 use Rattle.removal.specs.declared.going.Going.{Going}
 use Rattle.removal.specs.declared.remove.Cleared.{Cleared}
 use Rattle.removal.specs.Going.{goingOf, places, areaAlong}

@@ -5,8 +5,8 @@ use lib.Dec.{eqb, leb}
 use Rattle.piece.specs.declared.parttype.PartType.{PartType}
 use Rattle.piece.specs.Kinds.{isFree}
 use Rattle.table.specs.Table.{at}
-use Rattle.answers.specs.declared.Mark.{Mark}
-use Rattle.answers.specs.declared.Refusal.the-variants.{NotSound, PartOutside, OtherLayout, Gone, NotFree}
+use Rattle.marks.specs.declared.Mark.{Mark}
+use Rattle.marks.specs.declared.Refusal.the-variants.{NotSound, PartOutside, OtherLayout, Gone, NotFree}
 use Rattle.layout.specs.declared.layout.Layout.{Layout}
 use Rattle.layout.specs.declared.replies.Sought.{Sought}
 use Rattle.layout.specs.declared.replies.Sought.the-variants as sought

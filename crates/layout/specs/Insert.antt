@@ -19,9 +19,9 @@ use Rattle.tree.specs.Enrolment.{bookedList}
 use Rattle.table.specs.Table.{at}
 use Rattle.booking.specs.Marks.{blockMarks, zeroMarks}
 use Rattle.piece.specs.Offered.{offeredB}
-use Rattle.answers.specs.declared.Mark.{Mark}
-use Rattle.answers.specs.declared.Refusal.{Refusal}
-use Rattle.answers.specs.declared.Refusal.the-variants.{NotOffered, TooManyNodes, SerialsSpent}
+use Rattle.marks.specs.declared.Mark.{Mark}
+use Rattle.marks.specs.declared.Refusal.{Refusal}
+use Rattle.marks.specs.declared.Refusal.the-variants.{NotOffered, TooManyNodes, SerialsSpent}
 use Rattle.layout.specs.declared.layout.Layout.{Layout}
 use Rattle.layout.specs.declared.replies.Outcome.the-variants.{Done, Refused}
 use Rattle.layout.specs.declared.replies.Sought.{Sought}

@@ -8,7 +8,7 @@ use Rattle.table.specs.declared.Node.{Node}
 use Rattle.table.specs.Table.{append}
 use Rattle.table.specs.Steps.{topOnly}
 use Rattle.lists.specs.Lists.{padded}
-use Rattle.answers.specs.declared.Refusal.the-variants.{OpeningOutside}
+use Rattle.marks.specs.declared.Refusal.the-variants.{OpeningOutside}
 use Rattle.layout.specs.declared.layout.Layout.{Layout}
 use Rattle.layout.specs.declared.open.OpenOutcome.the-variants.{Free, Refused}
 use Rattle.layout.specs.declared.open.Opened.{Opened}

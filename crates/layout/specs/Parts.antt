@@ -1,6 +1,6 @@
 -- The nodes and the lists of a layout, as the steps of a booking and a removal take them; and a layout with others.
 use Prim.Native.Nat.{ℕ}
-use Rattle.register.specs.declared.LayoutNodes.{LayoutNodes}
+use Rattle.layout_nodes.specs.declared.LayoutNodes.{LayoutNodes}
 use Rattle.layout.specs.declared.layout.Layout.{Layout}
 
 abbrev pub nodesOf : Layout → LayoutNodes

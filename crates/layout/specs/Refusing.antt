@@ -1,6 +1,6 @@
 -- What a call is refused with, or nothing: `none` says that it is accepted.
 use mathlib.Core.Option.{Option, none, some}
-use Rattle.answers.specs.declared.Refusal.{Refusal}
+use Rattle.marks.specs.declared.Refusal.{Refusal}
 use Rattle.layout.specs.declared.replies.Outcome.{Outcome}
 use Rattle.layout.specs.declared.replies.Outcome.the-variants.{Done, Refused}
 

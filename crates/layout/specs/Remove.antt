@@ -15,9 +15,9 @@ use Rattle.tree.specs.Pieces.{maxSerial}
 use Rattle.tree.specs.Family.{newPlace}
 use Rattle.tree.specs.Enrolment.{removedList}
 use Rattle.booking.specs.Marks.{zeroMark}
-use Rattle.answers.specs.declared.Mark.{Mark}
-use Rattle.answers.specs.declared.Refusal.{Refusal}
-use Rattle.answers.specs.declared.Refusal.the-variants.{NotSound, TheTop, FreePiece, SerialsSpent, BufferTooShort}
+use Rattle.marks.specs.declared.Mark.{Mark}
+use Rattle.marks.specs.declared.Refusal.{Refusal}
+use Rattle.marks.specs.declared.Refusal.the-variants.{NotSound, TheTop, FreePiece, SerialsSpent, BufferTooShort}
 use Rattle.layout.specs.declared.layout.Layout.{Layout}
 use Rattle.layout.specs.declared.replies.Outcome.the-variants.{Done, Refused}
 use Rattle.layout.specs.declared.replies.Sought.{Sought}

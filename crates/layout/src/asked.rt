@@ -1,11 +1,11 @@
 // What a call is asked about: the part, the piece that a mark names, and the head that the calls on a free piece share: `insert`, the offers (crate
-// `looks`) and why not (crate `reasons`). `sought` is asked behind the check, inside this crate.
+// `questions`) and why not (crate `questions`). `sought` is asked behind the check, inside this crate.
 ghost use mathlib.Core.Path.{_≡_};
 ghost use Rattle.layout.specs.Asked.{freePieceOf, partB, soughtOf};
 use crate::layout::Layout;
 use crate::replies::Sought;
-use answers::Mark;
-use answers::Refusal;
+use marks::Mark;
+use marks::Refusal;
 use piece::parttype::PartType;
 use sound::frame::side_ok;
 use table::NONE;

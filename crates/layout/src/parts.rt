@@ -4,8 +4,8 @@ ghost use Prim.Native.Nat.{_≤_};
 ghost use Rattle.lists.specs.Lists.{limit};
 ghost use Rattle.layout.specs.Parts.{nodesOf, withNodes};
 use crate::layout::Layout;
-use register::LayoutNodes;
-use register::listing::Listing;
+use layout_nodes::LayoutNodes;
+use layout_nodes::listing::Listing;
 
 impl Layout {
     pub(crate) fn layout_nodes(self) -> LayoutNodes

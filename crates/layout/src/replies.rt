@@ -1,5 +1,5 @@
 // What the calls share in their answers: what a mark names, and whether a call that changes a layout was done.
-use answers::Refusal;
+use marks::Refusal;
 use piece::node::Datum;
 
 // What a mark names.

@@ -3,7 +3,7 @@ ghost use mathlib.Core.Path.{_≡_};
 ghost use Rattle.layout.specs.Restore.{refusedRestore, restoreOf};
 use crate::layout::Layout;
 use crate::replies::Outcome;
-use answers::Refusal;
+use marks::Refusal;
 
 // With the layout as it came where it is refused.
 pub struct Restored {

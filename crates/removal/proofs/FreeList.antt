@@ -21,7 +21,7 @@ use Rattle.table.specs.declared.Node.{Node}
 use Rattle.table.specs.Table.{Holds}
 use Rattle.table.specs.Steps.{going}
 use Rattle.table.proofs.Steps.{clear-sound}
-use Rattle.register.proofs.FreeSteps.{free-cut-all, free-put}
+use Rattle.layout_nodes.proofs.FreeSteps.{free-cut-all, free-put}
 use Rattle.removal.specs.Remove.{newFree}
 use Rattle.removal.proofs.Pieces.{cleared-was, cleared-stays, new-there, remove-pieces}
 use Rattle.removal.proofs.Serials.{new-serial, new-free}

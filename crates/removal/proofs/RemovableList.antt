@@ -1,5 +1,5 @@
 -- The removable list after a removal: the places that go are struck out, and the parent, if it has lost its last child, is taken out and comes
--- back with the new free piece. It rests on the pieces that a removal leaves (Pieces) and on what `register` says of the
+-- back with the new free piece. It rests on the pieces that a removal leaves (Pieces) and on what `layout_nodes` says of the
 -- steps of a list (HoldingSteps) and of the parent of a piece (Family).
 use mathlib.Core.Path.{_≡_, refl, sym, ap, _∙_}
 use mathlib.Core.List.{List, [], _∷_, _++_, append-nil}
@@ -32,7 +32,7 @@ use Rattle.table.specs.Steps.{freeLast, freeLastPlace, going, unlinkAll}
 use Rattle.table.proofs.Links.{datum-is}
 use Rattle.table.proofs.Steps.{clear-sound}
 use Rattle.table.proofs.Family.{parent-is, no-child}
-use Rattle.register.proofs.HoldingSteps.{holding-same, holding-strike, holding-strike-all, holding-push}
+use Rattle.layout_nodes.proofs.HoldingSteps.{holding-same, holding-strike, holding-strike-all, holding-push}
 use Rattle.removal.specs.Remove.{newFree, returned}
 use Rattle.removal.proofs.Pieces.{cleared-was, cleared-stays, remove-pieces}
 use Rattle.removal.proofs.Serials.{new-free}

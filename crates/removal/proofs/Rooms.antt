@@ -1,5 +1,5 @@
 -- Room for a removal: the lists do not fill up, and the new free piece is no bigger than a sheet can be. It rests on what is left of the lists
--- (FreeList, RemovableList), on what `register` says of the place of the new piece (Family), and on what `tree` says of the sides of a sound
+-- (FreeList, RemovableList), on what `layout_nodes` says of the place of the new piece (Family), and on what `tree` says of the sides of a sound
 -- tree (Read).
 use mathlib.Core.List.{List}
 use mathlib.Core.Logic.{inl, inr}
@@ -27,7 +27,7 @@ use Rattle.table.specs.Steps.{going, unlinkAll}
 use Rattle.table.specs.Unheld.{lowestFrom}
 use Rattle.table.proofs.Steps.{clear-sound}
 use Rattle.table.proofs.Unheld.{lowest-room}
-use Rattle.register.proofs.HoldingSteps.{holding-most}
+use Rattle.layout_nodes.proofs.HoldingSteps.{holding-most}
 use Rattle.removal.specs.Remove.{newFree}
 use Rattle.removal.proofs.Pieces.{new-there}
 use Rattle.removal.proofs.FreeList.{cleared-free}

@@ -30,11 +30,11 @@ use Rattle.table.specs.Unheld.{lowestFrom}
 use Rattle.table.proofs.Links.{datum-is}
 use Rattle.table.proofs.Steps.{clear-sound, remove-sound}
 use Rattle.table.proofs.Family.{lowest-is}
-use Rattle.register.specs.declared.LayoutNodes.{LayoutNodes}
-use Rattle.register.specs.Listings.{areaIn, entriesOf}
-use Rattle.register.specs.Standing.{Stands}
-use Rattle.register.proofs.Listed.{entries-listing, kept-listing}
-use Rattle.register.proofs.HoldingSteps.{holding-most, holding-single}
+use Rattle.layout_nodes.specs.declared.LayoutNodes.{LayoutNodes}
+use Rattle.layout_nodes.specs.Listings.{areaIn, entriesOf}
+use Rattle.layout_nodes.specs.Standing.{Stands}
+use Rattle.layout_nodes.proofs.Listed.{entries-listing, kept-listing}
+use Rattle.layout_nodes.proofs.HoldingSteps.{holding-most, holding-single}
 use Rattle.removal.specs.Remove.{newFree, returned, removedFrom, removedNodes}
 use Rattle.removal.specs.Inner.{Clearable}
 use Rattle.removal.proofs.Pieces.{goes, parent-low, last-low}

@@ -1,4 +1,4 @@
--- The removable list when a parent has lost its last child: it is struck out, and comes back at the end. It rests on what `register` says of its
+-- The removable list when a parent has lost its last child: it is struck out, and comes back at the end. It rests on what `layout_nodes` says of its
 -- lists. Assumes nothing.
 use mathlib.Core.Path.{_≡_, refl, ap, _∙_}
 use mathlib.Core.List.{List}
@@ -9,9 +9,9 @@ use borrow.Author.Tests.{le-leb, lt-leb}
 use Rattle.tree.specs.ListSteps.{push, strike}
 use Rattle.table.specs.declared.Node.{Node}
 use Rattle.lists.specs.Lists.{limit}
-use Rattle.register.specs.declared.listing.Listing.{Listing}
-use Rattle.register.specs.Listings.{Kept, entriesOf, listing}
-use Rattle.register.proofs.Listed.{entries-are, kept-as, strike-length-most}
+use Rattle.layout_nodes.specs.declared.listing.Listing.{Listing}
+use Rattle.layout_nodes.specs.Listings.{Kept, entriesOf, listing}
+use Rattle.layout_nodes.proofs.Listed.{entries-are, kept-as, strike-length-most}
 use Rattle.removal.specs.Remove.{returned}
 
 module _ (parent : Node) (q : ℕ) (ys : List ℕ) where

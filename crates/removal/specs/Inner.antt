@@ -8,9 +8,9 @@ use Rattle.table.specs.declared.Node.{Node}
 use Rattle.table.specs.Table.{at, unlink}
 use Rattle.table.specs.Steps.{unlinkAll}
 use Rattle.table.specs.Unheld.{lowestFrom}
-use Rattle.register.specs.declared.LayoutNodes.{LayoutNodes}
-use Rattle.register.specs.Listings.{Kept, entriesOf}
-use Rattle.register.specs.Inner.{Single}
+use Rattle.layout_nodes.specs.declared.LayoutNodes.{LayoutNodes}
+use Rattle.layout_nodes.specs.Listings.{Kept, entriesOf}
+use Rattle.layout_nodes.specs.Inner.{Single}
 use Rattle.removal.specs.Remove.{newFree}
 
 -- `unlink_all`: each can be unlinked when its turn comes: it is a place, and so is its parent's then

@@ -14,8 +14,8 @@ use Rattle.table.specs.Table.{at, append}
 use Rattle.table.specs.Steps.{freeLastDatum, unlinkAll}
 use Rattle.table.specs.Unheld.{lowestFrom}
 use Rattle.lists.specs.Lists.{limit}
-use Rattle.register.specs.declared.LayoutNodes.{LayoutNodes}
-use Rattle.register.specs.Listings.{areaIn, entriesOf, listing}
+use Rattle.layout_nodes.specs.declared.LayoutNodes.{LayoutNodes}
+use Rattle.layout_nodes.specs.Listings.{areaIn, entriesOf, listing}
 use Rattle.removal.specs.declared.remove.Cleared.{Cleared}
 
 -- the last piece of a row, if that is free

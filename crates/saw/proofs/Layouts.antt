@@ -11,13 +11,13 @@ use lib.Dec.{leb}
 use lib.ListN.{length, take}
 use lib.Seq.{sets}
 use borrow.Author.Tests.{leb-true}
-use Rattle.answers.specs.declared.Refusal.the-variants.{NotSound, BufferTooShort}
+use Rattle.marks.specs.declared.Refusal.the-variants.{NotSound, BufferTooShort}
 use Rattle.layout.specs.declared.layout.Layout.{Layout}
 use Rattle.layout.specs.Check.{tree, soundB}
 use Rattle.layout.specs.SoundLayout.{SoundLayout, Sized}
 use Rattle.layout.proofs.Exactly.{sound-says}
-use Rattle.looks.specs.declared.replies.CountAnswer.the-variants.{Count, Refused}
-use Rattle.looks.proofs.Lent.{Ends}
+use Rattle.questions.specs.declared.replies.CountAnswer.the-variants.{Count, Refused}
+use Rattle.questions.proofs.Lent.{Ends}
 use Rattle.saw.specs.Saw.{saw}
 use Rattle.saw.specs.Cuts.{cuts, boards}
 use Rattle.saw.specs.Read.{readCuts}

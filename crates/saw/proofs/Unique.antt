@@ -5,8 +5,8 @@ use lib.ListN.{length}
 use Prim.Native.Nat.{ℕ}
 use Rattle.layout.specs.declared.layout.Layout.{Layout}
 use Rattle.layout.proofs.Determined.{only}
-use Rattle.looks.specs.declared.replies.CountAnswer.{CountAnswer}
-use Rattle.looks.specs.Written.{answerTo, leftInBuffer}
+use Rattle.questions.specs.declared.replies.CountAnswer.{CountAnswer}
+use Rattle.questions.specs.Written.{answerTo, leftInBuffer}
 use Rattle.saw.specs.Written.{sawBytes}
 
 module _ (l : Layout) (out : List ℕ) where

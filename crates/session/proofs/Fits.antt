@@ -27,8 +27,8 @@ use Rattle.tree.specs.Booking.{block}
 use Rattle.tree.specs.Figures.{sheetUsage}
 use Rattle.tree.specs.Removal.{subtree, numbers}
 use Rattle.tree.proofs.BookPieces.{book-new}
-use Rattle.answers.specs.declared.Mark.{Mark}
-use Rattle.answers.specs.declared.Refusal.the-variants.{OpeningOutside}
+use Rattle.marks.specs.declared.Mark.{Mark}
+use Rattle.marks.specs.declared.Refusal.the-variants.{OpeningOutside}
 use Rattle.booking.specs.Marks.{zeroMark, headMark, marksIn, blockMarks}
 use Rattle.removal.specs.Remove.{newFree}
 use Rattle.removal.proofs.Pieces.{new-there}
@@ -51,7 +51,7 @@ use Rattle.layout.proofs.Gone.{may-take, remove-accepted, remove-says}
 use Rattle.layout.proofs.Areas.{used-small}
 use Rattle.layout.proofs.Exactly.{sound-says}
 use Rattle.layout.proofs.Listed.{piece-low}
-use Rattle.looks.specs.Answers.{offersCall}
+use Rattle.questions.specs.Answers.{offersCall}
 use Rattle.frames.specs.declared.Ask.the-variants.{Open, Offers, Insert, Remove, Report}
 use Rattle.frames.specs.declared.Request.{Request}
 use Rattle.frames.specs.declared.Request.the-variants.{OfLayout, Keep, Restore, Malformed}

@@ -11,8 +11,8 @@ use Rattle.piece.specs.declared.parttype.PartType.{PartType}
 use Rattle.piece.specs.declared.insertion_blueprint.InsertionShape.{InsertionShape}
 use Rattle.piece.specs.declared.settings.Opening.{Opening}
 use Rattle.tree.specs.Tree.{Tree}
-use Rattle.answers.specs.declared.Mark.{Mark}
-use Rattle.answers.specs.declared.Refusal.the-variants.{NotSound, OpeningOutside, OtherLayout}
+use Rattle.marks.specs.declared.Mark.{Mark}
+use Rattle.marks.specs.declared.Refusal.the-variants.{NotSound, OpeningOutside, OtherLayout}
 use Rattle.lines.specs.Text.{Line, whole, long, cut}
 use Rattle.layout.specs.declared.layout.Layout.{Layout}
 use Rattle.layout.specs.declared.open.OpenOutcome.the-variants as openings

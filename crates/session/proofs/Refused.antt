@@ -5,8 +5,8 @@ use mathlib.Core.Bool.{Bool, true, false}
 use mathlib.Core.Option.{some}
 use Prim.Native.Nat.{ℕ}
 use native.Mathlib.Omega.{arith}
-use Rattle.answers.specs.declared.Refusal.{Refusal}
-use Rattle.answers.specs.declared.Refusal.the-variants.{NotSound}
+use Rattle.marks.specs.declared.Refusal.{Refusal}
+use Rattle.marks.specs.declared.Refusal.the-variants.{NotSound}
 use Rattle.layout.specs.declared.layout.Layout.{Layout}
 use Rattle.layout.specs.declared.open.OpenOutcome.{OpenOutcome}
 use Rattle.layout.specs.declared.open.OpenOutcome.the-variants as openings
@@ -20,7 +20,7 @@ use Rattle.layout.specs.Restore.{restoreOf}
 use Rattle.layout.proofs.Inserted.{refused-as-it-came}
 use Rattle.layout.proofs.Gone.{remove-refused}
 use Rattle.layout.proofs.Refusals.{refused-restore, insert-unsound, remove-unsound, restore-unsound, snapshot-unsound}
-use Rattle.looks.specs.Answers.{offersCall}
+use Rattle.questions.specs.Answers.{offersCall}
 use Rattle.frames.specs.declared.Ask.the-variants.{Open, Offers, Insert, Remove, Report}
 use Rattle.frames.specs.declared.Request.{Request}
 use Rattle.frames.specs.declared.Request.the-variants.{OfLayout, Keep, Restore, Malformed}

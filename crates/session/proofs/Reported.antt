@@ -9,16 +9,16 @@ use lib.Ieee.{Float, binary64, toBits, isNan}
 use Rattle.piece.specs.Sides.{area}
 use Rattle.tree.specs.Figures.{partArea, sheetUsage}
 use Rattle.tree.proofs.Usage.{sheet-positive}
-use Rattle.answers.specs.declared.Refusal.{Refusal}
-use Rattle.answers.specs.declared.Refusal.the-variants.{NotSound}
+use Rattle.marks.specs.declared.Refusal.{Refusal}
+use Rattle.marks.specs.declared.Refusal.the-variants.{NotSound}
 use Rattle.layout.specs.declared.layout.Layout.{Layout}
 use Rattle.layout.specs.Check.{tree, soundB}
 use Rattle.layout.specs.SoundLayout.{Sized}
 use Rattle.layout.proofs.Exactly.{sound-says}
 use Rattle.layout.proofs.Areas.{used-small}
-use Rattle.looks.specs.declared.replies.UsageAnswer.{UsageAnswer}
-use Rattle.looks.specs.declared.replies.UsageAnswer.the-variants.{Usage, Refused}
-use Rattle.looks.specs.Answers.{sheetUsageOf}
+use Rattle.questions.specs.declared.replies.UsageAnswer.{UsageAnswer}
+use Rattle.questions.specs.declared.replies.UsageAnswer.the-variants.{Usage, Refused}
+use Rattle.questions.specs.Answers.{sheetUsageOf}
 use Rattle.frames.specs.Answers.{refused, reported}
 use Rattle.frames.specs.declared.Ask.the-variants.{Report}
 use Rattle.session.specs.declared.replies.Said.{Said}

@@ -11,8 +11,8 @@ use Rattle.piece.specs.declared.parttype.PartType.{PartType}
 use Rattle.piece.specs.declared.insertion_blueprint.InsertionShape.{InsertionShape}
 use Rattle.piece.specs.Offers.{offersOf}
 use Rattle.piece.proofs.Offered.{held-count, offers-few}
-use Rattle.answers.specs.declared.Mark.{Mark}
-use Rattle.answers.specs.declared.Refusal.the-variants.{NotSound}
+use Rattle.marks.specs.declared.Mark.{Mark}
+use Rattle.marks.specs.declared.Refusal.the-variants.{NotSound}
 use Rattle.layout.specs.declared.layout.Layout.{Layout}
 use Rattle.layout.specs.declared.open.OpenOutcome.{OpenOutcome}
 use Rattle.layout.specs.declared.open.Opened.{Opened}
@@ -29,8 +29,8 @@ use Rattle.layout.specs.Insert.{InsertSays}
 use Rattle.layout.specs.Remove.{RemoveSays, numbersOut, numbersLeft}
 use Rattle.layout.specs.Restore.{restoreOf}
 use Rattle.layout.proofs.Answered.{TakenOut}
-use Rattle.looks.specs.declared.replies.OffersAnswer.{OffersAnswer}
-use Rattle.looks.specs.Answers.{offeredFor, offersCall}
+use Rattle.questions.specs.declared.replies.OffersAnswer.{OffersAnswer}
+use Rattle.questions.specs.Answers.{offeredFor, offersCall}
 use Rattle.frames.specs.declared.Ask.{Ask}
 use Rattle.frames.specs.declared.Ask.the-variants.{Open, Offers, Insert, Remove, Report}
 use Rattle.frames.specs.declared.Request.{Request}

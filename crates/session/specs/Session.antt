@@ -12,9 +12,9 @@ use Rattle.piece.specs.declared.insertion_option.OfferList.{OfferList}
 use Rattle.piece.specs.Sides.{area}
 use Rattle.tree.specs.Tree.{count}
 use Rattle.tree.specs.Figures.{partArea, sheetUsage}
-use Rattle.answers.specs.declared.Mark.{Mark}
-use Rattle.answers.specs.declared.Refusal.the-variants.{NotSound}
-use Rattle.booking.specs.declared.marks.NewMarks.{NewMarks}
+use Rattle.marks.specs.declared.Mark.{Mark}
+use Rattle.marks.specs.declared.Refusal.the-variants.{NotSound}
+use Rattle.booking.specs.declared.new_marks.NewMarks.{NewMarks}
 use Rattle.layout.specs.declared.layout.Layout.{Layout}
 use Rattle.layout.specs.declared.open.OpenOutcome.{OpenOutcome}
 use Rattle.layout.specs.declared.open.OpenOutcome.the-variants as openings
@@ -30,8 +30,8 @@ use Rattle.layout.specs.Open.{openOf}
 use Rattle.layout.specs.Insert.{InsertSays}
 use Rattle.layout.specs.Remove.{RemoveSays, numbersOut}
 use Rattle.layout.specs.Restore.{restoreOf}
-use Rattle.looks.specs.declared.replies.OffersAnswer.{OffersAnswer}
-use Rattle.looks.specs.Answers.{offersCall}
+use Rattle.questions.specs.declared.replies.OffersAnswer.{OffersAnswer}
+use Rattle.questions.specs.Answers.{offersCall}
 use Rattle.frames.specs.declared.Ask.the-variants.{Open, Offers, Insert, Remove, Report}
 use Rattle.frames.specs.declared.Request.{Request}
 use Rattle.frames.specs.declared.Request.the-variants.{OfLayout, Keep, Restore, Malformed}

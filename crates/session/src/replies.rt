@@ -1,21 +1,21 @@
 // The counter's answers over layouts: what each op does to the layout, and what it says (document 01, "Counter frames"). Only keep and restore have to
-// do with the kept layout, so that all others leave it out. Rests on `layout` and `looks` for what a request does, and on say.rt for the lines.
+// do with the kept layout, so that all others leave it out. Rests on `layout` and `questions` for what a request does, and on say.rt for the lines.
 ghost use mathlib.Core.Path.{_≡_};
 ghost use Rattle.frames.specs.declared.Ask.the-variants as asks;
 ghost use Rattle.session.specs.Replies.{Replies, Keeps, Restores};
 use crate::LONGEST_ANSWER;
 use crate::say;
-use answers::Mark;
-use answers::Refusal;
 use frames::Ask;
 use layout::layout::Layout;
 use layout::open::OpenOutcome;
 use layout::replies::Outcome;
-use looks::replies::UsageAnswer;
+use marks::Mark;
+use marks::Refusal;
 use piece::insertion_blueprint::InsertionShape;
 use piece::parttype::PartType;
 use piece::rotation::Rotation;
 use piece::settings::Opening;
+use questions::replies::UsageAnswer;
 use table::LIMIT;
 
 // An answer's line: the first count characters of it, its newline among them; the rest is zero.
@@ -69,7 +69,7 @@ fn open(layout: Layout, opening: Opening) -> Response
 fn offers(layout: Layout, mark: Mark, part: PartType) -> Response
     ensures { λ r. ⌜ Replies layout (asks.Offers mark part) r ⌝ }
 {
-    let answer = looks::room::offers(layout, mark, part);
+    let answer = questions::room::offers(layout, mark, part);
     let offers = answer.offers;
     let outcome = answer.outcome;
     match outcome {
@@ -197,7 +197,7 @@ pub fn restore(layout: Layout, kept: Layout) -> Response
 fn report(layout: Layout) -> Response
     ensures { λ r. ⌜ Replies layout asks.Report r ⌝ }
 {
-    match looks::figures::sheet_usage(layout) {
+    match questions::figures::sheet_usage(layout) {
         UsageAnswer::Usage(usage) => {
             let said = say::reported(layout.used, layout.held, f64::to_bits(usage));
             Response {

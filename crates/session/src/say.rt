@@ -6,9 +6,9 @@ ghost use Rattle.frames.specs.Answers.{Answer};
 ghost use Rattle.session.specs.Session.{Says, marksSaid, offersSaid};
 use crate::LONGEST_ANSWER;
 use crate::replies::Said;
-use answers::Mark;
-use answers::Refusal;
-use booking::marks::NewMarks;
+use booking::new_marks::NewMarks;
+use marks::Mark;
+use marks::Refusal;
 use piece::insertion_option::OfferList;
 
 pub fn refused(op: u8, refusal: Refusal) -> Said

@@ -8,8 +8,8 @@ use lib.ListN.{length, drop, take, getD}
 use borrow.Author.Needs.{needs}
 use Rattle.piece.specs.Kinds.{isPart}
 use Rattle.tree.specs.Enrolment.{when}
-use Rattle.register.specs.declared.listing.Listing.{Listing}
-use Rattle.register.specs.Listings.{entriesOf}
+use Rattle.layout_nodes.specs.declared.listing.Listing.{Listing}
+use Rattle.layout_nodes.specs.Listings.{entriesOf}
 use Rattle.booking.specs.declared.new_nodes.NewNode.{NewNode}
 use Rattle.booking.specs.declared.new_nodes.NewNodes.{NewNodes}
 use Rattle.booking.specs.NewNodes.{enrolments, noNew, those}

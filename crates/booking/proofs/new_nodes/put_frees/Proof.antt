@@ -10,8 +10,8 @@ use borrow.Author.Needs.{needs}
 use Rattle.piece.specs.Kinds.{isFree}
 use Rattle.tree.specs.ListSteps.{putAll}
 use Rattle.tree.specs.Enrolment.{when}
-use Rattle.register.specs.declared.listing.Listing.{Listing}
-use Rattle.register.specs.Listings.{areaAt, entriesOf}
+use Rattle.layout_nodes.specs.declared.listing.Listing.{Listing}
+use Rattle.layout_nodes.specs.Listings.{areaAt, entriesOf}
 use Rattle.booking.specs.declared.new_nodes.NewNode.{NewNode}
 use Rattle.booking.specs.declared.new_nodes.NewNodes.{NewNodes}
 use Rattle.booking.specs.NewNodes.{freesOf, noNew, those}

@@ -1,10 +1,10 @@
 -- `free_list` meets its contract. Assumes nothing.
 use mathlib.Core.Path.{refl, ap, _∙_}
 use native.Mathlib.Omega.{arith}
-use Rattle.register.specs.declared.listing.Listing.{Listing}
-use Rattle.register.specs.Listings.{entriesOf}
-use Rattle.register.proofs.Areas.{areas-are}
-use Rattle.register.proofs.Listed.{entries-are, kept-as}
+use Rattle.layout_nodes.specs.declared.listing.Listing.{Listing}
+use Rattle.layout_nodes.specs.Listings.{entriesOf}
+use Rattle.layout_nodes.proofs.Areas.{areas-are}
+use Rattle.layout_nodes.proofs.Listed.{entries-are, kept-as}
 use Rattle.removal.specs.Going.{places}
 use borrow.Author.Needs.{needs}
 use Rattle.tree.specs.ListSteps.{omitAll}

@@ -5,8 +5,8 @@ use Prim.Native.Nat.{ℕ, _<_}
 use lib.ListN.{length}
 use native.Mathlib.Omega.{arith}
 use Rattle.lists.specs.Lists.{limit}
-use Rattle.register.specs.Listings.{entriesOf}
-use Rattle.register.proofs.Listed.{kept-as}
+use Rattle.layout_nodes.specs.Listings.{entriesOf}
+use Rattle.layout_nodes.proofs.Listed.{kept-as}
 use Rattle.removal.specs.Going.{places}
 use Rattle.removal.proofs.Struck.{stays, struck-kept, struck-room, comes-back}
 use borrow.Author.Needs.{needs}

@@ -12,7 +12,7 @@ use Rattle.layout.specs.Check.{soundB}
 use Rattle.layout.specs.SoundLayout.{SoundLayout}
 use Rattle.layout.proofs.Exactly.{sound-says}
 use Rattle.layout.proofs.Typed.{typed-sized}
-use Rattle.looks.proofs.Lent.{not-sound, too-short, done}
+use Rattle.questions.proofs.Lent.{not-sound, too-short, done}
 use Rattle.walks.specs.declared.columns.Columns.{Columns}
 use Rattle.saw.specs.Cuts.{bytesOfCuts}
 use Rattle.saw.specs.Written.{sawBytes}

@@ -5,7 +5,7 @@ use borrow.Author.Needs.{needs}
 use Rattle.piece.specs.declared.rotation.Rotation.{Rotation}
 use Rattle.piece.specs.declared.parttype.PartType.{PartType}
 use Rattle.piece.specs.declared.insertion_blueprint.InsertionShape.{InsertionShape}
-use Rattle.answers.specs.declared.Refusal.{Refusal}
+use Rattle.marks.specs.declared.Refusal.{Refusal}
 use Rattle.layout.specs.declared.layout.Layout.{Layout}
 use Rattle.layout.specs.declared.replies.Sought.{Sought}
 use Rattle.layout.specs.Insert.{insertNo, pieceNo}

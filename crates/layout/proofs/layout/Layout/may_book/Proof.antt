@@ -5,7 +5,7 @@ use native.Mathlib.Omega.{arith}
 use borrow.Author.Needs.{needs}
 use borrow.Author.Tests.{le-leb, lt-leb}
 use Rattle.piece.proofs.Blocks.{new-nodes-few}
-use Rattle.answers.specs.declared.Refusal.the-variants.{NotOffered, TooManyNodes, SerialsSpent}
+use Rattle.marks.specs.declared.Refusal.the-variants.{NotOffered, TooManyNodes, SerialsSpent}
 use Rattle.layout.specs.Refusing.{outcomeOf}
 use Rattle.layout.specs.Insert.{bookNo}
 use Rattle.layout.proofs.Ways.{onward, ended, onward-by, ended-by}

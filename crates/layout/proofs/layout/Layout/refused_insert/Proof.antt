@@ -1,7 +1,7 @@
 -- `refused_insert` meets its contract: the marks are `zeroMarks`.
 use mathlib.Core.Path.{ap}
 use borrow.Author.Needs.{needs}
-use Rattle.booking.specs.declared.marks.NewMarks.{NewMarks}
+use Rattle.booking.specs.declared.new_marks.NewMarks.{NewMarks}
 use Rattle.layout.specs.declared.replies.Outcome.the-variants.{Refused}
 use Rattle.layout.proofs.layout.Layout.refused_insert.Statement.{statement}
 use Rattle.layout.proofs.layout.Layout.refused_insert.Tie as tie

@@ -3,7 +3,7 @@ use mathlib.Core.Path.{_≡_, refl, ap, _∙_}
 use Prim.Native.Nat.{ℕ, _+_, _-_}
 use native.Mathlib.Omega.{arith}
 use borrow.Author.Needs.{needs}
-use Rattle.register.specs.declared.LayoutNodes.{LayoutNodes}
+use Rattle.layout_nodes.specs.declared.LayoutNodes.{LayoutNodes}
 use Rattle.removal.specs.Going.{places}
 use Rattle.removal.specs.Remove.{removedNodes}
 use Rattle.layout.specs.Parts.{nodesOf}

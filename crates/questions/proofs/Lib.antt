@@ -1,0 +1,12 @@
+pub mod SizedBy
+pub mod Entries
+pub mod ListMarks
+pub mod Figured
+pub mod FiguresSay
+pub mod Lent
+pub mod Snapshots
+pub mod Determined
+pub mod Refusals
+pub mod Exactly
+pub mod WhyNotDetermined
+pub mod WhyNotWorked
