@@ -138,20 +138,22 @@ fn full(deep: bool) -> Layout {
 fn chain() -> Layout {
     let mut l = full(true);
     l.used = 35;
-    l.settings = Settings {
+    let settings = Settings {
         stages: 254,
         sheet: sheet(),
     };
+    l.settings = settings;
     l
 }
 
 fn row() -> Layout {
     let mut l = full(false);
     l.used = 1270;
-    l.settings = Settings {
+    let settings = Settings {
         stages: 1,
         sheet: strip(),
     };
+    l.settings = settings;
     l
 }
 
