@@ -17,7 +17,7 @@ use Rattle.tree.specs.Sound.{maxNumber, Sided}
 use Rattle.tree.proofs.Pieces.{sided}
 use Rattle.table.specs.declared.Node.{Node}
 use Rattle.table.specs.Table.{at, mk, zeroDatum, zeroNode}
-use Rattle.sound.specs.Places.{zeroDatumB, zeroLinksB, zeroB, sidedB, leafB, kindB, placeB, placesB, topB}
+use Rattle.sound.specs.Places.{zeroDatumB, zeroLinksB, zeroB, sidedB, leafB, kindB, placeB, placesB, topDatumB, topLinksB, topB}
 use Rattle.sound.proofs.Says.{Says, clash, worded, eq-says, lt-says, le-says, some-says, true-says, false-says, and-says, if-says, every-says}
 
 free-says : (κ : Kind) → Says (isFree κ) (κ ≡ Free)
@@ -153,37 +153,25 @@ pub record TopNode (limit : ℕ) (settings : Settings) (n : Node) : Type 0 where
   pub next : n .next ≡ limit
 
 pub top-says : (limit : ℕ) (settings : Settings) (n : Node) → Says (topB limit settings n) (TopNode limit settings n)
-unfolding topB
+unfolding topB topDatumB topLinksB
 top-says limit settings n =
-    let s =
+    let d =
     and-says (some-says (n .datum .serial)) (and-says (eq-says (n .datum .level) 0) (and-says (structure-says (n .datum .kind))
-    (and-says (eq-says (n .datum .size .width) (settings .sheet .width)) (and-says (eq-says (n .datum .size .height) (settings .sheet .height))
-    (and-says (eq-says (n .parent) limit) (and-says (eq-says (n .prev) limit) (eq-says (n .next) limit)))))))
+    (and-says (eq-says (n .datum .size .width) (settings .sheet .width)) (eq-says (n .datum .size .height) (settings .sheet .height)))))
     in
-    worded s
+    let l = and-says (eq-says (n .parent) limit) (and-says (eq-says (n .prev) limit) (eq-says (n .next) limit)) in
+    worded (and-says d l)
     (λ h.
     record {
-      held = h .0;
-      level = h .1 .0;
-      kind = h .1 .1 .0;
-      size = λ i. record { width = h .1 .1 .1 .0 i; height = h .1 .1 .1 .1 .0 i };
-      parent = h .1 .1 .1 .1 .1 .0;
-      prev = h .1 .1 .1 .1 .1 .1 .0;
-      next = h .1 .1 .1 .1 .1 .1 .1;
+      held = h .0 .0;
+      level = h .0 .1 .0;
+      kind = h .0 .1 .1 .0;
+      size = λ i. record { width = h .0 .1 .1 .1 .0 i; height = h .0 .1 .1 .1 .1 i };
+      parent = h .1 .0;
+      prev = h .1 .1 .0;
+      next = h .1 .1 .1;
     })
     (λ h. (
-      h .held,
-      (
-        h .level,
-        (
-          h .kind,
-          (
-            ap (λ (x : Size). x .width) (h .size),
-            (
-              ap (λ (x : Size). x .height) (h .size),
-              (h .parent, (h .prev, h .next)),
-            ),
-          ),
-        ),
-      ),
+      (h .held, (h .level, (h .kind, (ap (λ (x : Size). x .width) (h .size), ap (λ (x : Size). x .height) (h .size))))),
+      (h .parent, (h .prev, h .next)),
     ))

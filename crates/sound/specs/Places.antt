@@ -49,8 +49,13 @@ unfoldable pub placesB : ℕ → List Node → Bool
 placesB limit t = every (λ (i : ℕ). placeB limit (at t i)) limit
 
 -- "the top is at place 0 and level 0, is no part, has the sheet's size and at least one child"
+unfoldable pub topDatumB : Settings → Datum → Bool
+topDatumB settings d =
+    not (eqb (d .serial) 0) && (eqb (d .level) 0 && (isStructure (d .kind)
+    && (eqb (d .size .width) (settings .sheet .width) && eqb (d .size .height) (settings .sheet .height))))
+
+unfoldable pub topLinksB : ℕ → Node → Bool
+topLinksB limit n = eqb (n .parent) limit && (eqb (n .prev) limit && eqb (n .next) limit)
+
 unfoldable pub topB : ℕ → Settings → Node → Bool
-topB limit settings n =
-    not (eqb (n .datum .serial) 0) && (eqb (n .datum .level) 0 && (isStructure (n .datum .kind)
-    && (eqb (n .datum .size .width) (settings .sheet .width) && (eqb (n .datum .size .height) (settings .sheet .height)
-    && (eqb (n .parent) limit && (eqb (n .prev) limit && eqb (n .next) limit))))))
+topB limit settings n = topDatumB settings (n .datum) && topLinksB limit n

@@ -1,7 +1,7 @@
 // The clauses that speak of one place at a time.
 ghost use mathlib.Core.Path.{_≡_};
 ghost use Rattle.lists.specs.Lists.{limit};
-ghost use Rattle.sound.specs.Places.{kindB, leafB, placeB, sidedB, topB, zeroB, zeroDatumB, zeroLinksB};
+ghost use Rattle.sound.specs.Places.{kindB, leafB, placeB, sidedB, topB, topDatumB, topLinksB, zeroB, zeroDatumB, zeroLinksB};
 use piece::node::Datum;
 use piece::node::Kind;
 use piece::settings::Settings;
@@ -130,11 +130,10 @@ pub fn place_ok(n: Node) -> bool
     }
 }
 
-// Whether the node at place 0 is a top with the sheet's size.
-pub fn top_ok(n: Node, settings: Settings) -> bool
-    ensures { λ r. ⌜ r ≡ topB limit settings n ⌝ }
+// Whether it is a structure at level 0 with the sheet's size.
+fn top_datum(d: Datum, settings: Settings) -> bool
+    ensures { λ r. ⌜ r ≡ topDatumB settings d ⌝ }
 {
-    let d = n.datum;
     if d.serial == 0 {
         return false;
     }
@@ -148,9 +147,13 @@ pub fn top_ok(n: Node, settings: Settings) -> bool
     if d.size.width != settings.sheet.width {
         return false;
     }
-    if d.size.height != settings.sheet.height {
-        return false;
-    }
+    d.size.height == settings.sheet.height
+}
+
+// Whether it hangs under no node and beside none.
+fn top_links(n: Node) -> bool
+    ensures { λ r. ⌜ r ≡ topLinksB limit n ⌝ }
+{
     if n.parent != NONE {
         return false;
     }
@@ -158,4 +161,16 @@ pub fn top_ok(n: Node, settings: Settings) -> bool
         return false;
     }
     n.next == NONE
+}
+
+// Whether the node at place 0 is a top with the sheet's size.
+pub fn top_ok(n: Node, settings: Settings) -> bool
+    ensures { λ r. ⌜ r ≡ topB limit settings n ⌝ }
+{
+    let d = n.datum;
+    if top_datum(d, settings) {
+        top_links(n)
+    } else {
+        false
+    }
 }
