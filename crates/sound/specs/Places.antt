@@ -48,7 +48,8 @@ placeB limit n = cond (eqb (n .datum .serial) 0) (zeroB n) (kindB limit (n .datu
 unfoldable pub placesB : ℕ → List Node → Bool
 placesB limit t = every (λ (i : ℕ). placeB limit (at t i)) limit
 
--- "the top is at place 0 and level 0, is no part, has the sheet's size and at least one child"
+-- "the top is at place 0 and level 0, is no part, has the sheet's size and at least one child": what stands there, and that it hangs under no
+-- node and beside none
 unfoldable pub topDatumB : Settings → Datum → Bool
 topDatumB settings d =
     not (eqb (d .serial) 0) && (eqb (d .level) 0 && (isStructure (d .kind)
