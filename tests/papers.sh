@@ -62,17 +62,19 @@ for paper in "${papers[@]}"; do
 done
 [ "$long" -eq 1 ]
 tried $? 'one session is long'
-sessions=21
+sessions=22
 [ "${1:-}" != long ] || sessions=$((sessions + long))
 
-# The bytes of docs/RULES.md, a tree snapshot and a list of cuts: those that `inspect` shows after the first and the second line of its last session.
+# The bytes of docs/RULES.md are those that `inspect` shows: a tree snapshot after the first line of its last session, the light after the last line of the session
+# before that one, and a list of cuts after the second line of the last.
 bytes_in() { awk '/^```/ { inside = $0 == "```text"; if (bytes != "") print bytes; bytes = ""; next } inside && /^[0-9a-f ]+$/ { gsub(/ /, ""); bytes = bytes $0 }' "$1"; }
-shown() {
-  run inspect | awk 'NR == 1 { print $2 } NR == 2 { print $8 }'
+shown() { # NUMBER LINE FIELD: of a session of docs/RULES.md
+  run inspect < "$room/RULES.$1.sent" | awk -v line="$2" -v field="$3" 'NR == line { print $field }'
   return "${PIPESTATUS[0]}"
 }
+all_shown() { shown 5 1 2 && shown 4 4 7 && shown 5 2 8; }
 bytes_in docs/RULES.md > "$room/bytes"
-writes 'the snapshot and the cuts of docs/RULES.md' "$room/bytes" shown < "$room/RULES.4.sent"
+writes 'the snapshot, the light and the cuts of docs/RULES.md' "$room/bytes" all_shown
 
 # The numbers, against the papers' own words.
 given() { awk -v number="$1" '$1 == "REFUSALS" && $2 == number && $4 == sprintf("%02x", number)' "$room/answers" | grep -q .; } # NUMBER

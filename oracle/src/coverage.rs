@@ -1,9 +1,10 @@
-//! Counts what recorded frames reach: each shape, cut and rotation, each kind of removal, each refusal, each kind of saw cut.
+//! Counts what recorded frames reach: each shape, cut and rotation, each kind of removal, each refusal, each answer of the light, each kind of
+//! saw cut.
 
 use std::collections::{BTreeMap, BTreeSet};
 
 use crate::core::entities::node::NodeKey;
-use crate::frame::{cut_number, Mark, Request, MALFORMED};
+use crate::frame::{cut_number, Mark, Part, Request, MALFORMED};
 use crate::saw;
 use crate::session::Session;
 use crate::sheet::Sheet;
@@ -12,6 +13,7 @@ const CUTS: [&str; 2] = ["Horizontal", "Vertical"];
 const ROTATIONS: [&str; 2] = ["Default", "Rotated"];
 const SHAPES: [&str; 4] = ["AlongCurrentCut", "AcrossCurrentCut", "AlongThenAcross", "AcrossThenAlong"];
 const LEFT: [&str; 4] = ["free piece", "part", "structure", "several"];
+const LIGHTS: [&str; 5] = ["first free piece", "later free piece", "no", "no, though it fits", "refused"];
 const OPS: [&str; 7] = ["open", "offers", "insert", "remove", "keep", "restore", "report"];
 
 /// The refusals of each op that frames can reach in a few thousand lines: all but 9.
@@ -40,7 +42,7 @@ impl Default for Coverage {
             names.push(accepted(op));
             names.extend(refusals.iter().map(|number| refused(op, *number)));
         }
-        names.extend(["yes", "no", "refused"].map(light));
+        names.extend(LIGHTS.map(light));
         names.extend(["none", "one", "empty offcut left out"].map(saw_cuts));
         names.extend(CUTS.map(cut_of_way));
         names.extend(LEFT.map(cut_that_leaves));
@@ -68,11 +70,7 @@ impl Coverage {
             number => self.reach(refused(op, number)),
         }
         if let Some(part) = request.part() {
-            self.reach(light(match session.light(part) {
-                Ok(true) => "yes",
-                Ok(false) => "no",
-                Err(_) => "refused",
-            }));
+            self.reach(light(light_of(session, part)));
         }
         if let Some(sheet) = session.sheet() {
             self.measure(sheet);
@@ -178,6 +176,18 @@ fn accepted(op: &str) -> String {
 
 fn refused(op: &str, number: u8) -> String {
     format!("op {op}, refused with {number:02}")
+}
+
+/// What the light says for a part, by which piece it names, or why there is none.
+fn light_of(session: &Session, part: &Part) -> &'static str {
+    let sheet = session.sheet();
+    match session.light(part) {
+        Err(_) => LIGHTS[4],
+        Ok(None) if sheet.is_some_and(|sheet| sheet.fits_somewhere(part)) => LIGHTS[3],
+        Ok(None) => LIGHTS[2],
+        Ok(Some(mark)) if sheet.is_some_and(|sheet| sheet.free_list().first() == sheet.marks().find(mark).as_ref()) => LIGHTS[0],
+        Ok(Some(_)) => LIGHTS[1],
+    }
 }
 
 fn light(answer: &str) -> String {

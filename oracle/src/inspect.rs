@@ -4,7 +4,7 @@
 //! An empty or missing field is '-'; all but the answer and the light are missing until a layout was opened.
 
 use crate::core::entities::node::NodeKey;
-use crate::frame::{hexadecimal, Part};
+use crate::frame::{hexadecimal, Mark, Part};
 use crate::session::{bytes_of, Reply, Session};
 use crate::sheet::Sheet;
 
@@ -46,8 +46,9 @@ fn marks_field(sheet: &Sheet, keys: &[NodeKey]) -> Vec<u8> {
 }
 
 fn light_field(session: &Session, part: &Part) -> Vec<u8> {
+    const NONE: Mark = Mark { layout: 0, place: 0, serial: 0 };
     match session.light(part) {
-        Ok(room) => vec![0, room.into()],
+        Ok(named) => [vec![0, named.is_some().into()], bytes_of(&[named.unwrap_or(NONE)])].concat(),
         Err(refusal) => vec![refusal],
     }
 }

@@ -148,8 +148,8 @@ impl Session {
         Ok(given)
     }
 
-    /// The room light for a part: whether there is room, or the number of its refusal.
-    pub fn light(&self, part: &Part) -> Result<bool, u8> {
+    /// The room light for a part: the piece that it names, if there is room; or the number of its refusal.
+    pub fn light(&self, part: &Part) -> Result<Option<Mark>, u8> {
         let sheet = self.opened()?;
         if !part.in_domain() {
             return Err(refusal::PART_SIDE);

@@ -204,11 +204,19 @@ impl Sheet {
         cuts
     }
 
-    /// Whether a part fits, in a rotation that it allows, within the first piece of the free list.
-    pub fn room_for(&self, part: &Part) -> bool {
+    /// The first piece of the free list for which the Rust has an offer; every free piece is asked.
+    pub fn room_for(&self, part: &Part) -> Option<Mark> {
         let part = part.parttype();
-        let first = self.free_list().first().map(|key| self.node(*key));
-        first.is_some_and(|piece| rotations(&part).any(|rotation| piece.insertion_possible(&part, rotation)))
+        let asked = self.free_list().into_iter().map(|piece| (piece, self.offers(piece, &part).len()));
+        let offering: Vec<NodeKey> = asked.filter(|(_, offers)| *offers > 0).map(|(piece, _)| piece).collect();
+        offering.first().map(|piece| self.marks.of(*piece))
+    }
+
+    /// Whether a part fits within the sides of some free piece, in a rotation that it allows, whatever the stages are.
+    pub fn fits_somewhere(&self, part: &Part) -> bool {
+        let part = part.parttype();
+        let fits = |piece: &NodeKey| rotations(&part).any(|rotation| self.node(*piece).insertion_possible(&part, rotation));
+        self.free_list().iter().any(fits)
     }
 }
 

@@ -14,6 +14,9 @@ const ACROSS_THEN_ALONG: Offer = Offer { rotation: 0, shape: 4 };
 const FREE: Mark = Mark { layout: 1, place: 1, serial: 2 };
 const TOP: Mark = Mark { layout: 1, place: 0, serial: 1 };
 
+/// What the light says where there is no room: no, and a mark of zeros.
+const DARK: &str = "000000000000000000";
+
 /// Kinds, as in snapshots.
 const FREE_PIECE: u8 = 0;
 const PART: u8 = 1;
@@ -71,6 +74,10 @@ impl Counter {
         Line(fields)
     }
 
+    fn light(&mut self, part: Part) -> String {
+        self.send(Request::Offers { mark: FREE, part }).light().to_string()
+    }
+
     fn send(&mut self, request: Request) -> Line {
         self.send_line(&frame::line(request.bytes()))
     }
@@ -103,6 +110,11 @@ fn mark(place: u8, serial: u32) -> Mark {
 
 fn marks(marks: &[Mark]) -> String {
     hexadecimal(&bytes_of(marks))
+}
+
+/// What the light says where it names a piece.
+fn lit(named: Mark) -> String {
+    format!("0001{}", marks(&[named]))
 }
 
 fn success(op: u8, given: &[u8]) -> String {
@@ -249,14 +261,32 @@ fn nothing_is_sound_before_an_opening() {
 }
 
 #[test]
-fn the_light_looks_at_the_first_free_piece() {
+fn the_light_looks_at_rotations_and_sides() {
     let mut counter = Counter::with_stages(3);
-    let mut light = |part| counter.send(Request::Offers { mark: FREE, part }).light().to_string();
-    assert_eq!(light(part(100, 60)), "0001");
-    assert_eq!(light(part(60, 100)), "0000");
-    assert_eq!(light(Part { turn: 0, ..part(60, 100) }), "0001");
-    assert_eq!(light(Part { turn: 2, ..part(100, 60) }), "0000");
-    assert_eq!(light(part(100, 0)), "03");
+    assert_eq!(counter.light(part(100, 60)), lit(FREE));
+    assert_eq!(counter.light(part(60, 100)), DARK);
+    assert_eq!(counter.light(Part { turn: 0, ..part(60, 100) }), lit(FREE));
+    assert_eq!(counter.light(Part { turn: 2, ..part(100, 60) }), DARK);
+    assert_eq!(counter.light(part(100, 0)), "03");
+}
+
+#[test]
+fn the_light_looks_at_every_free_piece() {
+    let mut counter = Counter::with_stages(3);
+    let line = counter.insert(FREE, part(40, 50), ACROSS_THEN_ALONG);
+    let (rest, strip) = (mark(4, 6), mark(5, 7));
+    assert_eq!(line.free_list(), marks(&[rest, strip]));
+    assert_eq!(counter.light(part(95, 10)), lit(strip));
+    assert_eq!(counter.light(part(60, 10)), lit(rest));
+    assert_eq!(counter.light(part(95, 11)), DARK);
+    assert_eq!(counter.light(Part { turn: 2, ..part(10, 95) }), lit(strip));
+}
+
+#[test]
+fn the_light_looks_at_the_stages() {
+    assert_eq!(Counter::with_stages(1).light(part(40, 30)), DARK);
+    assert_eq!(Counter::with_stages(1).light(part(40, 60)), lit(FREE));
+    assert_eq!(Counter::with_stages(2).light(part(40, 30)), lit(FREE));
 }
 
 #[test]

@@ -23,7 +23,8 @@ use Rattle.marks.specs.declared.Mark.{Mark}
 use Rattle.booking.specs.declared.new_nodes.NewNode.{NewNode}
 use Rattle.booking.specs.declared.new_marks.NewMarks.{NewMarks}
 use Rattle.booking.specs.NewNodes.{leaves}
-use Rattle.booking.specs.Marks.{blockMarks, firstMark, headMark, marksIn, marksOf, newMark, newMarks, zeroMark}
+use Rattle.marks.specs.Marks.{zeroMark}
+use Rattle.booking.specs.Marks.{blockMarks, firstMark, headMark, marksIn, marksOf, newMark, newMarks}
 use Rattle.booking.proofs.Made.{frees-few}
 use Rattle.booking.proofs.Marked.{free-marks-count}
 

@@ -13,7 +13,8 @@ use Rattle.tree.specs.Enrolment.{when}
 use Rattle.marks.specs.declared.Mark.{Mark}
 use Rattle.booking.specs.declared.new_nodes.NewNode.{NewNode}
 use Rattle.booking.specs.NewNodes.{freesOf}
-use Rattle.booking.specs.Marks.{firstMark, headMark, marksOf, newMark, newMarks, zeroMark}
+use Rattle.marks.specs.Marks.{zeroMark}
+use Rattle.booking.specs.Marks.{firstMark, headMark, marksOf, newMark, newMarks}
 
 abbrev freeMarks : ℕ → List NewNode → List Mark
 freeMarks number ns = marksOf number isFree ns

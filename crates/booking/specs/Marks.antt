@@ -8,11 +8,9 @@ use Rattle.piece.specs.Row.{nil, grow}
 use Rattle.piece.specs.Kinds.{isFree, isPart}
 use Rattle.tree.specs.Tree.{Tree}
 use Rattle.marks.specs.declared.Mark.{Mark}
+use Rattle.marks.specs.Marks.{zeroMark}
 use Rattle.booking.specs.declared.new_nodes.NewNode.{NewNode}
 use Rattle.booking.specs.declared.new_marks.NewMarks.{NewMarks}
-
-abbrev pub zeroMark : Mark
-zeroMark = record { layout = 0; place = 0; serial = 0 }
 
 -- the mark of a node in the layout of this number
 abbrev pub newMark : ℕ → NewNode → Mark

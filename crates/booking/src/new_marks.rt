@@ -4,7 +4,7 @@ ghost use Prim.Native.Nat.{_≤_};
 ghost use lib.ListN.{length};
 ghost use Rattle.piece.specs.Kinds.{isPart};
 ghost use Rattle.booking.specs.NewNodes.{freesOf, those};
-ghost use Rattle.booking.specs.Marks.{firstMark, headMark, marksOf, newMark, newMarks, zeroMark, zeroMarks};
+ghost use Rattle.booking.specs.Marks.{firstMark, headMark, marksOf, newMark, newMarks, zeroMarks};
 use crate::new_nodes::NewNode;
 use crate::new_nodes::NewNodes;
 use marks::Mark;
@@ -17,21 +17,11 @@ pub struct NewMarks {
     pub count: usize,
 }
 
-fn no_mark() -> Mark
-    ensures { λ r. ⌜ r ≡ zeroMark ⌝ }
-{
-    Mark {
-        layout: 0,
-        place: 0,
-        serial: 0,
-    }
-}
-
 // No marks: all zero.
 pub fn no_marks() -> NewMarks
     ensures { λ r. ⌜ r ≡ zeroMarks ⌝ }
 {
-    let zero = no_mark();
+    let zero = Mark::zero();
     NewMarks {
         first: zero,
         part: zero,
@@ -62,7 +52,7 @@ fn first_mark(number: u16, new: NewNodes) -> Mark
         let n = list[0];
         mark_of(number, n)
     } else {
-        no_mark()
+        Mark::zero()
     }
 }
 
@@ -81,7 +71,7 @@ fn part_mark(number: u16, new: NewNodes) -> Mark
         }
         i += 1;
     }
-    no_mark()
+    Mark::zero()
 }
 
 // The marks of the nodes that a booking made in the layout of this number.
@@ -91,7 +81,7 @@ pub fn marks_of(number: u16, new: NewNodes) -> NewMarks
 {
     let list = new.list;
     let count = new.count;
-    let zero = no_mark();
+    let zero = Mark::zero();
     let mut frees = [zero; 2];
     let mut found: usize = 0;
     let mut i: usize = 0;

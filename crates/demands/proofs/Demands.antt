@@ -16,7 +16,8 @@ use Rattle.piece.specs.declared.insertion_blueprint.InsertionShape.{InsertionSh
 use Rattle.piece.specs.declared.settings.Opening.{Opening}
 use Rattle.tree.specs.Tree.{At, Inside}
 use Rattle.tree.specs.Family.{parentOf}
-use Rattle.booking.specs.Marks.{zeroMark, zeroMarks}
+use Rattle.marks.specs.Marks.{zeroMark}
+use Rattle.booking.specs.Marks.{zeroMarks}
 use Rattle.marks.specs.declared.Mark.{Mark}
 use Rattle.marks.specs.declared.Refusal.{Refusal}
 use Rattle.marks.specs.declared.Refusal.the-variants.{Gone}

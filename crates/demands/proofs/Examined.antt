@@ -10,7 +10,8 @@ use Rattle.layout.specs.Asked.{freePieceOf}
 use Rattle.layout.specs.Zero.{zeroLayout}
 use Rattle.layout.proofs.Exactly.{zero-refused}
 use Rattle.layout.proofs.Refusals.{insert-unsound, remove-unsound, numbers-unsound, restore-unsound, snapshot-unsound}
-use Rattle.questions.specs.Answers.{usedAreaOf, freeAreaOf, nodesHeldOf, sheetUsageOf, treeUsageOf, isEmptyOf, freeMarkOf, removableMarkOf, lightOf, offersCall}
+use Rattle.questions.specs.Answers.{usedAreaOf, freeAreaOf, nodesHeldOf, sheetUsageOf, treeUsageOf, isEmptyOf, freeMarkOf, removableMarkOf, offersCall}
+use Rattle.questions.specs.Light.{lightOf}
 use Rattle.questions.specs.Written.{heldNumbers, snapshotBytes}
 use Rattle.saw.specs.Written.{sawBytes}
 use Rattle.questions.specs.WhyNot.{whyCall}

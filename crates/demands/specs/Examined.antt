@@ -21,10 +21,12 @@ use Rattle.layout.specs.Asked.{freePieceOf}
 use Rattle.questions.specs.declared.replies.AreaAnswer.the-variants as areas
 use Rattle.questions.specs.declared.replies.CountAnswer.the-variants as counts
 use Rattle.questions.specs.declared.replies.UsageAnswer.the-variants as usages
+use Rattle.questions.specs.declared.replies.EmptyAnswer.the-variants as empties
 use Rattle.questions.specs.declared.replies.LightAnswer.the-variants as lights
 use Rattle.questions.specs.declared.replies.MarkAnswer.the-variants as marks
-use Rattle.questions.specs.Answers.{usedAreaOf, freeAreaOf, nodesHeldOf, sheetUsageOf, treeUsageOf, isEmptyOf, freeMarkOf, removableMarkOf, lightOf}
+use Rattle.questions.specs.Answers.{usedAreaOf, freeAreaOf, nodesHeldOf, sheetUsageOf, treeUsageOf, isEmptyOf, freeMarkOf, removableMarkOf}
 use Rattle.questions.specs.Answers.{offersCall, refusedOffers}
+use Rattle.questions.specs.Light.{lightOf}
 use Rattle.questions.specs.Written.{answerTo, heldNumbers, leftInBuffer, snapshotBytes}
 use Rattle.saw.specs.Written.{sawBytes}
 use Rattle.questions.specs.WhyNot.{refusedWhy, whyCall}
@@ -54,16 +56,16 @@ pub record Examined (l : Layout) : Type 0 where
   pub nodesHeld : nodesHeldOf l ≡ counts.Refused NotSound
   pub sheetUsage : sheetUsageOf l ≡ usages.Refused NotSound
   pub treeUsage : treeUsageOf l ≡ usages.Refused NotSound
-  pub isEmpty : isEmptyOf l ≡ lights.Refused NotSound
+  pub isEmpty : isEmptyOf l ≡ empties.Refused NotSound
   pub freeMark : (position : ℕ) → freeMarkOf l position ≡ marks.Refused NotSound
   pub removableMark : (position : ℕ) → removableMarkOf l position ≡ marks.Refused NotSound
   pub roomLight : (p : PartType) → lightOf l p ≡ lights.Refused NotSound
   pub offers : (m : Mark) (p : PartType) → offersCall l m p ≡ refusedOffers NotSound
   pub snapshot : NothingWritten l (snapshotBytes l)
   pub partNumbers : NothingWritten l (heldNumbers l)
-  -- crates saw and reasons
-  pub cuts : NothingWritten l (sawBytes l)
   pub whyNot : (m : Mark) (p : PartType) → whyCall l m p ≡ refusedWhy NotSound
+  -- crate saw
+  pub cuts : NothingWritten l (sawBytes l)
   -- crate session: the counter's state stays, and the answer is the op's refusal; `restore` examines the kept layout too
   pub counter : (kept : Layout) (q : Request) (op : ℕ) → opOf q ≡ some op → (t : Session) (a : Answer) → Answers (both l kept) q t a
       → reply t a ≡ reply (both l kept) (refused op NotSound)

@@ -146,12 +146,18 @@ pub fn part_numbers(out: &mut [u8; ROOM], pen: Pen, layout: Layout) -> Pen {
     if i == 0 { missing(out, p) } else { p }
 }
 
+// What the light says where it is not refused: yes or no, and the mark of the piece that it names, zero where it says no.
+fn put_light(out: &mut [u8; ROOM], pen: Pen, yes: u8, mark: Mark) -> Pen {
+    let done = put_byte(out, pen, 0);
+    let said = put_byte(out, done, yes);
+    put_mark(out, said, mark)
+}
+
 fn light_for(out: &mut [u8; ROOM], pen: Pen, layout: Layout, part: PartType) -> Pen {
-    match questions::room::room_light(layout, part) {
-        LightAnswer::Says(yes) => {
-            let p = put_byte(out, pen, 0);
-            put_byte(out, p, if yes { 1 } else { 0 })
-        }
+    let light = questions::room::room_light(layout, part);
+    match light {
+        LightAnswer::Room(_mark) => put_light(out, pen, 1, light.mark()),
+        LightAnswer::NoRoom => put_light(out, pen, 0, light.mark()),
         LightAnswer::Refused(refusal) => put_byte(out, pen, refusal.number()),
     }
 }
@@ -169,7 +175,7 @@ fn light_of(out: &mut [u8; ROOM], pen: Pen, layout: Layout, ask: Ask) -> Pen {
     }
 }
 
-// The room light, for the part that a line asks offers or room for.
+// The room light with the piece that it names, for the part that a line asks offers or room for.
 pub fn light(out: &mut [u8; ROOM], pen: Pen, layout: Layout, request: Request) -> Pen {
     let p = put(out, pen, b' ');
     match request {

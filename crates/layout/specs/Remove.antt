@@ -14,7 +14,7 @@ use Rattle.tree.specs.Removal.{cleared, remove, removedNumbers}
 use Rattle.tree.specs.Pieces.{maxSerial}
 use Rattle.tree.specs.Family.{newPlace}
 use Rattle.tree.specs.Enrolment.{removedList}
-use Rattle.booking.specs.Marks.{zeroMark}
+use Rattle.marks.specs.Marks.{zeroMark}
 use Rattle.marks.specs.declared.Mark.{Mark}
 use Rattle.marks.specs.declared.Refusal.{Refusal}
 use Rattle.marks.specs.declared.Refusal.the-variants.{NotSound, TheTop, FreePiece, SerialsSpent, BufferTooShort}

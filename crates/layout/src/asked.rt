@@ -1,5 +1,5 @@
-// What a call is asked about: the part, the piece that a mark names, and the head that the calls on a free piece share: `insert`, the offers (crate
-// `questions`) and why not (crate `questions`). `sought` is asked behind the check, inside this crate.
+// What a call is asked about: the part, the piece that a mark names, and the head that the calls on a free piece share: `insert`, and of crate
+// `questions` the offers and why not. `sought` is asked behind the check, inside this crate.
 ghost use mathlib.Core.Path.{_≡_};
 ghost use Rattle.layout.specs.Asked.{freePieceOf, partB, soughtOf};
 use crate::layout::Layout;

@@ -34,11 +34,7 @@ impl Layout {
     {
         Removed {
             outcome: Outcome::Refused(refusal),
-            free: Mark {
-                layout: 0,
-                place: 0,
-                serial: 0,
-            },
+            free: Mark::zero(),
             count: 0,
             layout: self,
         }

@@ -1,5 +1,6 @@
 // What names a piece, and what a call says no with (document 01, "Marks" and "What a call says no with"). Rests on nothing.
 ghost use mathlib.Core.Path.{_≡_};
+ghost use Rattle.marks.specs.Marks.{zeroMark};
 ghost use Rattle.marks.specs.Refusals.{refusalNo};
 
 // The mark of a piece: its layout's number, its place and its serial.
@@ -7,6 +8,19 @@ pub struct Mark {
     pub layout: u16,
     pub place: u16,
     pub serial: u32,
+}
+
+impl Mark {
+    // What stands where there is no mark.
+    pub fn zero() -> Mark
+        ensures { λ r. ⌜ r ≡ zeroMark ⌝ }
+    {
+        Mark {
+            layout: 0,
+            place: 0,
+            serial: 0,
+        }
+    }
 }
 
 // In the order of document 01's table, which is the order in which they are tested.

@@ -11,10 +11,12 @@ use Rattle.layout.proofs.Determined.{only}
 use Rattle.questions.specs.declared.replies.AreaAnswer.{AreaAnswer}
 use Rattle.questions.specs.declared.replies.CountAnswer.{CountAnswer}
 use Rattle.questions.specs.declared.replies.UsageAnswer.{UsageAnswer}
+use Rattle.questions.specs.declared.replies.EmptyAnswer.{EmptyAnswer}
 use Rattle.questions.specs.declared.replies.LightAnswer.{LightAnswer}
 use Rattle.questions.specs.declared.replies.MarkAnswer.{MarkAnswer}
 use Rattle.questions.specs.declared.replies.OffersAnswer.{OffersAnswer}
-use Rattle.questions.specs.Answers.{usedAreaOf, freeAreaOf, nodesHeldOf, sheetUsageOf, treeUsageOf, isEmptyOf, freeMarkOf, removableMarkOf, lightOf, offersCall}
+use Rattle.questions.specs.Answers.{usedAreaOf, freeAreaOf, nodesHeldOf, sheetUsageOf, treeUsageOf, isEmptyOf, freeMarkOf, removableMarkOf, offersCall}
+use Rattle.questions.specs.Light.{lightOf}
 use Rattle.questions.specs.Written.{answerTo, leftInBuffer, snapshotBytes, heldNumbers}
 
 module _ (l : Layout) where
@@ -33,7 +35,7 @@ module _ (l : Layout) where
   pub tree-usage-is-one : (r s : UsageAnswer) → r ≡ treeUsageOf l → s ≡ treeUsageOf l → r ≡ s
   tree-usage-is-one = only
 
-  pub is-empty-is-one : (r s : LightAnswer) → r ≡ isEmptyOf l → s ≡ isEmptyOf l → r ≡ s
+  pub is-empty-is-one : (r s : EmptyAnswer) → r ≡ isEmptyOf l → s ≡ isEmptyOf l → r ≡ s
   is-empty-is-one = only
 
   pub free-mark-is-one : (k : ℕ) (r s : MarkAnswer) → r ≡ freeMarkOf l k → s ≡ freeMarkOf l k → r ≡ s

@@ -1,5 +1,5 @@
 -- Request 2, "Each is named exactly when it holds": of each reason, when it is given; and a reason says offered exactly where there is an offer, of a
--- rotation and over the calls. Rests on the rules of offers (piece) and on the contract of the offers (looks).
+-- rotation and over the calls. Rests on the rules of offers (piece) and on the contract of the offers.
 use mathlib.Core.Path.{_≡_, refl, ap, subst, _∙_}
 use mathlib.Core.Bool.{Bool, true, false, cond, not, _&&_}
 use mathlib.Core.List.{[]}

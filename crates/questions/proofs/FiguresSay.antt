@@ -15,7 +15,7 @@ use Rattle.layout.specs.SoundLayout.{SoundLayout, Sized}
 use Rattle.layout.proofs.Exactly.{sound-shown}
 use Rattle.questions.specs.declared.replies.AreaAnswer.the-variants.{Area}
 use Rattle.questions.specs.declared.replies.UsageAnswer.the-variants.{Usage}
-use Rattle.questions.specs.declared.replies.LightAnswer.the-variants.{Says}
+use Rattle.questions.specs.declared.replies.EmptyAnswer.the-variants.{Says}
 use Rattle.questions.specs.Answers.{usedAreaOf, freeAreaOf, sheetUsageOf, treeUsageOf, isEmptyOf}
 use Rattle.questions.proofs.Figured.{never-empty}
 

@@ -10,3 +10,5 @@ pub mod Refusals
 pub mod Exactly
 pub mod WhyNotDetermined
 pub mod WhyNotWorked
+pub mod LightExactly
+pub mod LightWorked

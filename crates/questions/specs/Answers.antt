@@ -1,15 +1,12 @@
 -- What each call that only reads answers: document 01's rule in the terms of the tree and the lists, after the refusals in their order.
 use mathlib.Core.List.{List}
-use mathlib.Core.Bool.{Bool, true, cond, _&&_, _||_}
+use mathlib.Core.Bool.{Bool, true, cond, _&&_}
 use Prim.Native.Nat.{ℕ}
 use lib.Dec.{ltb}
 use lib.ListN.{getD}
-use Rattle.piece.specs.declared.size.Size.{Size}
 use Rattle.piece.specs.declared.parttype.PartType.{PartType}
-use Rattle.piece.specs.declared.rotation.Rotation.{Rotation}
-use Rattle.piece.specs.declared.rotation.Rotation.the-variants.{Default, Rotated}
 use Rattle.piece.specs.Sides.{area}
-use Rattle.piece.specs.Offers.{allowed, fits, asOfferList, noOffers, offersOf, turned}
+use Rattle.piece.specs.Offers.{asOfferList, noOffers, offersOf}
 use Rattle.piece.specs.Row.{nil, grow}
 use Rattle.piece.specs.Kinds.{isFree}
 use Rattle.tree.specs.Tree.{Tree, count}
@@ -17,21 +14,21 @@ use Rattle.tree.specs.Figures.{partArea, freeArea, sheetUsage, treeUsage}
 use Rattle.table.specs.Table.{at}
 use Rattle.marks.specs.declared.Mark.{Mark}
 use Rattle.marks.specs.declared.Refusal.{Refusal}
-use Rattle.marks.specs.declared.Refusal.the-variants.{NotSound, PartOutside, PastTheEnd}
+use Rattle.marks.specs.declared.Refusal.the-variants.{NotSound, PastTheEnd}
 use Rattle.layout.specs.declared.layout.Layout.{Layout}
 use Rattle.layout.specs.declared.replies.Sought.{Sought}
 use Rattle.layout.specs.declared.replies.Sought.the-variants as sought
 use Rattle.layout.specs.declared.replies.Outcome.the-variants as outcomes
 use Rattle.layout.specs.Check.{tree, soundB}
-use Rattle.layout.specs.Asked.{partB, freePieceOf}
+use Rattle.layout.specs.Asked.{freePieceOf}
 use Rattle.questions.specs.declared.replies.AreaAnswer.{AreaAnswer}
 use Rattle.questions.specs.declared.replies.AreaAnswer.the-variants as areas
 use Rattle.questions.specs.declared.replies.CountAnswer.{CountAnswer}
 use Rattle.questions.specs.declared.replies.CountAnswer.the-variants as counts
 use Rattle.questions.specs.declared.replies.UsageAnswer.{UsageAnswer}
 use Rattle.questions.specs.declared.replies.UsageAnswer.the-variants as usages
-use Rattle.questions.specs.declared.replies.LightAnswer.{LightAnswer}
-use Rattle.questions.specs.declared.replies.LightAnswer.the-variants as lights
+use Rattle.questions.specs.declared.replies.EmptyAnswer.{EmptyAnswer}
+use Rattle.questions.specs.declared.replies.EmptyAnswer.the-variants as empties
 use Rattle.questions.specs.declared.replies.MarkAnswer.{MarkAnswer}
 use Rattle.questions.specs.declared.replies.MarkAnswer.the-variants as marks
 use Rattle.questions.specs.declared.replies.OffersAnswer.{OffersAnswer}
@@ -59,8 +56,8 @@ abbrev pub allFree : Tree → Bool
 allFree nil = true
 allFree (grow p d k r) = isFree (d .kind) && (allFree k && allFree r)
 
-unfoldable pub isEmptyOf : Layout → LightAnswer
-isEmptyOf l = cond (soundB l) (lights.Says (allFree (tree l))) (lights.Refused NotSound)
+unfoldable pub isEmptyOf : Layout → EmptyAnswer
+isEmptyOf l = cond (soundB l) (empties.Says (allFree (tree l))) (empties.Refused NotSound)
 
 -- ---- The two lists: "a position gives a mark"; refusals 1, 12
 
@@ -77,22 +74,6 @@ freeMarkOf l k = markAtPosition l (l .free) (l .frees) k
 
 unfoldable pub removableMarkOf : Layout → ℕ → MarkAnswer
 removableMarkOf l k = markAtPosition l (l .removable) (l .removables) k
-
--- ---- The room light: "says yes exactly when the part, in some allowed rotation, fits within the sides of the first piece of the free list; with
--- none it says no"; refusals 1, 3
-
-abbrev pub fitsIn : Size → PartType → Rotation → Bool
-fitsIn s p r = allowed (p .turn) r && fits s (turned r (p .size))
-
-abbrev pub fitsSome : Size → PartType → Bool
-fitsSome s p = fitsIn s p Default || fitsIn s p Rotated
-
-abbrev pub lightB : Layout → PartType → Bool
-lightB l p = ltb 0 (l .frees) && fitsSome (at (l .nodes) (getD (l .free) 0 0) .datum .size) p
-
-unfoldable pub lightOf : Layout → PartType → LightAnswer
-lightOf l p =
-    cond (soundB l) (cond (partB p) (lights.Says (lightB l p)) (lights.Refused PartOutside)) (lights.Refused NotSound)
 
 -- ---- Offers on a mark, after the head of a call on a free piece: refusals 1, 3, 4, 5, 6
 

@@ -3,7 +3,7 @@ ghost use mathlib.Core.Path.{_≡_};
 ghost use Rattle.questions.specs.Answers.{freeAreaOf, isEmptyOf, nodesHeldOf, sheetUsageOf, treeUsageOf, usedAreaOf};
 use crate::replies::AreaAnswer;
 use crate::replies::CountAnswer;
-use crate::replies::LightAnswer;
+use crate::replies::EmptyAnswer;
 use crate::replies::UsageAnswer;
 use layout::layout::Layout;
 use marks::Refusal;
@@ -75,12 +75,12 @@ pub fn tree_usage(layout: Layout) -> UsageAnswer
 }
 
 // No on every sound layout: the top has a child.
-pub fn is_empty(layout: Layout) -> LightAnswer
+pub fn is_empty(layout: Layout) -> EmptyAnswer
     ensures { λ r. ⌜ r ≡ isEmptyOf layout ⌝ }
 {
     if layout.sound() {
-        LightAnswer::Says(false)
+        EmptyAnswer::Says(false)
     } else {
-        LightAnswer::Refused(Refusal::NotSound)
+        EmptyAnswer::Refused(Refusal::NotSound)
     }
 }

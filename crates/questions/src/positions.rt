@@ -13,7 +13,7 @@ use marks::Refusal;
 use table::LIMIT;
 
 // The mark of the piece at a place.
-fn mark_of(layout: Layout, place: u16) -> Mark
+pub(crate) fn mark_of(layout: Layout, place: u16) -> Mark
     requires { ⌜ place < limit ⌝ }
     ensures { λ r. ⌜ r ≡ markOf layout place ⌝ }
 {

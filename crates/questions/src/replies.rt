@@ -1,4 +1,6 @@
 // The answers of the calls. An array stands beside its enum, as the language asks.
+ghost use mathlib.Core.Path.{_≡_};
+ghost use Rattle.questions.specs.Light.{namedBy};
 use layout::replies::Outcome;
 use marks::Mark;
 use marks::Refusal;
@@ -19,10 +21,30 @@ pub enum UsageAnswer {
     Refused(Refusal),
 }
 
-// The room light, and whether a layout is empty.
-pub enum LightAnswer {
+// Whether a layout is empty.
+pub enum EmptyAnswer {
     Says(bool),
     Refused(Refusal),
+}
+
+// The room light: the mark of the piece that it names, or no.
+pub enum LightAnswer {
+    Room(Mark),
+    NoRoom,
+    Refused(Refusal),
+}
+
+impl LightAnswer {
+    // The mark that is named; zero where there is none.
+    pub fn mark(self) -> Mark
+        ensures { λ r. ⌜ r ≡ namedBy self ⌝ }
+    {
+        match self {
+            LightAnswer::Room(mark) => mark,
+            LightAnswer::NoRoom => Mark::zero(),
+            LightAnswer::Refused(_why) => Mark::zero(),
+        }
+    }
 }
 
 pub enum MarkAnswer {

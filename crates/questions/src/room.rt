@@ -1,6 +1,10 @@
 // Room for a part: the room light (refusals 1 and 3), and the offers of the free piece that a mark names (refusals 1, 3, 4, 5, 6).
 ghost use mathlib.Core.Path.{_≡_};
-ghost use Rattle.questions.specs.Answers.{fitsIn, fitsSome, lightOf, offersCall, refusedOffers};
+ghost use mathlib.Core.Bool.{true};
+ghost use Rattle.layout.specs.Check.{soundB};
+ghost use Rattle.questions.specs.Answers.{offersCall, refusedOffers};
+ghost use Rattle.questions.specs.Light.{firstOffering, hasOffer, lightAt, lightOf};
+use crate::positions::mark_of;
 use crate::replies::LightAnswer;
 use crate::replies::OffersAnswer;
 use layout::asked::part_ok;
@@ -10,31 +14,9 @@ use layout::replies::Sought;
 use marks::Mark;
 use marks::Refusal;
 use piece::insertion_option::OfferList;
-use piece::node::insertion_possible;
+use piece::node::Datum;
 use piece::parttype::PartType;
-use piece::rotation::Rotation;
-use piece::size::Size;
-
-fn fits_in(size: Size, part: PartType, rotation: Rotation) -> bool
-    ensures { λ r. ⌜ r ≡ fitsIn size part rotation ⌝ }
-{
-    if part.allows(rotation) {
-        insertion_possible(size, part.size_in(rotation))
-    } else {
-        false
-    }
-}
-
-// Whether the part fits within the sides, in some rotation that it allows.
-fn fits_some(size: Size, part: PartType) -> bool
-    ensures { λ r. ⌜ r ≡ fitsSome size part ⌝ }
-{
-    if fits_in(size, part, Rotation::Default) {
-        true
-    } else {
-        fits_in(size, part, Rotation::Rotated)
-    }
-}
+use piece::settings::Settings;
 
 fn refused_offers(refusal: Refusal) -> OffersAnswer
     ensures { λ r. ⌜ r ≡ refusedOffers refusal ⌝ }
@@ -45,7 +27,33 @@ fn refused_offers(refusal: Refusal) -> OffersAnswer
     }
 }
 
-// Whether the first piece of the free list is large enough for the part.
+// Whether a piece has an offer for the part.
+fn has_offer(piece: Datum, part: PartType, settings: Settings) -> bool
+    ensures { λ r. ⌜ r ≡ hasOffer piece part settings ⌝ }
+{
+    let offers = piece::insertion_option::offers(piece, part, settings);
+    0 < offers.count
+}
+
+// The first piece of a sound layout's free list that has an offer for the part.
+fn first_offering(layout: Layout, part: PartType) -> LightAnswer
+    requires { ⌜ soundB layout ≡ true ⌝ }
+    ensures { λ r. ⌜ r ≡ lightAt layout (firstOffering layout part) ⌝ }
+{
+    let mut i: u16 = 0;
+    while i < layout.frees {
+        let place = layout.free[i as usize];
+        let at = place as usize;
+        let n = layout.nodes[at];
+        if has_offer(n.datum, part, layout.settings) {
+            return LightAnswer::Room(mark_of(layout, place));
+        }
+        i += 1;
+    }
+    LightAnswer::NoRoom
+}
+
+// Whether some free piece has an offer for the part, and the mark of the first one that has.
 pub fn room_light(layout: Layout, part: PartType) -> LightAnswer
     ensures { λ r. ⌜ r ≡ lightOf layout part ⌝ }
 {
@@ -55,14 +63,7 @@ pub fn room_light(layout: Layout, part: PartType) -> LightAnswer
     if part_ok(part) {} else {
         return LightAnswer::Refused(Refusal::PartOutside);
     }
-    if layout.frees == 0 {
-        return LightAnswer::Says(false);
-    }
-    let at = layout.free[0] as usize;
-    let n = layout.nodes[at];
-    let d = n.datum;
-    let size = d.size;
-    LightAnswer::Says(fits_some(size, part))
+    first_offering(layout, part)
 }
 
 // What the free piece that a mark names offers for a part.

@@ -29,7 +29,8 @@ use Rattle.tree.specs.Removal.{subtree, numbers}
 use Rattle.tree.proofs.BookPieces.{book-new}
 use Rattle.marks.specs.declared.Mark.{Mark}
 use Rattle.marks.specs.declared.Refusal.the-variants.{OpeningOutside}
-use Rattle.booking.specs.Marks.{zeroMark, headMark, marksIn, blockMarks}
+use Rattle.marks.specs.Marks.{zeroMark}
+use Rattle.booking.specs.Marks.{headMark, marksIn, blockMarks}
 use Rattle.removal.specs.Remove.{newFree}
 use Rattle.removal.proofs.Pieces.{new-there}
 use Rattle.layout.specs.declared.layout.Layout.{Layout}

@@ -19,7 +19,7 @@ returns c =
 returns-2 : tie.Need-returns-2
 returns-2 c =
     let n = c .before .before .before .args .new in
-    c .no-mark .ensures ∙ rw (none-left (n .list) (n .count) 0 (c .before .if1 .left)) refl
+    c .zero .ensures ∙ rw (none-left (n .list) (n .count) 0 (c .before .if1 .left)) refl
 
 pub first-mark-spec : {M : Type 1} → statement M
 first-mark-spec =
@@ -27,6 +27,6 @@ first-mark-spec =
     (tie.spec
     (λ c. search needs)  -- array-copy-out-n
     (λ c κs. search needs)  -- mark-of-requires
-    (λ c κs. search needs)  -- no-mark-requires
+    (λ c κs. search needs)  -- zero-requires
     returns
     returns-2)

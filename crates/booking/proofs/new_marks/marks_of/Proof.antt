@@ -45,7 +45,7 @@ low c =
     omega (arith, free-marks-count (s .args .number) (those n), s .pre .1)
 
 loop-holds : tie.Need-loop-holds Inv-loop μ-loop
-loop-holds c = (search needs, rw (c .no-mark .ensures) (noted-none (c .before .before .args .number) (those (c .before .before .args .new))))
+loop-holds c = (search needs, rw (c .zero .ensures) (noted-none (c .before .before .args .number) (those (c .before .before .args .new))))
 
 mul-frees : tie.Need-mul-frees Inv-loop μ-loop
 mul-frees c = let h = low c in search needs
@@ -87,7 +87,7 @@ marks-of-spec =
     (tie.spec
     Inv-loop
     μ-loop
-    (λ c κs. search needs)  -- no-mark-requires
+    (λ c κs. search needs)  -- zero-requires
     loop-holds
     (λ c. search needs)  -- mul-n
     (λ c. search needs)  -- array-copy-out-n

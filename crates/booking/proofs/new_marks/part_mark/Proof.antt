@@ -45,7 +45,7 @@ returns-2 : tie.Need-returns-2 Inv-loop μ-loop
 returns-2 c =
     let l = c .before .before .loop in
     let n = c .before .before .before .before .args .new in
-    c .no-mark .ensures ∙ (rw (none-left (n .list) (n .count) (l .i) (c .before .loop-test .left)) at (l .inv .1))
+    c .zero .ensures ∙ (rw (none-left (n .list) (n .count) (l .i) (c .before .loop-test .left)) at (l .inv .1))
 
 pub part-mark-spec : {M : Type 1} → statement M
 part-mark-spec =
@@ -62,5 +62,5 @@ part-mark-spec =
     (λ c. search needs)  -- add-i
     (λ c. search needs)  -- loop-less
     loop-again
-    (λ c κs. search needs)  -- no-mark-requires
+    (λ c κs. search needs)  -- zero-requires
     returns-2)

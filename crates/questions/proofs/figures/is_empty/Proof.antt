@@ -1,7 +1,7 @@
 -- `is_empty` meets its contract: the top of a sound layout is a structure.
 use mathlib.Core.Path.{sym, ap}
 use borrow.Author.Needs.{needs}
-use Rattle.questions.specs.declared.replies.LightAnswer.the-variants.{Says}
+use Rattle.questions.specs.declared.replies.EmptyAnswer.the-variants.{Says}
 use Rattle.questions.specs.Answers.{isEmptyOf}
 use Rattle.questions.proofs.SizedBy.{sound-by}
 use Rattle.questions.proofs.Figured.{answered, refused, never-empty}
