@@ -7,7 +7,7 @@ use Prim.Native.Nat.{ℕ, zero, suc, _+_, _-_, _<_, _≤_}
 use native.Mathlib.Nat.{not-suc-le-zero}
 use native.Mathlib.Numerals.{add-one}
 use native.Mathlib.Omega.{arith}
-use native.Mathlib.Decide.{ℕ-discrete}
+use native.Mathlib.Decide.{ℕ-discrete, decLt}
 use Rattle.lists.specs.Search.{firstFrom, every}
 
 -- a test is true or false, with the equation
@@ -40,6 +40,12 @@ unfolding firstFrom
 first-same f g zero n h = refl
 first-same f g (suc m) n h =
     rw (h n (omega arith) (omega arith), first-same f g m (n + 1) (λ i a b. h i (omega arith) (omega arith))) refl
+
+-- k is the least number below n of which f holds
+pub record Least (f : ℕ → Bool) (n k : ℕ) : Type 0 where
+  pub below : k < n
+  pub holds : f k ≡ true
+  pub before : (j : ℕ) → j < k → f j ≡ false
 
 module _ (f : ℕ → Bool) where
   -- ---- a search
@@ -124,6 +130,21 @@ module _ (f : ℕ → Bool) where
           no h = omega arith
       go false e h (yes d) ih = ap f (sym d) ∙ e
       go false e h (no d) ih = ih (omega arith) h
+
+  -- the answer is the least number of which f holds, and no other number is that
+  pub found-least : (n : ℕ) → firstFrom f n 0 < n → Least f n (firstFrom f n 0)
+  found-least n b =
+      record { below = b; holds = first-holds n 0 (omega arith); before = λ j h. first-before n 0 j (omega arith) h }
+
+  pub least-found : (n k : ℕ) → Least f n k → firstFrom f n 0 ≡ k
+  least-found n k h = go (decLt k (firstFrom f n 0)) (decLt (firstFrom f n 0) k)
+    where
+      go : Dec (k < firstFrom f n 0) → Dec (firstFrom f n 0 < k) → firstFrom f n 0 ≡ k
+      go (yes b) d = absurd (clash (sym (first-before n 0 k (omega arith) b) ∙ h .holds))
+      go (no a) (yes b) =
+          let in-range : firstFrom f n 0 < 0 + n = omega (arith, h .below) in
+          absurd (clash (sym (h .before (firstFrom f n 0) b) ∙ first-holds n 0 in-range))
+      go (no a) (no b) = omega arith
 
   -- ---- a test of each number
 

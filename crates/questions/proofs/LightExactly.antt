@@ -2,22 +2,20 @@
 -- rotation", it names "the first such piece of the free list", and the offers on that mark say the same. Rests on the rule (specs/Light.antt), on the
 -- laws of a search (lists) and on what a mark names (layout).
 use mathlib.Core.Path.{_≡_, refl, sym, ap, _∙_}
-use mathlib.Core.Bool.{Bool, true, false, cond}
-use mathlib.Core.Logic.{_↔_, _⊎_, inl, inr, ⊎-elim}
-use Prim.Native.Nat.{ℕ, _+_, _<_, _≤_}
+use mathlib.Core.Bool.{true, false}
+use mathlib.Core.Logic.{_↔_, ⊎-elim}
+use Prim.Native.Nat.{ℕ, _<_, _≤_}
 use native.Mathlib.Omega.{arith}
 use native.Mathlib.Decide.{decLt}
 use lib.Dec.{ltb}
 use lib.ListN.{getD, length}
-use borrow.Author.Tests.{ltb-true, ltb-false, lt-ltb, le-ltb}
+use borrow.Author.Tests.{ltb-true, lt-ltb, le-ltb}
 use Rattle.piece.specs.declared.node.Datum.{Datum}
 use Rattle.piece.specs.declared.node.Kind.the-variants.{Free}
 use Rattle.piece.specs.declared.parttype.PartType.{PartType}
 use Rattle.piece.specs.Kinds.{isFree}
 use Rattle.piece.specs.Offers.{asOfferList, offersOf}
-use Rattle.lists.specs.Search.{firstFrom}
-use Rattle.lists.proofs.Scan.{clash, test, first-most, first-holds, first-before}
-use Rattle.table.specs.Table.{at}
+use Rattle.lists.proofs.Scan.{Least, clash, test, first-before, found-least, least-found}
 use Rattle.marks.specs.declared.Mark.{Mark}
 use Rattle.layout.specs.declared.layout.Layout.{Layout}
 use Rattle.layout.specs.declared.replies.Sought.{Sought}
@@ -29,11 +27,10 @@ use Rattle.layout.proofs.Admitted.{is-free}
 use Rattle.layout.proofs.Exactly.{sound-shown}
 use Rattle.layout.proofs.Listed.{piece-is}
 use Rattle.layout.proofs.Marks.{Names, headed, names-sought, sought-names}
-use Rattle.questions.specs.declared.replies.LightAnswer.{LightAnswer}
 use Rattle.questions.specs.declared.replies.LightAnswer.the-variants.{Room, NoRoom}
 use Rattle.questions.specs.declared.replies.MarkAnswer.the-variants.{Found}
 use Rattle.questions.specs.Answers.{freeMarkOf, markOf, offeredFor, offersCall}
-use Rattle.questions.specs.Light.{firstOffering, hasOffer, lightAt, lightOf, offeringAt}
+use Rattle.questions.specs.Light.{firstOffering, lightAt, lightOf, offeringAt}
 use Rattle.questions.proofs.Entries.{free-entry}
 use Rattle.questions.proofs.ListMarks.{mark-names, names-free-mark}
 
@@ -50,29 +47,6 @@ pub record First (l : Layout) (p : PartType) (m : Mark) : Type 0 where
   pub listed : freeMarkOf l position ≡ Found m
   pub offering : Offering l p m
   pub before : (j : ℕ) (n : Mark) → j < position → freeMarkOf l j ≡ Found n → Offering l p n → ⊥
-
--- ---- a position of a search
-
--- f holds of k, and of no number before it
-record Least (f : ℕ → Bool) (n k : ℕ) : Type 0 where
-  below : k < n
-  holds : f k ≡ true
-  before : (j : ℕ) → j < k → f j ≡ false
-
-module _ (f : ℕ → Bool) (n : ℕ) where
-  found-least : firstFrom f n 0 < n → Least f n (firstFrom f n 0)
-  found-least b =
-      record { below = b; holds = first-holds f n 0 (omega arith); before = λ j h. first-before f n 0 j (omega arith) h }
-
-  least-found : (k : ℕ) → Least f n k → firstFrom f n 0 ≡ k
-  least-found k h = go (decLt k (firstFrom f n 0)) (decLt (firstFrom f n 0) k)
-    where
-      go : Dec (k < firstFrom f n 0) → Dec (firstFrom f n 0 < k) → firstFrom f n 0 ≡ k
-      go (yes b) d = absurd (clash (sym (first-before f n 0 k (omega arith) b) ∙ h .holds))
-      go (no a) (yes b) =
-          let in-range : firstFrom f n 0 < 0 + n = omega (arith, h .below) in
-          absurd (clash (sym (h .before (firstFrom f n 0) b) ∙ first-holds f n 0 in-range))
-      go (no a) (no b) = omega arith
 
 module _ (l : Layout) (sized : Sized l) (s : SoundLayout l) where
   -- ---- positions of the free list, and marks

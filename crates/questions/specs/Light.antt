@@ -41,7 +41,7 @@ unfoldable pub lightOf : Layout → PartType → LightAnswer
 lightOf l p = cond (soundB l) (cond (partB p) (lightAt l (firstOffering l p)) (Refused PartOutside)) (Refused NotSound)
 
 -- the mark that is named; where the answer is no, or a refusal, it is zero
-abbrev pub namedBy : LightAnswer → Mark
-namedBy (Room m) = m
-namedBy NoRoom = zeroMark
-namedBy (Refused r) = zeroMark
+abbrev pub lightMark : LightAnswer → Mark
+lightMark (Room m) = m
+lightMark NoRoom = zeroMark
+lightMark (Refused r) = zeroMark

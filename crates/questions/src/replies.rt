@@ -1,6 +1,6 @@
 // The answers of the calls. An array stands beside its enum, as the language asks.
 ghost use mathlib.Core.Path.{_≡_};
-ghost use Rattle.questions.specs.Light.{namedBy};
+ghost use Rattle.questions.specs.Light.{lightMark};
 use layout::replies::Outcome;
 use marks::Mark;
 use marks::Refusal;
@@ -37,7 +37,7 @@ pub enum LightAnswer {
 impl LightAnswer {
     // The mark that is named; zero where there is none.
     pub fn mark(self) -> Mark
-        ensures { λ r. ⌜ r ≡ namedBy self ⌝ }
+        ensures { λ r. ⌜ r ≡ lightMark self ⌝ }
     {
         match self {
             LightAnswer::Room(mark) => mark,
