@@ -68,13 +68,19 @@ sessions=22
 # The bytes of docs/RULES.md are those that `inspect` shows: a tree snapshot after the first line of its last session, the light after the last line of the session
 # before that one, and a list of cuts after the second line of the last.
 bytes_in() { awk '/^```/ { inside = $0 == "```text"; if (bytes != "") print bytes; bytes = ""; next } inside && /^[0-9a-f ]+$/ { gsub(/ /, ""); bytes = bytes $0 }' "$1"; }
-shown() { # NUMBER LINE FIELD: of a session of docs/RULES.md
-  run inspect < "$room/RULES.$1.sent" | awk -v line="$2" -v field="$3" 'NR == line { print $field }'
+shown() { # LINE FIELD
+  run inspect | awk -v line="$1" -v field="$2" 'NR == line { print $field }'
   return "${PIPESTATUS[0]}"
 }
-all_shown() { shown 5 1 2 && shown 4 4 7 && shown 5 2 8; }
 bytes_in docs/RULES.md > "$room/bytes"
-writes 'the snapshot, the light and the cuts of docs/RULES.md' "$room/bytes" all_shown
+[ "$(wc -l < "$room/bytes")" -eq 3 ]
+tried $? 'docs/RULES.md has three blocks of bytes'
+sed -n 1p "$room/bytes" > "$room/bytes.snapshot"
+sed -n 2p "$room/bytes" > "$room/bytes.light"
+sed -n 3p "$room/bytes" > "$room/bytes.cuts"
+writes 'the snapshot of docs/RULES.md' "$room/bytes.snapshot" shown 1 2 < "$room/RULES.5.sent"
+writes 'the light of docs/RULES.md' "$room/bytes.light" shown 4 7 < "$room/RULES.4.sent"
+writes 'the cuts of docs/RULES.md' "$room/bytes.cuts" shown 2 8 < "$room/RULES.5.sent"
 
 # The numbers, against the papers' own words.
 given() { awk -v number="$1" '$1 == "REFUSALS" && $2 == number && $4 == sprintf("%02x", number)' "$room/answers" | grep -q .; } # NUMBER
@@ -103,4 +109,4 @@ grep -rhIoE '[Dd]ocument 01, "[^"]+"(( and|,) "[^"]+")*' README.md crates docs k
 sed -n 's/^###* //p' docs/RULES.md | sort > "$room/sections"
 [ "$(wc -l < "$room/cited")" -ge 10 ] && [ -z "$(comm -23 "$room/cited" "$room/sections")" ]
 tried $? "docs/RULES.md has the $(wc -l < "$room/cited") sections that are cited" || comm -23 "$room/cited" "$room/sections"
-finished $((sessions + 20))
+finished $((sessions + 23))
