@@ -277,7 +277,9 @@ fn the_light_looks_at_every_free_piece() {
     let (rest, strip) = (mark(4, 6), mark(5, 7));
     assert_eq!(line.free_list(), marks(&[rest, strip]));
     assert_eq!(counter.light(part(95, 10)), lit(strip));
-    assert_eq!(counter.light(part(60, 10)), lit(rest));
+    // it fits into the greater piece, which has no stage left for it
+    assert_eq!(counter.light(part(60, 10)), lit(strip));
+    assert_eq!(counter.light(part(30, 50)), lit(rest));
     assert_eq!(counter.light(part(95, 11)), DARK);
     assert_eq!(counter.light(Part { turn: 2, ..part(10, 95) }), lit(strip));
 }
