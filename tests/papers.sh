@@ -1,5 +1,5 @@
 #!/usr/bin/env bash
-# The sessions of the papers, through the counter: tests/papers.sh [long]
+# The sessions of the papers, through the counter, and those of docs/DESK.md through the desk: tests/papers.sh [long]
 # A block that is fenced as `session` is a run of the program from its start. A line of it is SENT -> ANSWER, with words behind two spaces; what is sent may be empty.
 # What stands between `repeat N` and `end` is sent N times, and there an answer * is any that is accepted. Sessions that repeat are too long for the gate: they are run if
 # `long` is said.
@@ -8,7 +8,7 @@
 set -u
 cd "$(dirname "$0")/.." || exit 2
 . tests/run.bash
-papers=(RULES FRAMES REFUSALS DIFFERENCES)
+papers=(RULES FRAMES REFUSALS DIFFERENCES DESK)
 
 # Of each session, in the order of the papers: PAPER.N.sent, its lines; PAPER.N.said, their answers; PAPER.N.long, if it repeats. A line for each answer in `marks`:
 # the paper, the number of its section, the answer's op and its second byte. What is neither goes to `unread`.
@@ -53,6 +53,7 @@ long=0
 for paper in "${papers[@]}"; do
   for sent in $(ls "$room/$paper".*.sent | sort -V); do
     session=${sent%.sent} answers=(run counter)
+    [ $paper != DESK ] || answers=(run desk)
     if [ -e "$session.long" ]; then
       long=$((long + 1)) answers=(starred "$session.said")
       [ "${1:-}" = long ] || continue
@@ -62,7 +63,7 @@ for paper in "${papers[@]}"; do
 done
 [ "$long" -eq 1 ]
 tried $? 'one session is long'
-sessions=22
+sessions=24
 [ "${1:-}" != long ] || sessions=$((sessions + long))
 
 # The bytes of docs/RULES.md are those that `inspect` shows: a tree snapshot after the first line of its last session, the light after the last line of the session

@@ -32,8 +32,10 @@ head -n $lines recorded/sessions.in > "$room/in"
 head -n $lines recorded/sessions.out > "$room/inspect"
 cut -d ' ' -f 1 "$room/inspect" > "$room/counter"
 
-for name in counter inspect; do
-  # counter also answers the long sessions
+cp "$room/counter" "$room/desk"
+
+for name in counter desk inspect; do
+  # counter and desk also answer the long sessions
   many=$room/in answers=$room/$name
   [ $name = inspect ] || many=recorded/long.in answers=recorded/long.out
 
@@ -81,4 +83,4 @@ for name in counter inspect; do
   (trap '' PIPE; run $name < recorded/sessions.in 2> "$room/err"; echo $? > "$room/status") | head -n 1 > /dev/null
   went "$name ends quietly when nobody reads" "$(cat "$room/status")" ''
 done
-finished 24
+finished 36

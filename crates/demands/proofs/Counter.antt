@@ -151,7 +151,7 @@ once-run n ns g (more {s} {t} {line = line} {a = a} {xs = xs} answer run) h =
     let w = way s (askedIn line) t a answer in
     once-run n ns (shaped-after g w) run (once-after n (openings xs ++ ns) g w (rw (← append-assoc (opens a) (openings xs) ns) h))
 
-shaped-run : {s t : Session} {lines : List Line} {xs : List Answer} → Shaped s → Runs s lines xs t → Shaped t
+pub shaped-run : {s t : Session} {lines : List Line} {xs : List Answer} → Shaped s → Runs s lines xs t → Shaped t
 shaped-run g none = g
 shaped-run g (more {s} {t} {line = line} {a = a} answer run) = shaped-run (shaped-after g (way s (askedIn line) t a answer)) run
 
@@ -241,6 +241,14 @@ marks-last-at-the-counter {t} {u} {v} {xs = xs} {ys = ys} first q a answer run k
     let before = from-start (k .layout) (opens a ++ openings ys) first (rw (openings-append xs (a ∷ ys)) at once) in
     let l = standing (k .layout) (once-after (k .layout) (openings ys) g w before) (sym (n .number)) sound in
     lasts {ls = l .0 .0} (l .0 .1) shaped run k n (l .1)
+
+-- and so does one that names a piece of a state of the run, whoever has written it
+pub a-named-mark-lasts : {t v : Session} {before after : List Line} {xs ys : List Answer} → Runs started before xs t → Runs t after ys v
+    → (k : Mark) → soundB (t .layout) ≡ true → NamesPiece (t .layout) k → OpenedOnce (k .layout) (openings (xs ++ ys)) → Lasts t ys v k
+a-named-mark-lasts {xs = xs} {ys = ys} first run k sound n once =
+    let before = from-start (k .layout) (openings ys) first (rw (openings-append xs ys) at once) in
+    let l = standing (k .layout) before (sym (n .number)) sound in
+    lasts {ls = l .0 .0} (l .0 .1) (shaped-run started-shaped first) run k n (l .1)
 
 -- ---- an input that arrives in chunks
 

@@ -1,6 +1,6 @@
 -- THE THREE DEMANDS, as theorems over the calls of a layout and over the lines of the counter. Read this first, with document 01 at hand. The words are in
 -- specs/Life.antt (the life of a layout, what a mark names), specs/Calls.antt (an accepted call, the same tree), specs/Examined.antt (what each call
--- answers to a layout that isn't sound) and specs/Counter.antt (the counter's answers). A call is given by its contract alone, so what is said holds of every program that meets it;
+-- answers to a layout that isn't sound) specs/Counter.antt (the counter's answers) and specs/Desk.antt (the desk's). A call is given by its contract alone, so what is said holds of every program that meets it;
 -- each contract has one answer (UniqueAnswers, SomeAnswer). `Sized` is what the type of a layout says: its arrays have as many entries as there are places. Nothing is assumed.
 use mathlib.Core.Path.{_≡_, refl}
 use mathlib.Core.List.{List, [], _∷_, _++_, List·Memᴰ}
@@ -49,10 +49,15 @@ use Rattle.frames.specs.Answers.{Answer, opened}
 use Rattle.session.specs.declared.Session.{Session}
 use Rattle.session.specs.Session.{Answers, started}
 use Rattle.session.specs.Listener.{Runs}
+use Rattle.desk_frames.specs.declared.DeskRequest.{DeskRequest}
+use Rattle.desk_frames.specs.Desk.{DeskAnswer, DeskAnswers}
+use Rattle.desk_frames.specs.Listener.{DeskRuns, counterAnswers}
 use Rattle.demands.specs.Life.{Given, Later, Life, NamesPiece, OneOf, SamePiece, openedOn, stock}
 use Rattle.demands.specs.Calls.{AreasCover, InsertAccepted, RemoveAccepted, SameTree}
 use Rattle.demands.specs.Examined.{Examined}
 use Rattle.demands.specs.Counter.{Lasts, Lives, OpenedOnce, marksWritten, openings}
+use Rattle.demands.specs.Desk.{WritesMark}
+use Rattle.demands.proofs.Desk as desk
 use Rattle.demands.proofs.Lives as lives
 use Rattle.demands.proofs.Marks as marks
 use Rattle.demands.proofs.MarksGiven as given
@@ -106,6 +111,12 @@ pub a-mark-at-the-counter : {t u v : Session} {before after : List Line} {xs ys 
     → (q : Request) (a : Answer) → Answers t q u a → Runs u after ys v
     → (k : Mark) → List·Memᴰ k (marksWritten a) → OpenedOnce (k .layout) (openings (xs ++ (a ∷ ys))) → Lasts u ys v k
 a-mark-at-the-counter = counter.marks-last-at-the-counter
+
+-- the same at the desk, whose questions write marks too: the light's, and those of the two lists
+pub a-mark-at-the-desk : {t u v : Session} {before after : List Line} {xs ys : List DeskAnswer} → DeskRuns started before xs t
+    → (q : DeskRequest) (a : DeskAnswer) → DeskAnswers t q u a → DeskRuns u after ys v
+    → (k : Mark) → WritesMark k t q a → OpenedOnce (k .layout) (openings (counterAnswers (xs ++ (a ∷ ys)))) → Lasts u (counterAnswers ys) v k
+a-mark-at-the-desk = desk.marks-last-at-the-desk
 
 -- a second opening of the number answers the same mark, and it names a piece of the new sheet: so the law is of a number that was opened once
 pub a-second-opening : (s t u v : Session) (o : Opening) (m : Mark) → Answers s (OfLayout (Open o)) t (opened m)

@@ -16,10 +16,26 @@ use Rattle.questions.specs.Written.{heldNumbers, snapshotBytes}
 use Rattle.saw.specs.Written.{sawBytes}
 use Rattle.questions.specs.WhyNot.{whyCall}
 use Rattle.session.specs.Replies.{both}
+use Rattle.marks.specs.declared.Refusal.the-variants.{NotSound}
+use Rattle.desk_frames.specs.declared.Question.{Question}
+use Rattle.desk_frames.specs.declared.Question.the-variants.{WhyNot, RoomLight, FreePiece, RemovablePiece, PartNumbers, Figures, Snapshot, Cuts}
+use Rattle.desk_frames.specs.Answers.{foundIn, refusedWith}
 use Rattle.session.proofs.Refused.{unsound-refused, unsound-kept-refused}
 use Rattle.demands.specs.Examined.{Examined, NothingWritten}
 
 module _ (l : Layout) (unsound : soundB l ≡ false) where
+  -- each question of the desk
+  no-question : (q : Question) → foundIn l q ≡ refusedWith NotSound
+  unfolding foundIn whyCall freePieceOf lightOf freeMarkOf removableMarkOf
+  no-question (WhyNot mark part) = rw unsound refl
+  no-question (RoomLight part) = rw unsound refl
+  no-question (FreePiece position) = rw unsound refl
+  no-question (RemovablePiece position) = rw unsound refl
+  no-question PartNumbers = rw unsound refl
+  no-question Figures = rw unsound refl
+  no-question Snapshot = rw unsound refl
+  no-question Cuts = rw unsound refl
+
   nothing-written : (what : List ℕ) → NothingWritten l what
   nothing-written what = record { answer = λ room. rw unsound refl; buffer = λ out. rw unsound refl }
 
@@ -49,6 +65,7 @@ module _ (l : Layout) (unsound : soundB l ≡ false) where
         whyNot = λ m p. rw unsound refl;
         counter = λ kept q op looks t a h. unsound-refused (both l kept) q op looks unsound t a h;
         counterRestoreTo = λ k t a h. unsound-kept-refused (both k l) unsound t a h;
+        desk = no-question;
       }
 
 -- "Layout and snapshot start all zero", which isn't sound: before an opening each call answers 1

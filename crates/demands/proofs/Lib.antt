@@ -16,5 +16,6 @@ pub mod MarksGiven
 pub mod CounterWays
 pub mod CounterSteps
 pub mod Counter
+pub mod Desk
 pub mod Reopened
 pub mod Demands

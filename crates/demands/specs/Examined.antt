@@ -1,5 +1,5 @@
 -- Demand 1: "Every call .. examines the layout it is handed first." What each public call answers to a layout that isn't sound, whatever else it is
--- handed: refusal 1, the layout as it came, zero in other fields, and a lent buffer as it was. One field to a call, and one for the ops of the counter.
+-- handed: refusal 1, the layout as it came, zero in other fields, and a lent buffer as it was. One field to a call, one for the ops of the counter, and one for the questions of the desk.
 -- (`Layout::sound` is the check itself.)
 use mathlib.Core.Path.{_≡_}
 use mathlib.Core.List.{List}
@@ -36,6 +36,8 @@ use Rattle.frames.specs.Answers.{Answer, refused}
 use Rattle.session.specs.declared.Session.{Session}
 use Rattle.session.specs.Session.{Answers, opOf, reply}
 use Rattle.session.specs.Replies.{both}
+use Rattle.desk_frames.specs.declared.Question.{Question}
+use Rattle.desk_frames.specs.Answers.{foundIn, refusedWith}
 
 -- of a call that would write this into a lent buffer
 pub record NothingWritten (l : Layout) (what : List ℕ) : Type 0 where
@@ -70,3 +72,5 @@ pub record Examined (l : Layout) : Type 0 where
   pub counter : (kept : Layout) (q : Request) (op : ℕ) → opOf q ≡ some op → (t : Session) (a : Answer) → Answers (both l kept) q t a
       → reply t a ≡ reply (both l kept) (refused op NotSound)
   pub counterRestoreTo : (k : Layout) (t : Session) (a : Answer) → Answers (both k l) Restore t a → reply t a ≡ reply (both k l) (refused 6 NotSound)
+  -- crate desk_frames: each question of the desk
+  pub desk : (q : Question) → foundIn l q ≡ refusedWith NotSound

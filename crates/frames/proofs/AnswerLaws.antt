@@ -9,7 +9,7 @@ use Rattle.marks.specs.declared.Refusal.{Refusal}
 use Rattle.marks.specs.declared.Refusal.the-variants.{NotSound, OpeningOutside, PartOutside, OtherLayout, Gone, NotFree, NotOffered, TheTop}
 use Rattle.marks.specs.declared.Refusal.the-variants.{FreePiece, TooManyNodes, SerialsSpent, PastTheEnd, BufferTooShort, Malformed as BadFrame}
 use Rattle.marks.specs.Refusals.{refusalNo}
-use Rattle.frames.specs.Bytes.{pairs, charsOf, total, two}
+use Rattle.frames.specs.Bytes.{pairs, charsOf, total, framed, two}
 use Rattle.frames.specs.Fields.{markBytes}
 use Rattle.frames.specs.Answers.{Answer, refused, opened, offered, inserted, removed, done, reported, malformed, each, offerBytes, contentOf}
 use Rattle.frames.specs.Answers.{answerBytes}
@@ -20,7 +20,7 @@ use Rattle.frames.proofs.Forms.{are-mark}
 pub answer-adds : (a : Answer) → total (answerBytes a) % 256 ≡ 0
 answer-adds a = framed-adds (contentOf a)
 
-refusal-small : (r : Refusal) → refusalNo r < 256
+pub refusal-small : (r : Refusal) → refusalNo r < 256
 refusal-small NotSound = omega arith
 refusal-small OpeningOutside = omega arith
 refusal-small PartOutside = omega arith
@@ -36,7 +36,7 @@ refusal-small PastTheEnd = omega arith
 refusal-small BufferTooShort = omega arith
 refusal-small BadFrame = omega arith
 
-are-each : {A : Type 0} {P : A → Type 0} (bytes : A → List ℕ)
+pub are-each : {A : Type 0} {P : A → Type 0} (bytes : A → List ℕ)
     → ((x : A) → P x → AreBytes (bytes x)) → {xs : List A} → Each P xs → AreBytes (each bytes xs)
 unfolding each
 are-each bytes ok none = no-bytes
@@ -48,7 +48,7 @@ are-offers [] = no-bytes
 are-offers (o ∷ os) = then (rotation-small (o .rotation)) (then (shape-small (o .shape)) (are-offers os))
 
 -- an op and a number before further bytes
-begun : {op n : ℕ} {bs : List ℕ} → op < 256 → n < 256 → AreBytes bs → AreBytes (op ∷ n ∷ bs)
+pub begun : {op n : ℕ} {bs : List ℕ} → op < 256 → n < 256 → AreBytes bs → AreBytes (op ∷ n ∷ bs)
 begun h k e = then h (then k e)
 
 are-content : (a : Answer) → AnswerFits a → AreBytes (contentOf a)
@@ -66,5 +66,9 @@ are-content (reported used nodes bits) f =
     begun (omega arith) (omega arith) (join (are-eight used (f .0)) (then (omega arith) (are-eight bits (f .2))))
 are-content malformed f = begun (omega arith) (omega arith) no-bytes
 
+-- the line of any content that is made of bytes
+pub content-back : {bs : List ℕ} → AreBytes bs → pairs (charsOf (framed bs)) ≡ framed bs
+content-back {bs} e = pairs-chars (framed bs) (are-framed e .tested)
+
 pub answer-back : (a : Answer) → AnswerFits a → pairs (charsOf (answerBytes a)) ≡ answerBytes a
-answer-back a f = pairs-chars (answerBytes a) (are-framed (are-content a f) .tested)
+answer-back a f = content-back (are-content a f)

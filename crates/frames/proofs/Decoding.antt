@@ -10,7 +10,8 @@ use lib.Seq.{take-suc, take-all, length-take-le, split-at}
 use borrow.Author.Tests.{lt-ltb, le-ltb}
 use Rattle.hex.specs.Hex.{pairOf}
 use Rattle.frames.specs.Bytes.{pairs, allBytes, total}
-use Rattle.frames.specs.Inner.{paddedBytes, Decodes}
+use Rattle.frames.specs.Framing.{paddedBytes}
+use Rattle.frames.specs.Inner.{Decodes}
 use Rattle.frames.proofs.Lists.{sets-append, length-pairs, pair-at, total-append, all-append}
 
 -- the first i bytes are read

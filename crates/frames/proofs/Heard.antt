@@ -1,13 +1,13 @@
 -- The other way round: a line that is not malformed is the frame of what it asks. So each request has one line, and every other line is malformed.
 use mathlib.Core.Path.{_≡_, refl, sym, ap, _∙_, ap₂}
 use mathlib.Core.Logic.{_⊎_, inl, inr, ⊎-elim}
-use mathlib.Core.Bool.{Bool, true, false, _&&_}
+use mathlib.Core.Bool.{Bool, true, _&&_}
 use mathlib.Core.List.{List, [], _∷_, _++_}
 use Prim.Native.Nat.{ℕ, _+_, _-_, _/_, _%_, _<_, _≤_}
 use native.Mathlib.Omega.{arith}
 use lib.Dec.{eqb, leb, ltb}
 use lib.ListN.{length, getD}
-use borrow.Author.Tests.{ltb-true, ltb-false, leb-true, leb-false, eqb-true, eqb-false, lt-ltb, le-ltb}
+use borrow.Author.Tests.{ltb-true, ltb-false, leb-true, leb-false, eqb-true, lt-ltb, le-ltb}
 use Rattle.piece.specs.Numbers.{cutListed, turnListed, rotationListed, shapeListed}
 use Rattle.piece.proofs.Numbers.{cut-stays, turn-stays, rotation-stays, shape-stays}
 use Rattle.hex.specs.Hex.{digitOf, letterOf, pairOf}
@@ -17,8 +17,8 @@ use Rattle.frames.specs.declared.Request.{Request}
 use Rattle.frames.specs.declared.Request.the-variants.{OfLayout, Keep, Restore, Malformed}
 use Rattle.frames.specs.Bytes.{pairs, allBytes, charsOf, total, checkOf, framed}
 use Rattle.frames.specs.Fields.{widths, values, allListed, appliedTo}
-use Rattle.frames.specs.Requests.{Form, openForm, offersForm, insertForm, removeForm, bareForm, formOf, lengthOf, readAs, askedBy}
-use Rattle.frames.specs.Requests.{wellFormed, requestOf, carried, carriedBy, frameOf}
+use Rattle.frames.specs.Requests.{Form, openForm, offersForm, insertForm, removeForm, bareForm, formOf, formLength, readBy}
+use Rattle.frames.specs.Requests.{isFrame, fitsForms, lineAsks, requestOf, carried, carriedBy, frameOf}
 use Rattle.frames.specs.Ranges.{RequestFits}
 use Rattle.frames.proofs.Lists.{total-append}
 use Rattle.frames.proofs.Laws.{by-test, first-true, second-true}
@@ -91,20 +91,105 @@ chars-pairs (h ∷ l ∷ s) e a =
     let rest = chars-pairs s (omega arith) (second-true (ltb (pairOf h l) 256) (allBytes (pairs s)) a) in
     rw (first-letter h l small, second-letter h l small, rest) refl
 
+-- what a frame is
+pub record FrameFacts (line : List ℕ) : Type 0 where
+  pub even : length line % 2 ≡ 0
+  pub bytes : allBytes (pairs line) ≡ true
+  pub adds : total (pairs line) % 256 ≡ 0
+
+pub frame-facts : (line : List ℕ) → isFrame line ≡ true → FrameFacts line
+unfolding isFrame
+frame-facts line w =
+    let adds = eqb (total (pairs line) % 256) 0 in
+    let digits = allBytes (pairs line) in
+    let even = eqb (length line % 2) 0 in
+    let x : (even && (digits && adds)) ≡ true = second-true (leb (length line) 64) (even && (digits && adds)) w in
+    let y : (digits && adds) ≡ true = second-true even (digits && adds) x in
+    record {
+      even = eqb-true (length line % 2) 0 (first-true even (digits && adds) x);
+      bytes = first-true digits adds y;
+      adds = eqb-true (total (pairs line) % 256) 0 (second-true digits adds y);
+    }
+
 -- the last byte is the check of those before it
-closed : (b c : List ℕ) (k : ℕ) (q : Request) → b ≡ c ++ (k ∷ []) → k < 256 → total b % 256 ≡ 0 → c ≡ carriedBy q → b ≡ framed (carriedBy q)
+closed : (b c : List ℕ) (k : ℕ) → b ≡ c ++ (k ∷ []) → k < 256 → total b % 256 ≡ 0 → b ≡ framed c
 unfolding total
-closed b c k q e small adds h =
+closed b c k e small adds =
     let check : k ≡ checkOf c = omega (arith, ap total e, total-append c (k ∷ [])) in
-    e ∙ ap (λ (x : ℕ). c ++ (x ∷ [])) check ∙ ap framed h
+    e ∙ ap (λ (x : ℕ). c ++ (x ∷ [])) check
 
--- ---- each op: what numbers of its fields make, if all are listed, carries them and fits
-record Means (op : ℕ) (f : Form) (vs : List ℕ) (q : Request) : Type 0 where
-  carries : (q ≡ Malformed) ⊎ (carriedBy q ≡ carried op f vs)
-  fits : RequestFits q
+-- ---- over any table of forms: `bad` is what a malformed line asks, `bytesOf` says what each request carries, `Fitting` which of them fit their fields
 
-abbrev Meant : ℕ → Form → Type 0
-Meant op f = (vs : List ℕ) → Fits (f .fields) vs → allListed (f .fields) vs ≡ true → Means op f vs (appliedTo (f .fields) (f .asks) vs)
+-- what numbers of the fields of an op make carries them, and fits
+pub record Means {A : Type 0} (bad : A) (bytesOf : A → List ℕ) (Fitting : A → Type 0) (op : ℕ) (f : Form A) (vs : List ℕ) (q : A) : Type 0 where
+  pub carries : (q ≡ bad) ⊎ (bytesOf q ≡ carried op f vs)
+  pub fits : Fitting q
+
+-- if all are listed
+abbrev pub Meaning : {A : Type 0} → A → (A → List ℕ) → (A → Type 0) → ℕ → Form A → Type 0
+Meaning bad bytesOf Fitting op f =
+    (vs : List ℕ) → Fits (f .fields) vs → allListed (f .fields) vs ≡ true → Means bad bytesOf Fitting op f vs (appliedTo (f .fields) (f .asks) vs)
+
+-- a line is that of what it asks, or it is malformed; and what it asks fits
+pub record HeardBy {A : Type 0} (bad : A) (bytesOf : A → List ℕ) (Fitting : A → Type 0) (line : List ℕ) (q : A) : Type 0 where
+  pub frame : (q ≡ bad) ⊎ (line ≡ charsOf (framed (bytesOf q)))
+  pub fits : Fitting q
+
+module _ {A : Type 0} (bad : A) (bytesOf : A → List ℕ) (Fitting : A → Type 0) (bad-fits : Fitting bad) where
+  pub bare-means : (op : ℕ) (q : A) → (q ≡ bad) ⊎ (bytesOf q ≡ op ∷ []) → Fitting q → Meaning bad bytesOf Fitting op (bareForm q)
+  bare-means op q c f vs none h = record { carries = c; fits = f }
+
+  -- bytes of the length of their op are the frame of what they ask, or ask nothing; and what they ask fits
+  record HeardIn (b : List ℕ) (q : A) : Type 0 where
+    frame : (q ≡ bad) ⊎ (b ≡ framed (bytesOf q))
+    fits : Fitting q
+
+  form-heard : (b : List ℕ) → allBytes b ≡ true → total b % 256 ≡ 0 → (op : ℕ) (f : Form A) → Meaning bad bytesOf Fitting op f
+      → length b ≡ 2 + widths (f .fields) → getD b 0 0 ≡ op → HeardIn b (readBy bad f b)
+  form-heard [] a adds op f means n o = absurd (omega arith)
+  form-heard (x ∷ c) a adds op f means n o =
+      let z = whole (f .fields) c (all-drop 1 (x ∷ c) a) (omega arith) in
+      let vs = values (f .fields) c 0 in
+      let read : values (f .fields) (x ∷ c) 1 ≡ vs = sym (values-drop (f .fields) (x ∷ c) 1) in
+      let bytes : x ∷ c ≡ carried op f vs ++ (z .last ∷ []) = ap₂ (λ (y : ℕ) (l : List ℕ). y ∷ l) o (z .shown) in
+      rw read
+      (by-test (allListed (f .fields) vs)
+      (λ e.
+      let m = means vs (z .fits) e in
+      rw e (record {
+        frame = ⊎-elim inl (λ h. inr (closed (x ∷ c) (carried op f vs) (z .last) bytes (z .small) adds ∙ ap framed (sym h))) (m .carries);
+        fits = m .fits;
+      }))
+      (λ e. rw e (record { frame = inl refl; fits = bad-fits })))
+
+  -- every line
+  module _ (forms : ℕ → Form A) (means : (op : ℕ) → Meaning bad bytesOf Fitting op (forms op)) (line : List ℕ) where
+    abbrev b : List ℕ
+    b = pairs line
+
+    abbrev fitting : Bool
+    fitting = eqb (length b) (formLength (forms (getD b 0 0)))
+
+    module _ (w : fitsForms forms line ≡ true) where
+      framed-well : isFrame line ≡ true
+      framed-well = first-true (isFrame line) fitting w
+
+      long : length b ≡ formLength (forms (getD b 0 0))
+      long = eqb-true (length b) (formLength (forms (getD b 0 0))) (second-true (isFrame line) fitting w)
+
+      well-heard : HeardBy bad bytesOf Fitting line (readBy bad (forms (getD b 0 0)) b)
+      well-heard =
+          let f = frame-facts line framed-well in
+          let h = form-heard b (f .bytes) (f .adds) (getD b 0 0) (forms (getD b 0 0)) (means (getD b 0 0)) long refl in
+          record { frame = ⊎-elim inl (λ e. inr (sym (chars-pairs line (f .even) (f .bytes)) ∙ ap charsOf e)) (h .frame); fits = h .fits }
+
+    pub table-heard : HeardBy bad bytesOf Fitting line (lineAsks bad forms line)
+    table-heard =
+        by-test (fitsForms forms line) (λ w. rw w (well-heard w)) (λ e. rw e (record { frame = inl refl; fits = bad-fits }))
+
+-- ---- each op of the counter's
+abbrev Meant : ℕ → Form Request → Type 0
+Meant op f = Meaning Malformed carriedBy RequestFits op f
 
 open-meant : Meant 1 openForm
 unfolding carriedBy
@@ -139,7 +224,7 @@ unfolding carriedBy
 remove-meant vs (more a (more b (more c none))) h = record { carries = inr refl; fits = record { layout = a; place = b; serial = c } }
 
 bare-meant : (op : ℕ) (q : Request) → (q ≡ Malformed) ⊎ (carriedBy q ≡ op ∷ []) → RequestFits q → Meant op (bareForm q)
-bare-meant op q c f vs none h = record { carries = c; fits = f }
+bare-meant = bare-means Malformed carriedBy RequestFits tt
 
 form-meant : (op : ℕ) → Meant op (formOf op)
 unfolding formOf carriedBy
@@ -153,81 +238,14 @@ form-meant op =
     (λ e6. by-test (eqb op 7) (λ e. rw (eqb-true op 7 e) (bare-meant 7 (OfLayout Report) (inr refl) tt))
     (λ e7. rw (e1, e2, e3, e4, e5, e6, e7) (bare-meant op Malformed (inl refl) tt))))))))
 
--- ---- bytes of the length of their op are the frame of what they ask, or ask nothing; and what they ask fits
-record Heard (b : List ℕ) (q : Request) : Type 0 where
-  frame : (q ≡ Malformed) ⊎ (b ≡ framed (carriedBy q))
-  fits : RequestFits q
-
-form-heard : (b : List ℕ) → allBytes b ≡ true → total b % 256 ≡ 0 → (op : ℕ) (f : Form) → Meant op f → length b ≡ 2 + widths (f .fields)
-    → getD b 0 0 ≡ op → Heard b (readAs f b)
-form-heard [] a adds op f means n o = absurd (omega arith)
-form-heard (x ∷ c) a adds op f means n o =
-    let z = whole (f .fields) c (all-drop 1 (x ∷ c) a) (omega arith) in
-    let vs = values (f .fields) c 0 in
-    let read : values (f .fields) (x ∷ c) 1 ≡ vs = sym (values-drop (f .fields) (x ∷ c) 1) in
-    let bytes : x ∷ c ≡ carried op f vs ++ (z .last ∷ []) = ap₂ (λ (y : ℕ) (l : List ℕ). y ∷ l) o (z .shown) in
-    rw read
-    (by-test (allListed (f .fields) vs)
-    (λ e.
-    let m = means vs (z .fits) e in
-    rw e (record {
-      frame = ⊎-elim inl (λ h. inr (closed (x ∷ c) (carried op f vs) (z .last) _ bytes (z .small) adds (sym h))) (m .carries);
-      fits = m .fits;
-    }))
-    (λ e. rw e (record { frame = inl refl; fits = tt })))
-
-asked-heard : (b : List ℕ) → allBytes b ≡ true → total b % 256 ≡ 0 → length b ≡ lengthOf (getD b 0 0) → Heard b (askedBy (getD b 0 0) b)
-unfolding askedBy lengthOf
-asked-heard b a adds n = form-heard b a adds (getD b 0 0) (formOf (getD b 0 0)) (form-meant (getD b 0 0)) n refl
-
--- ---- every line
 module _ (line : List ℕ) where
-  abbrev b : List ℕ
-  b = pairs line
-
-  abbrev tests : Bool
-  tests = eqb (total b % 256) 0 && eqb (length b) (lengthOf (getD b 0 0))
-
-  asked : wellFormed line ≡ true → requestOf line ≡ askedBy (getD b 0 0) b
+  line-heard : HeardBy Malformed carriedBy RequestFits line (requestOf line)
   unfolding requestOf
-  asked w = rw w refl
-
-  bad : wellFormed line ≡ false → requestOf line ≡ Malformed
-  unfolding requestOf
-  bad w = rw w refl
-
-  module _ (w : wellFormed line ≡ true) where
-    past-length : (eqb (length line % 2) 0 && (allBytes b && tests)) ≡ true
-    unfolding wellFormed
-    past-length = second-true (leb (length line) 64) (eqb (length line % 2) 0 && (allBytes b && tests)) w
-
-    past-even : (allBytes b && tests) ≡ true
-    past-even = second-true (eqb (length line % 2) 0) (allBytes b && tests) past-length
-
-    even : length line % 2 ≡ 0
-    even = eqb-true (length line % 2) 0 (first-true (eqb (length line % 2) 0) (allBytes b && tests) past-length)
-
-    bytes : allBytes b ≡ true
-    bytes = first-true (allBytes b) tests past-even
-
-    past-bytes : tests ≡ true
-    past-bytes = second-true (allBytes b) tests past-even
-
-    adds : total b % 256 ≡ 0
-    adds = eqb-true (total b % 256) 0 (first-true (eqb (total b % 256) 0) (eqb (length b) (lengthOf (getD b 0 0))) past-bytes)
-
-    long : length b ≡ lengthOf (getD b 0 0)
-    long = eqb-true (length b) (lengthOf (getD b 0 0)) (second-true (eqb (total b % 256) 0) (eqb (length b) (lengthOf (getD b 0 0))) past-bytes)
-
-    well-heard : (requestOf line ≡ Malformed) ⊎ (line ≡ frameOf (requestOf line))
-    well-heard =
-        ⊎-elim (λ m. inl (asked w ∙ m))
-        (λ e. inr (sym (chars-pairs line even bytes) ∙ ap charsOf e ∙ ap frameOf (sym (asked w))))
-        (asked-heard b bytes adds long .frame)
+  line-heard = table-heard Malformed carriedBy RequestFits tt formOf form-meant line
 
   pub heard : (requestOf line ≡ Malformed) ⊎ (line ≡ frameOf (requestOf line))
-  heard = by-test (wellFormed line) well-heard (λ e. inl (bad e))
+  heard = line-heard .frame
 
   -- and a line asks only what fits
   pub request-fits : RequestFits (requestOf line)
-  request-fits = by-test (wellFormed line) (λ w. rw (asked w) (asked-heard b (bytes w) (adds w) (long w) .fits)) (λ e. rw (bad e) tt)
+  request-fits = line-heard .fits

@@ -15,7 +15,7 @@ use Rattle.marks.specs.declared.Refusal.the-variants.{Gone}
 use Rattle.frames.specs.declared.Ask.the-variants.{Open, Insert}
 use Rattle.frames.specs.declared.Request.the-variants.{OfLayout, Malformed}
 use Rattle.frames.specs.Bytes.{pairs, allBytes, charsOf, total}
-use Rattle.frames.specs.Requests.{formOf, lengthOf, askedBy, wellFormed, requestOf}
+use Rattle.frames.specs.Requests.{formOf, isFrame, requestOf}
 use Rattle.frames.specs.Answers.{opened, inserted, refused, malformed, each, contentOf, answerLine}
 
 unfoldable pub codes : String → List ℕ
@@ -28,13 +28,13 @@ mark place serial = record { layout = 1; place = place; serial = serial }
 pub asks-opening :
     requestOf (codes "010001000000640000003c01035a")
     ≡ OfLayout (Open (record { number = 1; settings = record { stages = 3; sheet = record { width = 100; height = 60 } }; cut = Vertical }))
-unfolding codes requestOf wellFormed pairs allBytes total lengthOf formOf askedBy digitOf pairOf
+unfolding codes requestOf isFrame pairs allBytes total formOf digitOf pairOf
 asks-opening = refl
 
 pub asks-insertion :
     requestOf (codes "03000101000000020007000000280000003c0000018d")
     ≡ OfLayout (Insert (mark 1 2) (record { number = 7; size = record { width = 40; height = 60 }; turn = Either }) Default AlongCurrentCut)
-unfolding codes requestOf wellFormed pairs allBytes total lengthOf formOf askedBy digitOf pairOf
+unfolding codes requestOf isFrame pairs allBytes total formOf digitOf pairOf
 asks-insertion = refl
 
 -- an empty line, an upper-case digit, a character too many, a wrong check
@@ -43,7 +43,7 @@ pub malformed-lines :
     × (requestOf (codes "010001000000640000003C01035a") ≡ Malformed)
     × (requestOf (codes "010001000000640000003c01035a0") ≡ Malformed)
     × (requestOf (codes "010001000000640000003c01035b") ≡ Malformed)
-unfolding codes requestOf wellFormed pairs allBytes total lengthOf formOf askedBy digitOf pairOf
+unfolding codes requestOf isFrame pairs allBytes total formOf digitOf pairOf
 malformed-lines = (refl, refl, refl, refl)
 
 pub answers-opening : answerLine (opened (mark 1 2)) ≡ codes "010000010100000002fb\n"

@@ -1,4 +1,4 @@
--- Writing in a row: what two writes leave, a list's turn, and an answer's end.
+-- Writing in a row: what two writes leave, a list's turn, and a line's end.
 use mathlib.Core.Path.{_≡_, refl, sym, ap, _∙_}
 use mathlib.Core.List.{List, [], _∷_, _++_, append-assoc, append-nil}
 use Prim.Native.Nat.{ℕ, suc, _+_, _-_, _*_, _/_, _%_, _^_, _<_, _≤_}
@@ -9,10 +9,9 @@ use lib.ListN.{length, getD, set, take, length-append}
 use lib.Seq.{sets, length-sets, take-suc, length-take-le}
 use Rattle.hex.specs.Hex.{letterOf}
 use Rattle.frames.specs.declared.write.Pen.{Pen}
-use Rattle.frames.specs.Bytes.{charsOf, total, checkOf, framed, lineOfBytes}
-use Rattle.frames.specs.Answers.{Answer, each, contentOf, answerLine}
-use Rattle.frames.specs.Writing.{AnswerPut}
-use Rattle.frames.specs.Inner.{freshPen, ending, Wrote}
+use Rattle.frames.specs.Bytes.{charsOf, total, checkOf}
+use Rattle.frames.specs.Answers.{each}
+use Rattle.frames.specs.Writing.{Wrote, freshPen, ending, lineFor, LinePut}
 use Rattle.frames.proofs.Lists.{sets-append, total-append, chars-append, length-chars}
 
 module _ {l m n a b : List ℕ} {p q r : Pen} where
@@ -75,6 +74,15 @@ module _ {A : Type 0} (bytes : A → List ℕ) where
       ∙ each-append (take i xs) (getD xs i d ∷ [])
       ∙ ap (λ (t : List ℕ). each bytes (take i xs) ++ t) (append-nil (bytes (getD xs i d)))
 
+-- bytes, each written as itself
+abbrev pub itself : ℕ → List ℕ
+itself b = b ∷ []
+
+pub each-itself : (bs : List ℕ) → each itself bs ≡ bs
+unfolding each
+each-itself [] = refl
+each-itself (b ∷ bs) = ap (λ (t : List ℕ). b ∷ t) (each-itself bs)
+
 -- a loop that writes a list up to n, element by element: the first i are written
 pub record Turns {A : Type 0} (bytes : A → List ℕ) (xs : List A) (n : ℕ) (l : List ℕ) (p : Pen) (i : ℕ) (m : List ℕ) (q : Pen) : Type 0 where
   pub wrote : Wrote l p (each bytes (take i xs)) m q
@@ -89,17 +97,14 @@ module _ {A : Type 0} {bytes : A → List ℕ} {xs : List A} {n : ℕ} {l : List
     pub turn : {m′ : List ℕ} {q′ : Pen} (d : A) → i < n → n ≤ length xs → Wrote m q (bytes (getD xs i d)) m′ q′ → Turns bytes xs n l p (i + 1) m′ q′
     turn d h f y = record { wrote = rw (one-more bytes xs i d (omega arith)) (and-then (w .wrote) y); most = omega arith }
 
-    -- where each takes k bytes, and there was room for the count and n of them, there is room for one more
-    pub next-room : {l₀ : List ℕ} {p₀ : Pen} {b : ℕ} (k : ℕ) → ((x : A) → length (bytes x) ≡ k) → Wrote l₀ p₀ (b ∷ []) l p → i < n → n ≤ length xs
-        → p₀ .at + (2 + 2 * (k * n)) ≤ length l₀ → q .at + 2 * k ≤ length m
-    next-room k e count h f room =
+    -- where each takes k bytes, and there was room for n of them, there is room for one more
+    pub next-room : (k : ℕ) → ((x : A) → length (bytes x) ≡ k) → i < n → n ≤ length xs → p .at + 2 * (k * n) ≤ length l → q .at + 2 * k ≤ length m
+    next-room k e h f room =
         let more : suc i ≤ n = omega arith in
         omega (
           arith,
           mul-suc k i,
           mul-le-mul-left k more,
-          count .moved,
-          same-room count,
           w .wrote .moved,
           same-room (w .wrote),
           length-taken bytes k e xs i (omega arith),
@@ -112,16 +117,17 @@ length-ending : (s : ℕ) → length (ending s) ≡ 3
 unfolding charsOf
 length-ending s = refl
 
--- an answer's end has room
+-- a line's end has room
 pub end-room : {l m bs : List ℕ} {q : Pen} → Wrote l freshPen bs m q → 2 * length bs + 3 ≤ length l → q .at + 3 ≤ length m
 end-room w h = omega (arith, w .moved, same-room w)
 
-pub answered : {l m n bs : List ℕ} {p : Pen} {r : ℕ} (a : Answer) → contentOf a ≡ bs → Wrote l freshPen bs m p
-    → (r ≡ p .at + 3) × (n ≡ sets m (p .at) (ending (p .sum))) → AnswerPut l a n r
-answered {l} {m} {n} {bs} {p} {r} a e w f =
+-- a line of any content, from what was written and its end
+pub answered : {l m n bs content : List ℕ} {p : Pen} {r : ℕ} → content ≡ bs → Wrote l freshPen bs m p
+    → (r ≡ p .at + 3) × (n ≡ sets m (p .at) (ending (p .sum))) → LinePut l content n r
+answered {l} {m} {n} {bs} {content} {p} {r} e w f =
     let same : checkOf bs ≡ (256 - p .sum % 256) % 256 = omega (arith, w .added) in
-    let shown : answerLine a ≡ charsOf bs ++ ending (p .sum) =
-    ap (λ (c : List ℕ). lineOfBytes (framed c)) e
+    let shown : lineFor content ≡ charsOf bs ++ ending (p .sum) =
+    ap lineFor e
     ∙ ap (λ (c : List ℕ). c ++ (10 ∷ [])) (chars-append bs (checkOf bs ∷ []))
     ∙ append-assoc (charsOf bs) (charsOf (checkOf bs ∷ [])) (10 ∷ [])
     ∙ ap (λ (k : ℕ). charsOf bs ++ (charsOf (k ∷ []) ++ (10 ∷ []))) same in

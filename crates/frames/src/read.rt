@@ -1,9 +1,11 @@
 // Reading a frame: characters to bytes with their check, then the fields of each op. Rests on hex.
 ghost use mathlib.Core.Path.{_≡_};
+ghost use mathlib.Core.Bool.{false};
 ghost use Prim.Native.Nat.{_+_, _≤_};
 ghost use lib.ListN.{length};
 ghost use Rattle.frames.specs.Bytes.{twoAt, fourAt};
 ghost use Rattle.frames.specs.Inner.{Decodes};
+ghost use Rattle.frames.specs.Framing.{ReadsFrame};
 ghost use Rattle.frames.specs.Fields.{markFields, partFields, widths, sizeAt, markAt, partAt};
 ghost use Rattle.frames.specs.Requests.{readOpen, readOffers, readInsert, readRemove, lengthOf, askedBy, requestOf};
 use crate::Ask;
@@ -24,7 +26,7 @@ pub const LONGEST_LINE: usize = 64;
 // The bytes of a field.
 const BYTE: usize = 1;
 
-const TWO: usize = 2;
+pub const TWO: usize = 2;
 
 const FOUR: usize = 4;
 
@@ -35,18 +37,18 @@ const MARK_PLACE: usize = TWO;
 
 const MARK_SERIAL: usize = MARK_PLACE + BYTE;
 
-const MARK: usize = MARK_SERIAL + FOUR;
+pub const MARK: usize = MARK_SERIAL + FOUR;
 
 const PART_SIZE: usize = TWO;
 
-const PART_TURN: usize = PART_SIZE + SIZE;
+pub const PART_TURN: usize = PART_SIZE + SIZE;
 
-const PART: usize = PART_TURN + BYTE;
+pub const PART: usize = PART_TURN + BYTE;
 
 // A frame: byte 0 is its op, the fields of the op follow, and the check is last; and how many bytes it is.
-const FIRST: usize = BYTE;
+pub const FIRST: usize = BYTE;
 
-const CHECK: usize = BYTE;
+pub const CHECK: usize = BYTE;
 
 const OPEN_SIZE: usize = FIRST + TWO;
 
@@ -74,7 +76,7 @@ const INSERT: usize = INSERT_SHAPE + BYTE + CHECK;
 
 const REMOVE: usize = FIRST + MARK + CHECK;
 
-const BARE: usize = FIRST + CHECK;
+pub const BARE: usize = FIRST + CHECK;
 
 // The bytes of a line, zero past the last; their sum, counting past 255 from 0 again; and whether all characters are digits.
 struct Decoded {
@@ -113,7 +115,7 @@ fn decode(line: &[u8]) -> Decoded
 
 // Fields, from the byte i on.
 
-fn two_at(b: &[u8; 32], i: usize) -> u16
+pub fn two_at(b: &[u8; 32], i: usize) -> u16
     requires { ⌜ i + 2 ≤ 32 ⌝ }
     ensures { λ r. ⌜ r ≡ twoAt (now (b .entry)) i ⌝ }
 {
@@ -143,7 +145,7 @@ fn wide(byte: u8) -> u16
     byte as u16
 }
 
-fn mark_at(b: &[u8; 32], i: usize) -> Mark
+pub fn mark_at(b: &[u8; 32], i: usize) -> Mark
     requires { ⌜ i + widths markFields ≤ 32 ⌝ }
     ensures { λ r. ⌜ r ≡ markAt (now (b .entry)) i ⌝ }
 {
@@ -154,7 +156,7 @@ fn mark_at(b: &[u8; 32], i: usize) -> Mark
     }
 }
 
-fn part_at(b: &[u8; 32], i: usize) -> PartType
+pub fn part_at(b: &[u8; 32], i: usize) -> PartType
     requires { ⌜ i + widths partFields ≤ 32 ⌝ }
     ensures { λ r. ⌜ r ≡ partAt (now (b .entry)) i ⌝ }
 {
@@ -261,27 +263,60 @@ fn asked_by(op: u8, b: &[u8; 32]) -> Request
     }
 }
 
-// What a line asks, its newline not among its characters.
-pub fn request(line: &[u8]) -> Request
-    ensures { λ r. ⌜ r ≡ requestOf (now (line .entry)) ⌝ }
+// A line as the bytes of a frame, its op first, zero past the last; how many there are; and whether it is a frame at all.
+pub struct Frame {
+    pub bytes: [u8; 32],
+    pub count: usize,
+    pub good: bool,
+}
+
+fn no_frame() -> Frame
+    ensures { λ r. ⌜ r .good ≡ false ⌝ }
+{
+    Frame {
+        bytes: [0u8; 32],
+        count: 0,
+        good: false,
+    }
+}
+
+// The frame in a line, whose newline is not among its characters, whatever its op is.
+pub fn frame_in(line: &[u8]) -> Frame
+    ensures { λ r. ⌜ ReadsFrame (now (line .entry)) r ⌝ }
 {
     let n = line.len();
     if LONGEST_LINE < n {
-        return Request::Malformed;
+        return no_frame();
     }
     if n % 2 != 0 {
+        return no_frame();
+    }
+    let decoded = decode(line);
+    if decoded.good {} else {
+        return no_frame();
+    }
+    if decoded.sum != 0 {
+        return no_frame();
+    }
+    let bytes = decoded.bytes;
+    Frame {
+        bytes,
+        count: n / 2,
+        good: true,
+    }
+}
+
+// What a line asks.
+pub fn request(line: &[u8]) -> Request
+    ensures { λ r. ⌜ r ≡ requestOf (now (line .entry)) ⌝ }
+{
+    let given = frame_in(line);
+    if given.good {} else {
         return Request::Malformed;
     }
-    let frame = decode(line);
-    if frame.good {} else {
-        return Request::Malformed;
-    }
-    if frame.sum != 0 {
-        return Request::Malformed;
-    }
-    let bytes = frame.bytes;
+    let bytes = given.bytes;
     let op = bytes[0];
-    if n / 2 != length_of(op) {
+    if given.count != length_of(op) {
         return Request::Malformed;
     }
     asked_by(op, &bytes)

@@ -1,4 +1,5 @@
-// Writing an answer: its bytes as characters into a lent buffer, then their check and a newline. Rests on hex.
+// Writing an answer: its bytes as characters into a lent buffer, then their check and a newline. The pen and what it writes are for the desk too, whose
+// answers have the same form. Rests on hex.
 ghost use mathlib.Core.Path.{_≡_};
 ghost use mathlib.Core.List.{[], _∷_};
 ghost use Prim.Native.Nat.{_+_, _*_, _≤_};
@@ -7,20 +8,19 @@ ghost use lib.Seq.{sets};
 ghost use Rattle.frames.specs.Bytes.{two, four, eight};
 ghost use Rattle.frames.specs.Fields.{markBytes};
 ghost use Rattle.frames.specs.Answers.{Answer, offerBytes, each};
-ghost use Rattle.frames.specs.Writing.{AnswerPut};
-ghost use Rattle.frames.specs.Inner.{Wrote, freshPen, ending};
+ghost use Rattle.frames.specs.Writing.{AnswerPut, Wrote, freshPen, ending};
 use marks::Mark;
 use marks::Refusal;
 use piece::insertion_option::Offer;
 use piece::insertion_option::OfferList;
 
 // Where the next character goes, and the sum of the bytes so far, counting past 255 from 0 again.
-struct Pen {
-    at: usize,
-    sum: u8,
+pub struct Pen {
+    pub at: usize,
+    pub sum: u8,
 }
 
-fn put(out: &mut [u8], pen: Pen, byte: u8) -> Pen
+pub fn put(out: &mut [u8], pen: Pen, byte: u8) -> Pen
     requires { ⌜ pen .at + 2 ≤ length (now out) ⌝ }
     ensures { λ r. ⌜ Wrote (now (out .entry)) pen (byte ∷ []) (now (out .exit)) r ⌝ }
 {
@@ -35,7 +35,7 @@ fn put(out: &mut [u8], pen: Pen, byte: u8) -> Pen
 
 // Fields, highest byte first.
 
-fn put_two(out: &mut [u8], pen: Pen, n: u16) -> Pen
+pub fn put_two(out: &mut [u8], pen: Pen, n: u16) -> Pen
     requires { ⌜ pen .at + 4 ≤ length (now out) ⌝ }
     ensures { λ r. ⌜ Wrote (now (out .entry)) pen (two n) (now (out .exit)) r ⌝ }
 {
@@ -51,7 +51,7 @@ fn put_four(out: &mut [u8], pen: Pen, n: u32) -> Pen
     put_two(out, next, (n % 65536) as u16)
 }
 
-fn put_eight(out: &mut [u8], pen: Pen, n: u64) -> Pen
+pub fn put_eight(out: &mut [u8], pen: Pen, n: u64) -> Pen
     requires { ⌜ pen .at + 16 ≤ length (now out) ⌝ }
     ensures { λ r. ⌜ Wrote (now (out .entry)) pen (eight n) (now (out .exit)) r ⌝ }
 {
@@ -59,7 +59,7 @@ fn put_eight(out: &mut [u8], pen: Pen, n: u64) -> Pen
     put_four(out, next, (n % 4294967296) as u32)
 }
 
-fn put_mark(out: &mut [u8], pen: Pen, mark: Mark) -> Pen
+pub fn put_mark(out: &mut [u8], pen: Pen, mark: Mark) -> Pen
     requires { ⌜ pen .at + 14 ≤ length (now out) ⌝ }
     ensures { λ r. ⌜ Wrote (now (out .entry)) pen (markBytes mark) (now (out .exit)) r ⌝ }
 {
@@ -76,6 +76,20 @@ fn put_offer(out: &mut [u8], pen: Pen, offer: Offer) -> Pen
     let shape = offer.shape;
     let next = put(out, pen, rotation.number());
     put(out, next, shape.number())
+}
+
+// The first n bytes of a list.
+pub fn put_bytes(out: &mut [u8], pen: Pen, bytes: &[u8], n: usize) -> Pen
+    requires { ⌜ (n ≤ length (now bytes)) × (pen .at + 2 * n ≤ length (now out)) ⌝ }
+    ensures { λ r. ⌜ Wrote (now (out .entry)) pen (take n (now (bytes .entry))) (now (out .exit)) r ⌝ }
+{
+    let mut next = pen;
+    let mut i: usize = 0;
+    while i < n {
+        next = put(out, next, bytes[i]);
+        i += 1;
+    }
+    next
 }
 
 // Lists, each after its count.
@@ -107,22 +121,31 @@ fn put_marks(out: &mut [u8], pen: Pen, marks: [Mark; 2], count: usize) -> Pen
     next
 }
 
-fn put_numbers(out: &mut [u8], pen: Pen, numbers: &[u16], count: usize) -> Pen
-    requires { ⌜ (count ≤ 255) × (count ≤ length (now numbers)) × (pen .at + (2 + 4 * count) ≤ length (now out)) ⌝ }
-    ensures { λ r. ⌜ Wrote (now (out .entry)) pen (count ∷ each two (take count (now (numbers .entry)))) (now (out .exit)) r ⌝ }
+// The first n numbers of a list.
+pub fn put_twos(out: &mut [u8], pen: Pen, numbers: &[u16], n: usize) -> Pen
+    requires { ⌜ (n ≤ length (now numbers)) × (pen .at + 4 * n ≤ length (now out)) ⌝ }
+    ensures { λ r. ⌜ Wrote (now (out .entry)) pen (each two (take n (now (numbers .entry)))) (now (out .exit)) r ⌝ }
 {
-    let mut next = put(out, pen, count as u8);
+    let mut next = pen;
     let mut i: usize = 0;
-    while i < count {
+    while i < n {
         next = put_two(out, next, numbers[i]);
         i += 1;
     }
     next
 }
 
+fn put_numbers(out: &mut [u8], pen: Pen, numbers: &[u16], count: usize) -> Pen
+    requires { ⌜ (count ≤ 255) × (count ≤ length (now numbers)) × (pen .at + (2 + 4 * count) ≤ length (now out)) ⌝ }
+    ensures { λ r. ⌜ Wrote (now (out .entry)) pen (count ∷ each two (take count (now (numbers .entry)))) (now (out .exit)) r ⌝ }
+{
+    let next = put(out, pen, count as u8);
+    put_twos(out, next, numbers, count)
+}
+
 // An answer begins with its op and a number, 0 where it is no refusal, and ends with its check and a newline.
 
-fn begin(out: &mut [u8], op: u8, number: u8) -> Pen
+pub fn begin(out: &mut [u8], op: u8, number: u8) -> Pen
     requires { ⌜ 4 ≤ length (now out) ⌝ }
     ensures { λ r. ⌜ Wrote (now (out .entry)) freshPen (op ∷ number ∷ []) (now (out .exit)) r ⌝ }
 {
@@ -131,7 +154,7 @@ fn begin(out: &mut [u8], op: u8, number: u8) -> Pen
     put(out, next, number)
 }
 
-fn end(out: &mut [u8], pen: Pen) -> usize
+pub fn end(out: &mut [u8], pen: Pen) -> usize
     requires { ⌜ pen .at + 3 ≤ length (now out) ⌝ }
     ensures { λ r. ⌜ (r ≡ pen .at + 3) × (now (out .exit) ≡ sets (now (out .entry)) (pen .at) (ending (pen .sum))) ⌝ }
 {

@@ -16,29 +16,22 @@ use denote.Struct.Declared.{row}
 use Rattle.marks.specs.declared.Refusal.the-variants.{NotSound, BufferTooShort}
 use Rattle.layout.specs.declared.layout.Layout.{Layout}
 use Rattle.layout.specs.Check.{limit, tree, soundB}
-use Rattle.layout.specs.SoundLayout.{SoundLayout, Sized}
+use Rattle.layout.specs.SoundLayout.{Sized}
 use Rattle.layout.specs.Zero.{zeroLayout}
 use Rattle.layout.proofs.Exactly.{sound-says, zero-sized}
 use Rattle.questions.specs.declared.replies.CountAnswer.{CountAnswer}
 use Rattle.questions.specs.declared.replies.CountAnswer.the-variants.{Count, Refused}
 use Rattle.questions.specs.Written.{answerTo, leftInBuffer}
 use Rattle.saw.specs.Saw.{saw}
-use Rattle.saw.specs.Cuts.{cuts, boards}
+use Rattle.saw.specs.Cuts.{boards}
 use Rattle.saw.specs.Read.{readCuts}
 use Rattle.saw.specs.Written.{sawBytes}
-use Rattle.saw.proofs.Sawn.{cuts-most}
-use Rattle.saw.proofs.CutBytes.{length-bytes}
 use Rattle.saw.proofs.Copied.{take-stored}
-use Rattle.saw.proofs.Layouts.{sawn-bytes}
+use Rattle.saw.proofs.Layouts.{sawn-bytes, list-room}
 use Rattle.kiosk.specs.declared.records.LayoutRecord.{LayoutRecord}
 use Rattle.kiosk.specs.Records.{allListedB, nodeOfRecord, fieldsOf, layoutOf}
 use Rattle.kiosk.specs.Cuts.{Handed, listCount, listLeft}
 use Rattle.kiosk.proofs.records.LayoutRecord.{the-type}
-
--- no list has more bytes than there are lent
-list-room : (l : Layout) → SoundLayout l → length (sawBytes l) ≤ 9 * limit
-unfolding sawBytes
-list-room l s = omega (arith, length-bytes (cuts (tree l)), cuts-most (tree l) (s .sound), s .sound .room)
 
 -- what the type itself says of a record: its layout's arrays have as many entries as there are places, and those of zeros have too
 record-sized : (r : LayoutRecord) (vs : List Val) → Is (row the-type) r vs → Sized (layoutOf r)

@@ -1,4 +1,4 @@
--- The laws of the step: the record and the line decide what comes of them; a refusal leaves the record as it was, whatever it holds; a record with an
+-- The laws of the step: the record and the request decide what comes of them; a refusal leaves the record as it was, whatever it holds; a record with an
 -- unlisted kind or cut is refused with 1; the next record stands for the next session. And of the list of saw cuts: the record and the bytes decide it,
 -- and there is none of an unlisted record. Rests on `session`'s proofs/Decided, proofs/Kept and proofs/Refused, and on Listed.
 use mathlib.Core.Path.{_≡_, refl, sym, ap, _∙_}
@@ -13,7 +13,6 @@ use Rattle.marks.specs.declared.Refusal.the-variants.{NotSound}
 use Rattle.frames.specs.declared.Ask.{Ask}
 use Rattle.frames.specs.declared.Request.{Request}
 use Rattle.frames.specs.declared.Request.the-variants.{OfLayout, Keep, Restore, Malformed}
-use Rattle.frames.specs.Requests.{requestOf}
 use Rattle.frames.specs.Answers.{Answer, refused, answerLine}
 use Rattle.layout.specs.declared.layout.Layout.{Layout}
 use Rattle.layout.specs.Check.{soundB}
@@ -32,13 +31,13 @@ use Rattle.kiosk.proofs.Listed.{unlisted-unsound, layout-listed, layout
 
 -- ---- decided
 
--- THE STEP: the record and the line decide the next record, the answer and its count
-pub answered-once : {before n m : SessionRecord} {line xs ys : List ℕ} {j k : ℕ} → Answered before line n xs j → Answered before line m ys k
+-- THE STEP: the record and the request decide the next record, the answer and its count
+pub answered-once : {before n m : SessionRecord} {q : Request} {xs ys : List ℕ} {j k : ℕ} → Answered before q n xs j → Answered before q m ys k
     → (n ≡ m) × (xs ≡ ys) × (j ≡ k)
-answered-once {before} {line = line} a b =
-    let e = answers-once (sessionOf before) (requestOf line) (a .steps .answers) (b .steps .answers) in
+answered-once {before} {q = q} a b =
+    let e = answers-once (sessionOf before) q (a .steps .answers) (b .steps .answers) in
     let said : a .steps .answer ≡ b .steps .answer = ap (λ (r : Reply). r .answer) e in (
-      a .left ∙ ap (λ (r : Reply). recordAfter before (refusal (r .answer)) (requestOf line) (r .session .layout)) e ∙ sym (b .left),
+      a .left ∙ ap (λ (r : Reply). recordAfter before (refusal (r .answer)) q (r .session .layout)) e ∙ sym (b .left),
       a .written ∙ a .steps .padded ∙ ap paddedLine said ∙ sym (b .steps .padded) ∙ sym (b .written),
       a .counted ∙ a .steps .count ∙ ap (λ (x : Answer). length (answerLine x)) said ∙ sym (b .steps .count) ∙ sym (b .counted),
     )
@@ -51,26 +50,26 @@ handed-once a b = (a .written ∙ sym (b .written), a .counted ∙ sym (b .count
 -- ---- refused
 
 -- A REFUSAL leaves the record as it was: no hypothesis on what it holds
-pub record-stays : {before next : SessionRecord} {line answer : List ℕ} {count : ℕ} (a : Answered before line next answer count)
+pub record-stays : {before next : SessionRecord} {q : Request} {answer : List ℕ} {count : ℕ} (a : Answered before q next answer count)
     → refusal (a .steps .answer) ≡ true → next ≡ before
-record-stays {before} {line = line} a refuses =
-    a .left ∙ ap (λ (b : Bool). recordAfter before b (requestOf line) (a .stepped .session .layout)) refuses
+record-stays {before} {q = q} a refuses =
+    a .left ∙ ap (λ (b : Bool). recordAfter before b q (a .stepped .session .layout)) refuses
 
 abbrev answerOf : Reply → Answer
 answerOf r = r .answer
 
 -- AN UNLISTED kind or cut in the layout's record: what looks at the layout refuses with 1, and the record is as it was
-pub unlisted-refused : {before next : SessionRecord} {line answer : List ℕ} {count : ℕ} (a : Answered before line next answer count)
-    → (op : ℕ) → opOf (requestOf line) ≡ some op → allListedB (before .layout .nodes) ≡ false
+pub unlisted-refused : {before next : SessionRecord} {q : Request} {answer : List ℕ} {count : ℕ} (a : Answered before q next answer count)
+    → (op : ℕ) → opOf q ≡ some op → allListedB (before .layout .nodes) ≡ false
     → (a .steps .answer ≡ refused op NotSound) × (next ≡ before)
-unlisted-refused {before} {line = line} a op looks unlisted =
+unlisted-refused {before} {q = q} a op looks unlisted =
     let unsound = unlisted-unsound (before .layout) unlisted in
-    let says = ap answerOf (unsound-refused (sessionOf before) (requestOf line) op looks unsound (a .stepped .session) (a .steps .answer) (a .steps .answers)) in
+    let says = ap answerOf (unsound-refused (sessionOf before) q op looks unsound (a .stepped .session) (a .steps .answer) (a .steps .answers)) in
     (says, record-stays a (ap refusal says))
 
 -- or in the kept one: restore refuses with 1
-pub unlisted-kept-refused : {before next : SessionRecord} {line answer : List ℕ} {count : ℕ} (a : Answered before line next answer count)
-    → requestOf line ≡ Restore → allListedB (before .kept .nodes) ≡ false
+pub unlisted-kept-refused : {before next : SessionRecord} {q : Request} {answer : List ℕ} {count : ℕ} (a : Answered before q next answer count)
+    → q ≡ Restore → allListedB (before .kept .nodes) ≡ false
     → (a .steps .answer ≡ refused 6 NotSound) × (next ≡ before)
 unlisted-kept-refused {before} a restores unlisted =
     let unsound = unlisted-unsound (before .kept) unlisted in
@@ -105,10 +104,7 @@ kept-listed r Keep l h = layout-listed l
 kept-listed r Restore l h = h
 kept-listed r Malformed l h = h
 
-module _ {before next : SessionRecord} {line answer : List ℕ} {count : ℕ} (a : Answered before line next answer count) where
-  abbrev q : Request
-  q = requestOf line
-
+module _ {before next : SessionRecord} {q : Request} {answer : List ℕ} {count : ℕ} (a : Answered before q next answer count) where
   abbrev t : Session
   t = a .stepped .session
 

@@ -1,4 +1,5 @@
 pub mod Stepping
+pub mod AtDesk
 pub mod Listed
 pub mod Laws
 pub mod Handing

@@ -8,7 +8,6 @@ use Rattle.layout.specs.Check.{soundB}
 use Rattle.frames.specs.declared.Ask.{Ask}
 use Rattle.frames.specs.declared.Request.{Request}
 use Rattle.frames.specs.declared.Request.the-variants.{OfLayout, Keep, Restore, Malformed}
-use Rattle.frames.specs.Requests.{requestOf}
 use Rattle.frames.specs.Answers.{Answer, malformed}
 use Rattle.session.specs.declared.Session.{Session}
 use Rattle.session.specs.declared.replies.Said.{Said}
@@ -31,12 +30,16 @@ keep-refusal {l} k = ap (λ (x : Reply). refusal (x .answer)) (k .answers l) ∙
     go true = refl
     go false = refl
 
--- the line asks for q, and l is the layout of the record
-module _ (given : SessionRecord) (line : List ℕ) {l : Layout} (at : l ≡ layoutOf (given .layout)) where
+-- the same request by another name
+pub asks : {given next : SessionRecord} {p q : Request} {line : List ℕ} {n : ℕ} → p ≡ q → Answered given p next line n → Answered given q next line n
+asks e h = rw e at h
+
+-- the request is w, and l is the layout of the record
+module _ (given : SessionRecord) (w : Request) {l : Layout} (at : l ≡ layoutOf (given .layout)) where
   -- what comes of the session, what is said, and the record that is left
-  answered : (q : Request) (u : Session) {a : Answer} {b : Bool} {r : Said} {next : SessionRecord} → q ≡ requestOf line
+  answered : (q : Request) (u : Session) {a : Answer} {b : Bool} {r : Said} {next : SessionRecord} → q ≡ w
       → Answers (sessionOf given) q u a → Says a r → b ≡ refusal a → next ≡ recordAfter given b q (u .layout)
-      → Answered given line next (r .line) (r .count)
+      → Answered given w next (r .line) (r .count)
   answered q u {a} {r = r} asks h y is left =
       record {
         stepped = record { session = u; line = r .line; count = r .count };
@@ -48,26 +51,26 @@ module _ (given : SessionRecord) (line : List ℕ) {l : Layout} (at : l ≡ layo
         counted = refl;
       }
 
-  pub of-layout-answered : {ask : Ask} {r : Response} → OfLayout ask ≡ requestOf line → Replies l ask r
-      → Answered given line (cond (r .refused) given (recordWithLayout given (r .layout))) (r .said .line) (r .said .count)
+  pub of-layout-answered : {ask : Ask} {r : Response} → OfLayout ask ≡ w → Replies l ask r
+      → Answered given w (cond (r .refused) given (recordWithLayout given (r .layout))) (r .said .line) (r .said .count)
   of-layout-answered {ask} {r} asks t =
       let s = rw at at t in
       let kept = layoutOf (given .kept) in
       answered (OfLayout ask) (both (r .layout) kept) asks (s .answers kept) (s .says) (s .refused) refl
 
-  pub restore-answered : {k : Layout} {r : Response} → k ≡ layoutOf (given .kept) → Restore ≡ requestOf line → Restores l k r
-      → Answered given line (cond (r .refused) given (recordWithLayout given (r .layout))) (r .said .line) (r .said .count)
+  pub restore-answered : {k : Layout} {r : Response} → k ≡ layoutOf (given .kept) → Restore ≡ w → Restores l k r
+      → Answered given w (cond (r .refused) given (recordWithLayout given (r .layout))) (r .said .line) (r .said .count)
   restore-answered {k} {r} e asks t =
       let s = rw (at, e) at t in
       answered Restore (both (r .layout) (layoutOf (given .kept))) asks (s .answers) (s .says) (s .refused) refl
 
-  pub malformed-answered : {r : Said} → Malformed ≡ requestOf line → Says malformed r → Answered given line given (r .line) (r .count)
+  pub malformed-answered : {r : Said} → Malformed ≡ w → Says malformed r → Answered given w given (r .line) (r .count)
   unfolding Answers
   malformed-answered asks y = answered Malformed (sessionOf given) {b = true} asks refl y refl refl
 
   -- the layout is sound or not, as b says
-  pub keep-answered : {r : Keeping} {b : Bool} → Keep ≡ requestOf line → Keeps l r → r .sound ≡ b
-      → Answered given line (cond b (record { layout = given .layout; kept = given .layout }) given) (r .said .line) (r .said .count)
+  pub keep-answered : {r : Keeping} {b : Bool} → Keep ≡ w → Keeps l r → r .sound ≡ b
+      → Answered given w (cond b (record { layout = given .layout; kept = given .layout }) given) (r .said .line) (r .said .count)
   keep-answered {r} {b} asks k is =
       let s : Keeps (layoutOf (given .layout)) r = rw at at k in
       let l = layoutOf (given .layout) in

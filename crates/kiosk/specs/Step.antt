@@ -7,7 +7,6 @@ use Prim.Native.Nat.{ℕ}
 use Rattle.layout.specs.declared.layout.Layout.{Layout}
 use Rattle.frames.specs.declared.Request.{Request}
 use Rattle.frames.specs.declared.Request.the-variants.{OfLayout, Keep, Restore, Malformed}
-use Rattle.frames.specs.Requests.{requestOf}
 use Rattle.session.specs.declared.Stepped.{Stepped}
 use Rattle.session.specs.declared.replies.Said.{Said}
 use Rattle.session.specs.Session.{Steps}
@@ -28,11 +27,11 @@ keptRecord r Malformed l = r .kept
 abbrev pub recordAfter : SessionRecord → Bool → Request → Layout → SessionRecord
 recordAfter r refused q l = cond refused r (record { layout = layoutRecord l; kept = keptRecord r q l })
 
--- from the record before, the line's characters give the record next and an answer whose first count characters are its line
-pub record Answered (before : SessionRecord) (line : List ℕ) (next : SessionRecord) (answer : List ℕ) (count : ℕ) : Type 0 where
+-- from the record before, the request q gives the record next and an answer whose first count characters are its line
+pub record Answered (before : SessionRecord) (q : Request) (next : SessionRecord) (answer : List ℕ) (count : ℕ) : Type 0 where
   pub stepped : Stepped
-  pub steps : Steps (sessionOf before) (requestOf line) stepped
-  pub left : next ≡ recordAfter before (refusal (steps .answer)) (requestOf line) (stepped .session .layout)
+  pub steps : Steps (sessionOf before) q stepped
+  pub left : next ≡ recordAfter before (refusal (steps .answer)) q (stepped .session .layout)
   pub written : answer ≡ stepped .line
   pub counted : count ≡ stepped .count
 

@@ -3,6 +3,7 @@
 // answers.
 ghost use mathlib.Core.Path.{_≡_};
 ghost use mathlib.Core.Bool.{cond};
+ghost use Rattle.frames.specs.Requests.{requestOf};
 ghost use Rattle.kiosk.specs.Step.{Answered, recordStepTo, recordWithLayout};
 use frames::Request;
 use frames::read::request;
@@ -18,6 +19,7 @@ use session::replies::restore;
 use session::say;
 
 pub mod cuts; // cuts.rt: the list of saw cuts
+pub mod desk; // desk.rt: the desk's frames, on the same session
 pub mod records; // records.rt: the session as plain numbers, read and written
 pub mod sizes; // sizes.rt: the sizes of what is lent
 
@@ -54,14 +56,14 @@ fn told(mut given: SessionRecord, answer: Response) -> SteppedRecord
     says(given, said)
 }
 
-// The step by value: the characters of a line, without its newline.
-fn stepped(given: SessionRecord, line: &[u8]) -> SteppedRecord
-    ensures { λ r. ⌜ Answered given (now (line .entry)) (r .session) (r .line) (r .count) ⌝ }
+// The answer to a request, by value.
+pub(crate) fn asked(given: SessionRecord, request: Request) -> SteppedRecord
+    ensures { λ r. ⌜ Answered given request (r .session) (r .line) (r .count) ⌝ }
 {
     let before = given.layout;
     let kept = given.kept;
     let layout = layout_of(before);
-    match request(line) {
+    match request {
         Request::OfLayout(ask) => told(given, replied(layout, ask)),
         Request::Keep => {
             let answer = keep(layout);
@@ -83,6 +85,13 @@ fn stepped(given: SessionRecord, line: &[u8]) -> SteppedRecord
     }
 }
 
+// The step by value: the characters of a line, without its newline.
+fn stepped(given: SessionRecord, line: &[u8]) -> SteppedRecord
+    ensures { λ r. ⌜ Answered given (requestOf (now (line .entry))) (r .session) (r .line) (r .count) ⌝ }
+{
+    asked(given, request(line))
+}
+
 // The step on a lent session: the answer's characters are the first of `answer`, as many as the result says. A refusal leaves the session as it was.
 #[no_mangle]
 pub extern "C" fn nickelgrove_step(
@@ -90,7 +99,7 @@ pub extern "C" fn nickelgrove_step(
     line: &[u8],
     answer: &mut [u8; LONGEST_ANSWER],
 ) -> usize
-    ensures { λ r. ⌜ Answered (now (session .entry)) (now (line .entry)) (now (session .exit)) (now (answer .exit)) r ⌝ }
+    ensures { λ r. ⌜ Answered (now (session .entry)) (requestOf (now (line .entry))) (now (session .exit)) (now (answer .exit)) r ⌝ }
 {
     let next = stepped(*session, line);
     *session = next.session;

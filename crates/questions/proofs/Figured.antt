@@ -19,7 +19,7 @@ use Rattle.tree.specs.Tree.{Tree, In, At, count}
 use Rattle.tree.specs.Sound.{Topped}
 use Rattle.tree.specs.Figures.{freeArea, treeUsage}
 use Rattle.tree.proofs.Rows.{in?}
-use Rattle.tree.proofs.Read.{Readable, sound-readable}
+use Rattle.tree.proofs.Read.{Written, Readable, sound-readable}
 use Rattle.tree.proofs.Usage.{sheet-small}
 use Rattle.tree.proofs.Laws.AreaConserved.{area-conserved}
 use Rattle.table.specs.declared.Node.{Node}
@@ -52,20 +52,21 @@ pub in-float : (a : ℕ) → a ≤ 2 ^ 53 → T (inFloat binary64 (pos a))
 unfolding inFloat
 in-float a h = le→leb a (2 ^ 53) h
 
--- each piece of a row that a snapshot can hold has a small area
-readable-small : (l : ℕ) (w : Tree) → Readable l w → (i : ℕ) (d : Datum) → At i d w → area (d .size) < 2 ^ 52
-readable-small l nil f i d y = absurd y
-readable-small l (grow p e k r) f i d (inl y) =
-    rw (y .1) (area-small (e .size) (f .0 .small .width) (f .0 .small .height))
-readable-small l (grow p e k r) f i d (inr (inl y)) = readable-small (l + 1) k (f .1) i d y
-readable-small l (grow p e k r) f i d (inr (inr y)) = readable-small l r (f .2) i d y
+-- ---- what holds of every piece that a snapshot can hold
 
--- a place of a table that holds a tree has a piece of it, or has no area
-place-small : (t : List Node) (w : Tree) → Holds limit t w → ((i : ℕ) (d : Datum) → At i d w → area (d .size) < 2 ^ 52)
-    → (i : ℕ) → area (at t i .datum .size) < 2 ^ 52
-place-small t w h each i =
-    ⊎-elim (λ y. each i (at t i .datum) (shown-at limit t limit limit i w (h .rep) y))
-    (λ n. rw (empty n (ltb i limit) refl) (omega arith)) (in? i w)
+-- holds of each piece of such a row
+readable-each : (P : Datum → Type 0) → ((l : ℕ) (d : Datum) → Written l d → P d) → (l : ℕ) (w : Tree) → Readable l w
+    → (i : ℕ) (d : Datum) → At i d w → P d
+readable-each P says l nil f i d y = absurd y
+readable-each P says l (grow p e k r) f i d (inl y) = rw (y .1) (says l e (f .0))
+readable-each P says l (grow p e k r) f i d (inr (inl y)) = readable-each P says (l + 1) k (f .1) i d y
+readable-each P says l (grow p e k r) f i d (inr (inr y)) = readable-each P says l r (f .2) i d y
+
+-- and where it holds of no piece, it holds of each place of a table that holds a tree: a place has a piece of it, or is zero
+place-each : (P : Datum → Type 0) → P (zeroNode .datum) → (t : List Node) (w : Tree) → Holds limit t w → ((i : ℕ) (d : Datum) → At i d w → P d)
+    → (i : ℕ) → P (at t i .datum)
+place-each P zero t w h each i =
+    ⊎-elim (λ y. each i (at t i .datum) (shown-at limit t limit limit i w (h .rep) y)) (λ n. rw (empty n (ltb i limit) refl) zero) (in? i w)
   where
     empty : (In i w → ⊥) → (b : Bool) → ltb i limit ≡ b → at t i ≡ zeroNode
     empty n true e = h .rest i (ltb-true i limit e) n
@@ -98,13 +99,17 @@ module _ (l : Layout) (s : SoundLayout l) where
   pub never-empty : allFree (tree l) ≡ false
   never-empty = top-kept (l .settings) (tree l) (s .sound .topped)
 
+  pub each-place : (P : Datum → Type 0) → P (zeroNode .datum) → ((k : ℕ) (d : Datum) → Written k d → P d) → (i : ℕ) → P (at (l .nodes) i .datum)
+  each-place P zero says =
+      place-each P zero (l .nodes) (tree l) (s .holds) (readable-each P says 0 (tree l) (sound-readable (tree l) (s .sound)))
+
   -- over the columns of the table
   module _ (c : Columns) (e : c ≡ columnsOf (l .nodes)) where
     pub areas-small : Small (c .area)
     areas-small =
         rw e
         (small limit (l .nodes)
-        (place-small (l .nodes) (tree l) (s .holds) (readable-small 0 (tree l) (sound-readable (tree l) (s .sound)))))
+        (each-place (λ d. area (d .size) < 2 ^ 52) (omega arith) (λ k d w. area-small (d .size) (w .small .width) (w .small .height))))
 
     pub free-area-is : areaListed 0 (c .kind) (c .area) limit ≡ freeArea (tree l)
     free-area-is = rw e (holds-free-area limit (l .nodes) (tree l) (s .holds))

@@ -56,7 +56,7 @@ told (c ∷ cs) h =
 
 -- ---- the cuts of a sound tree fit
 
-each-append : {A : Type 0} (P : A → Type 0) (a b : List A) → EachOf P a → EachOf P b → EachOf P (a ++ b)
+pub each-append : {A : Type 0} (P : A → Type 0) (a b : List A) → EachOf P a → EachOf P b → EachOf P (a ++ b)
 each-append P [] b f g = g
 each-append P (x ∷ a) b f g = (f .0, each-append P a b (f .1) g)
 

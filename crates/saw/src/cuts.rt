@@ -52,7 +52,7 @@ fn list_cuts<'a>(
 }
 
 // The first n bytes of `from`, over those of `out`.
-fn copy_first(from: &[u8], n: usize, out: &mut [u8])
+pub fn copy_first(from: &[u8], n: usize, out: &mut [u8])
     requires { ⌜ (n ≤ length (now from)) × (n ≤ length (now out)) ⌝ }
     ensures { λ _. ⌜ now (out .exit) ≡ sets (now (out .entry)) 0 (take n (now (from .entry))) ⌝ }
 {

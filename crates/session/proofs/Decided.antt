@@ -21,7 +21,7 @@ use Rattle.session.specs.declared.listener.Listener.{Listener}
 use Rattle.session.specs.declared.listener.Turn.{Turn}
 use Rattle.session.specs.Session.{Reply, reply, afterInsert, afterRemove, Answers, paddedLine, Says}
 use Rattle.session.specs.Replies.{both, refusal, Replies, Keeps, Restores}
-use Rattle.session.specs.Listener.{askedIn, Runs, none, more, startListener, textOf, Ends, Served}
+use Rattle.session.specs.Listener.{askedIn, RunsBy, Runs, none, more, startListener, textOf, Ends, Served}
 use Rattle.session.proofs.Laws.{input-run}
 
 -- a request
@@ -66,14 +66,22 @@ restores-once l kept x y =
     let no = x .refused ∙ ap (λ (w : Reply). refusal (w .answer)) e ∙ sym (y .refused) in
     λ i. record { layout = e i .session .layout; refused = no i; said = same i }
 
--- a run of lines
+-- a run of lines: it is decided wherever what is asked gives one state and one answer
+module _ {Q A : Type 0} (asked : Line → Q) (Gives : Session → Q → Session → A → Type 0)
+    (once : (s : Session) (q : Q) (t u : Session) (a b : A) → Gives s q t a → Gives s q u b → (t ≡ u) × (a ≡ b)) where
+  pub runs-by-once : {s u v : Session} {ls : List Line} {xs ys : List A} → RunsBy asked Gives s ls xs u → RunsBy asked Gives s ls ys v
+      → (xs ≡ ys) × (u ≡ v)
+  runs-by-once none none = (refl, refl)
+  runs-by-once (more {s} {t} {line = line} g q) (more {t = t'} h r) =
+      let e = once s (asked line) t t' _ _ g h in
+      let next : t ≡ t' = e .0 in
+      let same = runs-by-once q (rw (← next) at r) in
+      ((λ i. e .1 i ∷ same .0 i), same .1)
+
 pub runs-once : {s u v : Session} {ls : List Line} {xs ys : List Answer} → Runs s ls xs u → Runs s ls ys v → (xs ≡ ys) × (u ≡ v)
-runs-once none none = (refl, refl)
-runs-once (more {s} {t} {line = line} a q) (more {t = t'} b r) =
-    let e = answers-once s (askedIn line) a b in
-    let next : t ≡ t' = ap (λ (w : Reply). w .session) e in
-    let same = runs-once q (rw (← next) at r) in
-    ((λ i. e i .answer ∷ same .0 i), same .1)
+runs-once q r =
+    runs-by-once askedIn Answers
+    (λ s q t u a b g h. let e = answers-once s q g h in (ap (λ (w : Reply). w .session) e, ap (λ (w : Reply). w .answer) e)) q r
 
 -- the output to an input, however it was cut into chunks
 pub output-once : {cs ds : List (List ℕ)} {xs ys : List Answer} {d e : Listener} {r q : Turn} → joinedLines cs ≡ joinedLines ds

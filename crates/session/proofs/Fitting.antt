@@ -50,9 +50,9 @@ use Rattle.session.proofs.Laws.{input-run}
 use Rattle.session.proofs.Fits.{answer-fits}
 
 -- what the type says of a layout: as many entries as there are places, and a number of two bytes
-record Typed (l : Layout) : Type 0 where
-  sized : Sized l
-  number : l .number < 2 ^ 16
+pub record Typed (l : Layout) : Type 0 where
+  pub sized : Sized l
+  pub number : l .number < 2 ^ 16
 
 -- ---- the next layout, of each call that changes one
 typed-next : {l n : Layout} {w : Tree} {list : List ℕ} {last : ℕ} → Typed l → Next l w list last n → Typed n
@@ -99,9 +99,9 @@ module _ (l : Layout) (t : Typed l) where
       go false b c = t
 
 -- ---- both layouts of a state, after any request
-record Held (s : Session) : Type 0 where
-  layout : Typed (s .layout)
-  kept : Typed (s .kept)
+pub record Held (s : Session) : Type 0 where
+  pub layout : Typed (s .layout)
+  pub kept : Typed (s .kept)
 
 layout-after : (s : Session) → Held s → (q : Request) (t : Session) (a : Answer) → RequestFits q → Answers s q t a → Typed (t .layout)
 unfolding Answers afterOpen afterOffers afterInsert afterRemove afterKeep afterRestore afterReport
@@ -130,7 +130,7 @@ kept-typed s x Keep = go (soundB (s .layout))
 kept-typed s x Restore = x .kept
 kept-typed s x Malformed = x .kept
 
-held-after : (s : Session) → Held s → (q : Request) (t : Session) (a : Answer) → RequestFits q → Answers s q t a → Held t
+pub held-after : (s : Session) → Held s → (q : Request) (t : Session) (a : Answer) → RequestFits q → Answers s q t a → Held t
 held-after s x q t a f h =
     record { layout = layout-after s x q t a f h; kept = rw (kept-after s q t a h) (kept-typed s x q) }
 
@@ -146,7 +146,7 @@ runs-fit x (more {s} {t} {line = line} {a = a} h r) =
     let f = asked-fits line in
     and-then (answer-fits s (x .layout .sized) (x .layout .number) (askedIn line) t a f h) (runs-fit (held-after s x (askedIn line) t a f h) r)
 
-started-held : Held started
+pub started-held : Held started
 unfolding zeroLayout
 started-held =
     let zero : Typed zeroLayout = record { sized = zero-sized; number = omega arith } in record { layout = zero; kept = zero }

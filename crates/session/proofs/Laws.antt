@@ -20,20 +20,21 @@ use Rattle.session.specs.declared.Session.{Session}
 use Rattle.session.specs.declared.listener.Listener.{Listener}
 use Rattle.session.specs.declared.listener.Turn.{Turn}
 use Rattle.session.specs.Session.{started}
-use Rattle.session.specs.Listener.{Runs, none, more, startListener, oneStep, Ends, Turns, Served}
+use Rattle.session.specs.Listener.{RunsBy, Runs, none, more, startListener, oneStep, Ends, Turns, Served}
 use Rattle.session.specs.Listener as listener
 
--- ---- runs
+-- ---- runs, whatever a line asks and what is asked gives
+module _ {Q A : Type 0} {asked : Line → Q} {Gives : Session → Q → Session → A → Type 0} where
+  -- one run after another
+  pub runs-on : {s t u : Session} {ls ms : List Line} {xs ys : List A} → RunsBy asked Gives s ls xs t → RunsBy asked Gives t ms ys u
+      → RunsBy asked Gives s (ls ++ ms) (xs ++ ys) u
+  runs-on none r = r
+  runs-on (more a q) r = more a (runs-on q r)
 
--- one run after another
-pub runs-on : {s t u : Session} {ls ms : List Line} {xs ys : List Answer} → Runs s ls xs t → Runs t ms ys u → Runs s (ls ++ ms) (xs ++ ys) u
-runs-on none r = r
-runs-on (more a q) r = more a (runs-on q r)
-
--- ONE ANSWER A LINE
-pub one-each : {s u : Session} {ls : List Line} {xs : List Answer} → Runs s ls xs u → length xs ≡ length ls
-one-each none = refl
-one-each (more a q) = ap suc (one-each q)
+  -- ONE ANSWER A LINE
+  pub one-each : {s u : Session} {ls : List Line} {xs : List A} → RunsBy asked Gives s ls xs u → length xs ≡ length ls
+  one-each none = refl
+  one-each (more a q) = ap suc (one-each q)
 
 -- ---- a turn, and what is left of the chunk
 

@@ -1,6 +1,5 @@
 pub mod Spoken
 pub mod Ways
-pub mod Usage
 pub mod Given
 pub mod Reported
 pub mod Listening

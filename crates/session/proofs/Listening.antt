@@ -43,11 +43,21 @@ module _ (d : Listener) {f : Fed} (n : ℕ) where
   unfolding each
   no-answer p e = rw e (record { answers = []; runs = none; pending = refl; count = refl; written = refl; padded = refl })
 
-module _ (d : Listener) (chunk : List ℕ) (at : ℕ) {t : Taken} (e : t ≡ takeOf (d .pending) chunk at) where
-  event-is : {v : Event} → t .event ≡ v → oneStep (d .pending) chunk at ≡ fedWith v (t .pending) (still empty)
-  event-is h =
-      ap (λ (x : Taken). fedWith (x .event) (x .pending) (still empty)) (sym e) ∙ ap (λ (v : Event). fedWith v (t .pending) (still empty)) h
+-- the lines of one step, by its event; and those at the end of the input, where b says whether a last line lacks its newline
+pub event-is : (p : Pending) (chunk : List ℕ) (at : ℕ) {t : Taken} {v : Event} → t ≡ takeOf p chunk at → t .event ≡ v
+    → oneStep p chunk at ≡ fedWith v (t .pending) (still empty)
+event-is p chunk at {t} {v} e h =
+    ap (λ (x : Taken). fedWith (x .event) (x .pending) (still empty)) (sym e) ∙ ap (λ (v : Event). fedWith v (t .pending) (still empty)) h
 
+pub last-cut : (p : Pending) {b : Bool} → b ≡ unfinished p → b ≡ true → lastStep p ≡ onward cut (still empty)
+unfolding ended
+last-cut p e h = rw (sym e ∙ h) refl
+
+pub last-clean : (p : Pending) {b : Bool} → b ≡ unfinished p → b ≡ false → lastStep p ≡ still empty
+unfolding ended
+last-clean p e h = rw (sym e ∙ h) refl
+
+module _ (d : Listener) (chunk : List ℕ) (at : ℕ) {t : Taken} (e : t ≡ takeOf (d .pending) chunk at) where
   -- the three ways out of a turn
   pub takes-whole : {q : Stepped} → t .event ≡ Whole → Steps (d .session) (requestOf (take (t .pending .count) (t .pending .bytes))) q
       → Takes d chunk at (spoken q (t .next))
@@ -55,27 +65,21 @@ module _ (d : Listener) (chunk : List ℕ) (at : ℕ) {t : Taken} (e : t ≡ tak
   takes-whole h s =
       record {
         next = ap (λ (x : Taken). x .next) e;
-        turned = one-answer d (t .next) (whole (take (t .pending .count) (t .pending .bytes))) (event-is h) s;
+        turned = one-answer d (t .next) (whole (take (t .pending .count) (t .pending .bytes))) (event-is (d .pending) chunk at e h) s;
       }
 
   pub takes-long : {q : Stepped} → t .event ≡ Long → Steps (d .session) Malformed q → Takes d chunk at (spoken q (t .next))
   unfolding fedWith
-  takes-long h s = record { next = ap (λ (x : Taken). x .next) e; turned = one-answer d (t .next) long (event-is h) s }
+  takes-long h s = record { next = ap (λ (x : Taken). x .next) e; turned = one-answer d (t .next) long (event-is (d .pending) chunk at e h) s }
 
   pub takes-more : t .event ≡ More → Takes d chunk at (silent (record { session = d .session; pending = t .pending }) (t .next))
   unfolding fedWith
-  takes-more h = record { next = ap (λ (x : Taken). x .next) e; turned = no-answer d (t .next) (t .pending) (event-is h) }
+  takes-more h = record { next = ap (λ (x : Taken). x .next) e; turned = no-answer d (t .next) (t .pending) (event-is (d .pending) chunk at e h) }
 
--- the two ways out at the end of the input, where b says whether a last line lacks its newline
+-- the two ways out at the end of the input
 module _ (d : Listener) {b : Bool} (e : b ≡ unfinished (d .pending)) where
   pub ends-cut : {q : Stepped} → b ≡ true → Steps (d .session) Malformed q → Ends d (spoken q 0)
-  unfolding ended
-  ends-cut h s =
-      let last : lastStep (d .pending) ≡ onward cut (still empty) = rw (sym e ∙ h) refl in
-      record { next = refl; turned = one-answer d 0 cut last s }
+  ends-cut h s = record { next = refl; turned = one-answer d 0 cut (last-cut (d .pending) e h) s }
 
   pub ends-clean : b ≡ false → Ends d (silent (record { session = d .session; pending = empty }) 0)
-  unfolding ended
-  ends-clean h =
-      let last : lastStep (d .pending) ≡ still empty = rw (sym e ∙ h) refl in
-      record { next = refl; turned = no-answer d 0 empty last }
+  ends-clean h = record { next = refl; turned = no-answer d 0 empty (last-clean (d .pending) e h) }

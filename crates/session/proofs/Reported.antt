@@ -8,24 +8,22 @@ use lib.Dec.{T}
 use lib.Ieee.{Float, binary64, toBits, isNan}
 use Rattle.piece.specs.Sides.{area}
 use Rattle.tree.specs.Figures.{partArea, sheetUsage}
-use Rattle.tree.proofs.Usage.{sheet-positive}
 use Rattle.marks.specs.declared.Refusal.{Refusal}
 use Rattle.marks.specs.declared.Refusal.the-variants.{NotSound}
 use Rattle.layout.specs.declared.layout.Layout.{Layout}
 use Rattle.layout.specs.Check.{tree, soundB}
 use Rattle.layout.specs.SoundLayout.{Sized}
 use Rattle.layout.proofs.Exactly.{sound-says}
-use Rattle.layout.proofs.Areas.{used-small}
 use Rattle.questions.specs.declared.replies.UsageAnswer.{UsageAnswer}
 use Rattle.questions.specs.declared.replies.UsageAnswer.the-variants.{Usage, Refused}
 use Rattle.questions.specs.Answers.{sheetUsageOf}
+use Rattle.questions.proofs.Usage.{sheet-usage-number}
 use Rattle.frames.specs.Answers.{refused, reported}
 use Rattle.frames.specs.declared.Ask.the-variants.{Report}
 use Rattle.session.specs.declared.replies.Said.{Said}
 use Rattle.session.specs.Session.{figures, Says}
 use Rattle.session.specs.Replies.{Replies}
 use Rattle.session.proofs.Ways.{report-gives}
-use Rattle.session.proofs.Usage.{usage-number}
 
 abbrev usage : Layout → Float
 usage l = sheetUsage (partArea (tree l)) (area (l .settings .sheet))
@@ -51,10 +49,7 @@ module _ (l : Layout) {u : UsageAnswer} (e : u ≡ sheetUsageOf l) where
   pub usage-bits : {x : Float} → Sized l → u ≡ Usage x → T (not (isNan x))
   usage-bits sized h =
       let a = answered h in
-      let s = sound-says l sized (a .0) in
-      let small = used-small l s in
-      rw (a .1)
-      (usage-number (partArea (tree l)) (area (l .settings .sheet)) (omega (arith, s .used)) (sheet-positive (s .sound .domain)) (omega arith))
+      rw (a .1) (sheet-usage-number l (sound-says l sized (a .0)))
 
   -- what the answer, or the refusal, asks for is said
   pub reported-done : {x : Float} {r : Said} {b : Bool} → Sized l → u ≡ Usage x → b ≡ false

@@ -25,11 +25,16 @@ askedIn (whole chars) = requestOf chars
 askedIn long = Malformed
 askedIn cut = Malformed
 
--- the lines, one after another, each with its answer, take the state s to the state u
-pub data Runs : Session → List Line → List Answer → Session → Type 0 where
-  none : {s : Session} → Runs s [] [] s
-  more : {s t u : Session} {line : Line} {lines : List Line} {a : Answer} {xs : List Answer}
-      → Answers s (askedIn line) t a → Runs t lines xs u → Runs s (line ∷ lines) (a ∷ xs) u
+-- the lines, one after another, each with its answer, take the state s to the state u: where a line asks as `asked` says, and what is asked gives a state and
+-- an answer as `Gives` says
+pub data RunsBy {Q A : Type 0} (asked : Line → Q) (Gives : Session → Q → Session → A → Type 0) : Session → List Line → List A → Session → Type 0 where
+  none : {s : Session} → RunsBy asked Gives s [] [] s
+  more : {s t u : Session} {line : Line} {lines : List Line} {a : A} {xs : List A}
+      → Gives s (asked line) t a → RunsBy asked Gives t lines xs u → RunsBy asked Gives s (line ∷ lines) (a ∷ xs) u
+
+-- at the counter
+abbrev pub Runs : Session → List Line → List Answer → Session → Type 0
+Runs s lines answers u = RunsBy askedIn Answers s lines answers u
 
 -- what answers look like on the output: their lines, one after another
 abbrev pub textOf : List Answer → List ℕ

@@ -44,6 +44,7 @@ use denote.Triple.Table.{entered, cited}
 use denote.Triple.Walked.{says, Stays, stay-ref, stay-none-slice, walkOf, AllGo, goes-ref, goes-none-slice, Walks, ends-at, walked, walk-meets}
 use denote.Exit.{yes}
 use Rattle.session.specs.Session.{longest}
+use Rattle.frames.specs.Requests.{requestOf}
 use Rattle.kiosk.specs.Step.{Answered}
 use Rattle.kiosk.specs.declared.SteppedRecord.{SteppedRecord}
 use Rattle.kiosk.specs.declared.records.SessionRecord.{SessionRecord}
@@ -132,7 +133,7 @@ module _ {M : Type 1} (𝓤 : URA M) (H : Heap 𝓤) (A : Atoms 𝓤) (W : Given
 
   -- what `stepped` ensures
   abbrev Said : SteppedRecord → Type 0
-  Said r = Answered h (now s) (r .session) (r .line) (r .count)
+  Said r = Answered h (requestOf (now s)) (r .session) (r .line) (r .count)
 
   said : (r : SteppedRecord) → ent 𝓤 (ensured 𝓤 H A g.ended (g.clauses 𝓤 H A at-mem run) (κ₁, tt) (h, (s, tt)) tt r) (fact 𝓤 (Said r))
   said r = exE 𝓤 _ (λ ws. snd∗ 𝓤 (sem 𝓤 H A (lasts g.ended (κ₁, tt) (h, (s, tt)) ws)) (fact 𝓤 (Said r)))

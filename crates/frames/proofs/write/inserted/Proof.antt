@@ -35,7 +35,7 @@ returns c =
     let b = f .before .before .before .before in
     let s = b .before .before .before in
     let a = s .args in
-    answered _
+    answered
     (ap (λ (n : ℕ). 3 ∷ 0 ∷ (markBytes (a .first) ++ (markBytes (a .part) ++ (n ∷ each markBytes (take (a .count) (a .frees))))))
     (length-take-le (a .count) (a .frees) (two-frees s)))
     (and-then (b .begin .ensures) (and-then (f .put-mark .ensures) (and-then (p .put-mark2 .ensures) (o .put-marks .ensures))))

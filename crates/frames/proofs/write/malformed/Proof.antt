@@ -14,4 +14,4 @@ malformed-spec =
     (λ c κs. search needs)  -- begin-requires
     (λ c κs. search needs)  -- end-requires
     (λ c. search needs)  -- same-length
-    (λ c. answered _ refl (c .before .before .before .before .before .before .begin .ensures) (c .before .before .end .ensures)))  -- returns
+    (λ c. answered refl (c .before .before .before .before .before .before .begin .ensures) (c .before .before .end .ensures)))  -- returns

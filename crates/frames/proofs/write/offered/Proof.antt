@@ -32,7 +32,7 @@ returns c =
     let b = o .before .before .before .before in
     let s = b .before .before .before in
     let x = s .args .offers in
-    answered _
+    answered
     (ap (λ (n : ℕ). 2 ∷ 0 ∷ n ∷ each offerBytes (take (x .count) (x .list))) (length-take-le (x .count) (x .list) (four-offers s)))
     (and-then (b .begin .ensures) (o .put-offers .ensures))
     (e .end .ensures)

@@ -11,7 +11,7 @@ unfolding contentOf
 returns c =
     let e = c .before .before in
     let m = e .before .before .before .before in
-    answered _ refl (and-then (m .before .before .before .before .begin .ensures) (m .put-mark .ensures)) (e .end .ensures)
+    answered refl (and-then (m .before .before .before .before .begin .ensures) (m .put-mark .ensures)) (e .end .ensures)
 
 pub opened-spec : {M : Type 1} → statement M
 opened-spec =

@@ -12,7 +12,7 @@ returns : tie.Need-returns
 unfolding contentOf
 returns c =
     let b = c .before .before .before .before .before .before in
-    answered _ (ap (λ (n : ℕ). b .before .before .before .before .args .op ∷ n ∷ []) (sym (b .before .number .ensures)))
+    answered (ap (λ (n : ℕ). b .before .before .before .before .args .op ∷ n ∷ []) (sym (b .before .number .ensures)))
     (b .begin .ensures) (c .before .before .end .ensures)
 
 pub refused-spec : {M : Type 1} → statement M

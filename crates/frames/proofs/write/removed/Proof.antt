@@ -31,7 +31,7 @@ returns c =
     let b = m .before .before .before .before in
     let s = b .before .before .before .before in
     let numbers = take (s .args .count) (s .args .numbers .now) in
-    answered _
+    answered
     (ap (λ (n : ℕ). 4 ∷ 0 ∷ (markBytes (s .args .mark) ++ (n ∷ each two numbers)))
     (length-take-le (s .args .count) (s .args .numbers .now) (omega arith)))
     (and-then (b .begin .ensures) (and-then (m .put-mark .ensures) (o .put-numbers .ensures)))

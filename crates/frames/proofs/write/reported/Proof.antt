@@ -15,7 +15,7 @@ returns c =
     let used = nodes .before .before .before .before in
     let op = used .before .before .before .before in
     let all = and-then (op .begin .ensures) (and-then (used .put-eight .ensures) (and-then (nodes .put .ensures) (bits .put-eight2 .ensures))) in
-    answered _ refl all (e .end .ensures)
+    answered refl all (e .end .ensures)
 
 pub reported-spec : {M : Type 1} → statement M
 reported-spec =

@@ -1,0 +1,13 @@
+pub mod Told
+pub mod Figured
+pub mod Fits
+pub mod Reading
+pub mod Stepping
+pub mod Listening
+pub mod Superset
+pub mod RequestLaws
+pub mod Heard
+pub mod Decided
+pub mod Unique
+pub mod Counter
+pub mod Fitting
