@@ -1,4 +1,4 @@
-/* Nickelgrove's counter for programs in C and C++: the archive libkiosk.a of the proved crate `kiosk`.
+/* Nickelgrove's counter and desk for programs in C and C++: the archive libkiosk.a of the proved crate `kiosk`.
  *
  * A session is a record of plain numbers that the caller holds and lends. It starts with zeros: no sheet, and none kept. A line goes in and its answer
  * comes out, as document 01 sets them out ("Counter frames").
@@ -19,9 +19,10 @@ extern "C" {
 #define NICKELGROVE_ASSERT _Static_assert
 #endif
 
-/* The most nodes that a layout holds; the bytes lent for an answer, and for a list of saw cuts. */
+/* The most nodes that a layout holds; the bytes lent for an answer, for an answer of the desk, and for a list of saw cuts. */
 #define NICKELGROVE_LIMIT 255
 #define NICKELGROVE_LONGEST 1035
+#define NICKELGROVE_DESK_LONGEST 6641
 #define NICKELGROVE_ROOM 2295
 
 /* Said in place of a list's bytes, where there is no list. */
@@ -71,10 +72,11 @@ struct nickelgrove_session {
   struct nickelgrove_layout kept;
 };
 
-/* The archive's own sizes: NICKELGROVE_LIMIT, NICKELGROVE_LONGEST, NICKELGROVE_ROOM and sizeof(struct nickelgrove_session). Compare them before anything is
- * lent: an archive of another build may have others, and would write past what it is lent. */
+/* The archive's own sizes: NICKELGROVE_LIMIT, NICKELGROVE_LONGEST, NICKELGROVE_DESK_LONGEST, NICKELGROVE_ROOM and sizeof(struct nickelgrove_session). Compare
+ * them before anything is lent: an archive of another build may have others, and would write past what it is lent. */
 size_t nickelgrove_limit(void);
 size_t nickelgrove_longest(void);
+size_t nickelgrove_desk_longest(void);
 size_t nickelgrove_room(void);
 size_t nickelgrove_session_bytes(void);
 
@@ -84,6 +86,14 @@ size_t nickelgrove_session_bytes(void);
  * Where the answer is a refusal (a number, or malformed), each number of the session is afterwards what it was before. Where it isn't, the session's layout is
  * the next one; the kept one is written by keep alone. Of the bytes between numbers nothing is said. */
 size_t nickelgrove_step(struct nickelgrove_session *session, const uint8_t *line, size_t length, uint8_t *answer);
+
+/* Answers the line of `length` characters as nickelgrove_step does, on the same session, and the lines of the desk's own ops too (docs/DESK.md): why not, the
+ * room light, the two lists, the part numbers, the figures, the tree snapshot and the saw cuts. None of these changes anything. A line of nickelgrove_step gets
+ * the same answer here, byte for byte.
+ *
+ * Writes NICKELGROVE_DESK_LONGEST bytes to `answer`: the answer, its newline, and zeros. Gives how many of them are the answer, its newline among them. Where the
+ * answer is a refusal, each number of the session is afterwards what it was before. */
+size_t nickelgrove_desk(struct nickelgrove_session *session, const uint8_t *line, size_t length, uint8_t *answer);
 
 /* Writes the saw cuts that make the parts and free pieces of the session's layout to the first bytes of `list`, which has room for NICKELGROVE_ROOM, and gives
  * how many bytes it wrote: 9 for each cut, in the order in which they are made. Place of the piece 2, way 1 (0 Horizontal, 1 Vertical), distance 4, what is cut

@@ -1,76 +1,54 @@
-//! The counter of a kiosk: frames in, answers out, as document 01 sets them out ("Counter frames").
+//! A board merchant's kiosk: room on a stock sheet is offered, booked, and put back on a timeout.
 //!
-//! All of it is the proved crate `kiosk`, linked as an archive: what a line is answered with, that every line is, and the list of saw cuts of the sheet.
-//! Here are the session's memory and the calls.
+//! All of it is the proved crate `kiosk`, linked as an archive: offers, bookings, removals, figures, the tree, the saw cuts, and that every call is answered.
+//! Here are the memory of a session, the calls, and their types. Three types have calls:
+//!
+//! - [`Sheet`]: a stock sheet, with every call in Rust's types. Start here.
+//! - [`Desk`]: the same by frames (docs/DESK.md), line in and line out, or as a [`Request`] and its [`Answer`].
+//! - [`Counter`]: the frames of document 01 alone, and the list of saw cuts.
 //!
 //! ```
-//! let mut counter = nickelgrove_kiosk::Counter::new();
-//! assert_eq!(counter.answer("010001000000640000003c01035a"), "010000010100000002fb");
+//! use nickelgrove_kiosk::{Part, Refusal, Sheet, Way};
+//!
+//! // sheet 1, 100 x 60, first cut vertical, three stages
+//! let mut sheet = Sheet::open(1, 100, 60, Way::Vertical, 3)?;
+//! let part = Part::new(7, 40, 60);
+//! let free = sheet.room_light(part)?.expect("there is room on an empty sheet");
+//! let offers = sheet.offers(free, part)?;
+//! sheet.keep()?;
+//! let booking = sheet.insert(free, part, offers[0])?;
+//! assert_eq!(sheet.figures()?.sheet_usage, 0.4);
+//! sheet.restore()?; // the customer has gone: the sheet stands as it was
+//! assert_eq!(sheet.remove(booking.part), Err(Refusal::Gone));
+//! # Ok::<(), Refusal>(())
 //! ```
 #![deny(unsafe_code)]
+#![warn(missing_docs)]
 
+#[cfg(test)]
+#[path = "../tests/common/mod.rs"]
+mod common;
 #[cfg(test)]
 extern crate self as nickelgrove_kiosk;
 
+mod answer;
 mod archive;
+mod counter;
 mod cuts;
+mod desk;
+mod nodes;
 mod records;
+mod refusal;
+mod request;
+mod sheet;
+mod values;
 
+pub use answer::Answer;
+pub use counter::Counter;
 pub use cuts::{Cut, Piece, Way};
-use records::{SessionRecord, LONGEST, NO_LIST, ROOM};
-
-/// A counter: a sheet and a kept snapshot of it, none of both at the start.
-///
-/// It can't be copied: of two counters with one past, each would issue the other's marks for pieces of its own.
-pub struct Counter {
-    session: Box<SessionRecord>,
-    answer: [u8; LONGEST],
-}
-
-impl Counter {
-    /// A counter with no sheet on it.
-    ///
-    /// # Panics
-    /// Where the archive is of another build, with other sizes than this crate has.
-    pub fn new() -> Self {
-        archive::compare();
-        Counter { session: Box::new(SessionRecord::ZERO), answer: [0; LONGEST] }
-    }
-
-    /// The answer to a line, both without their newlines. Any bytes are a line; one that is no frame is answered as malformed. The call works on copies of
-    /// the session: 512 KiB of stack are enough.
-    pub fn answer(&mut self, line: impl AsRef<[u8]>) -> &str {
-        let count = archive::step(&mut self.session, line.as_ref(), &mut self.answer);
-        let (_newline, answer) = self.answer[..count].split_last().expect("an answer ends with its newline");
-        std::str::from_utf8(answer).expect("an answer is hexadecimal")
-    }
-
-    /// The saw cuts that make the sheet's parts and free pieces, in the order in which they are made; none before a sheet is opened. A saw that makes them
-    /// ends with exactly these pieces, in the order of the tree snapshot; a free piece without area is left out. The stack as for an answer.
-    ///
-    /// ```
-    /// use nickelgrove_kiosk::{Counter, Cut, Piece, Way};
-    ///
-    /// let mut counter = Counter::new();
-    /// assert_eq!(counter.cuts(), None);
-    /// counter.answer("010001000000640000003c01035a");
-    /// counter.answer("03000101000000020007000000280000003c0000018d");
-    /// let cut = Cut { place: 0, way: Way::Vertical, distance: 40, piece: Piece::Part, left: Piece::Free };
-    /// assert_eq!(counter.cuts(), Some(vec![cut]));
-    /// ```
-    pub fn cuts(&self) -> Option<Vec<Cut>> {
-        let mut list = [0; ROOM];
-        let count = archive::cuts(&self.session, &mut list);
-        if count == NO_LIST {
-            return None;
-        }
-        let whole = |bytes: &[u8]| Cut::read(bytes.try_into().expect("a list is whole cuts"));
-        Some(list[..usize::from(count)].chunks(cuts::BYTES).map(whole).collect())
-    }
-}
-
-impl Default for Counter {
-    fn default() -> Self {
-        Counter::new()
-    }
-}
+pub use desk::Desk;
+pub use nodes::{Kind, Node};
+pub use refusal::Refusal;
+pub use request::Request;
+pub use sheet::Sheet;
+pub use values::{Booking, Figures, Mark, Offer, Part, Reason, Reasons, Removal, Report, Rotation, Shape, Turn};

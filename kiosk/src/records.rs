@@ -5,16 +5,20 @@ use std::mem::{align_of, offset_of, size_of};
 /// The most nodes that a layout holds.
 const LIMIT: usize = 255;
 
-/// The characters of the longest answer, its newline among them.
+/// The characters of the counter's longest answer, its newline among them.
 pub const LONGEST: usize = 1035;
+
+/// The characters of the desk's longest answer, its newline among them: the snapshot of a full table.
+pub const DESK_LONGEST: usize = 2 * (2 + 2 + crate::nodes::BYTES * LIMIT + 1) + 1;
 
 /// The bytes lent for a list of saw cuts: more than any list has.
 pub const ROOM: usize = crate::cuts::BYTES * LIMIT;
 
 /// The sizes of what is lent, each by name: the archive must have the same.
-pub const SIZES: [(&str, usize); 4] = [
+pub const SIZES: [(&str, usize); 5] = [
     ("the most nodes of a layout", LIMIT),
     ("the longest answer", LONGEST),
+    ("the longest answer of the desk", DESK_LONGEST),
     ("the room for a list of saw cuts", ROOM),
     ("the size of a session", size_of::<SessionRecord>()),
 ];
@@ -66,7 +70,8 @@ struct LayoutRecord {
 }
 
 /// The sheet on the counter, and the kept one.
-#[cfg_attr(test, derive(Clone, PartialEq))]
+#[derive(Clone)]
+#[cfg_attr(test, derive(PartialEq))]
 #[repr(C)]
 pub struct SessionRecord {
     layout: LayoutRecord,

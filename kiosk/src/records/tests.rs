@@ -1,23 +1,31 @@
 //! What the archive does to what is lent: it has the same records, writes within them, refuses those that are no sound sheet, and leaves them as they were
 //! where it refuses.
 
-#[path = "../../tests/common/mod.rs"]
-mod common;
-
 use super::*;
 use crate::archive;
-use common::{insert, line, lines_of, mark, part, remove, Random, KEEP, OPEN, REPORT, RESTORE};
+use crate::common::typed::MALFORMED;
+use crate::common::{insert, line, lines_of, mark, numbers, part, remove, Random, KEEP, OPEN, REPORT, RESTORE};
 
 /// Document 01's booking on its sheet: part 7 of 40 x 60 along the cut.
 const BOOKING: &str = "03000101000000020007000000280000003c0000018d";
-const MALFORMED: &str = "ff0ef3";
 
-/// The answer to a line, without its newline.
+/// The desk's answer to a line, without its newline; zeros are behind it. The counter's is the same, and so is its session, but where the op is the desk's own.
 fn answer(session: &mut SessionRecord, line: impl AsRef<[u8]>) -> String {
-    let mut answer = [0; LONGEST];
-    let count = archive::step(session, line.as_ref(), &mut answer);
-    assert!(answer[count - 1] == b'\n' && answer[count..].iter().all(|byte| *byte == 0));
-    String::from_utf8(answer[..count - 1].to_vec()).expect("hexadecimal")
+    let line = line.as_ref();
+    let (mut counters, mut said) = (session.clone(), [7; LONGEST]);
+    let count = archive::step(&mut counters, line, &mut said);
+    assert!(said[count - 1] == b'\n' && said[count..].iter().all(|byte| *byte == 0));
+
+    let mut answer = [7; DESK_LONGEST];
+    let desk_count = archive::desk(session, line, &mut answer);
+    assert!(answer[desk_count - 1] == b'\n' && answer[desk_count..].iter().all(|byte| *byte == 0));
+    if matches!(line, [b'1', b'1'..=b'8', ..]) {
+        assert_eq!(said[..count - 1], *MALFORMED.as_bytes(), "an op of the desk alone");
+    } else {
+        assert_eq!(answer[..desk_count], said[..count]);
+        assert!(*session == counters);
+    }
+    String::from_utf8(answer[..desk_count - 1].to_vec()).expect("hexadecimal")
 }
 
 /// Document 01's sheet with its part on it, kept.
@@ -29,12 +37,19 @@ fn booked() -> SessionRecord {
     session
 }
 
-/// A line for each op that looks at the sheet, with its op: part 1 x 1 into the free piece, and part 7 out.
+/// A line for each op that looks at the sheet, with its op: part 1 x 1 into the free piece, and part 7 out; then the desk's.
 fn looks() -> Vec<(u8, String)> {
     let (free, small) = (mark(2, 4), part(1, 1));
     let offers = line(&[&[2], free.as_slice(), &small].concat());
     let lines = [offers, insert(&free, &small, 3), remove(&mark(1, 3)), KEEP.into(), RESTORE.into(), REPORT.into()];
-    (2..).zip(lines).collect()
+    (2..).zip(lines).chain(questions()).collect()
+}
+
+/// A line for each op of the desk's own, with its op. None of them changes anything.
+fn questions() -> Vec<(u8, String)> {
+    let (free, small) = (mark(2, 4), part(1, 1));
+    let fields = [[free.as_slice(), &small].concat(), small, vec![0, 0], vec![0, 0], vec![], vec![], vec![], vec![]];
+    (0x11..).zip(fields).map(|(op, fields)| (op, line(&[vec![op], fields].concat()))).collect()
 }
 
 fn refused(op: u8, number: u8) -> String {
@@ -109,6 +124,35 @@ fn the_archive_writes_within_what_is_lent() {
     assert!(longest > 1000, "{longest}");
 }
 
+/// The same of the desk, whose longest answer has 6,641 characters: a snapshot of 255 nodes. Each of its questions is asked behind every line of the long sessions,
+/// of which some fill the table.
+#[test]
+fn the_desk_writes_within_what_is_lent() {
+    #[repr(C)]
+    struct Lent {
+        before: [u64; 512],
+        session: SessionRecord,
+        between: [u64; 512],
+        answer: [u8; DESK_LONGEST],
+        behind: [u8; 4096],
+    }
+    let guard = u64::from_ne_bytes([7; 8]);
+    let (before, between) = ([guard; 512], [guard; 512]);
+    let mut lent = Box::new(Lent { before, session: SessionRecord::ZERO, between, answer: [7; DESK_LONGEST], behind: [7; 4096] });
+    assert_eq!(DESK_LONGEST, 6641);
+    let questions: Vec<Vec<u8>> = questions().into_iter().map(|(_, line)| line.into_bytes()).collect();
+    let mut longest = 0;
+    for line in lines_of("recorded/long.in").iter().chain([&b"no frame".to_vec()]) {
+        for line in [line].into_iter().chain(&questions) {
+            let count = archive::desk(&mut lent.session, line, &mut lent.answer);
+            assert!(lent.before == before && lent.between == between && lent.behind == [7; 4096]);
+            assert!(lent.answer[count - 1] == b'\n' && lent.answer[count..].iter().all(|byte| *byte == 0));
+            longest = longest.max(count);
+        }
+    }
+    assert_eq!(longest, DESK_LONGEST);
+}
+
 /// Each way to spoil a record by one number that document 01 doesn't list, at a place that is held and at one that isn't.
 fn unlisted() -> Vec<impl Fn(&mut LayoutRecord)> {
     let spoil = |place: usize, kind: Option<u8>, cut: Option<u8>| {
@@ -151,7 +195,8 @@ fn an_unlisted_kind_or_cut_is_not_restored() {
         spoil(&mut session.kept);
         stays(&mut session, RESTORE, &refused(6, 1));
         let kept = session.kept;
-        for (op, line) in looks().into_iter().filter(|(op, _)| [2, 3, 4, 7].contains(op)) {
+        let lines = questions().into_iter().chain(looks().into_iter().filter(|(op, _)| [2, 3, 4, 7].contains(op)));
+        for (op, line) in lines {
             assert_eq!(answer(&mut session, line)[..4], format!("{op:02x}00"));
             assert!(session.kept == kept);
         }
@@ -161,12 +206,12 @@ fn an_unlisted_kind_or_cut_is_not_restored() {
     }
 }
 
-/// Offers and report change nothing where they accept either; each other refusal of document 01 that a few lines can reach leaves the session as it was.
+/// Offers, report and the desk's questions change nothing where they accept either; each other refusal of document 01 that a few lines can reach leaves the session as it was.
 #[test]
 fn what_refuses_and_what_only_looks_changes_nothing() {
     let mut session = booked();
     let (free, gone, elsewhere) = (mark(2, 4), mark(9, 9), [&[0, 2], &mark(9, 9)[2..]].concat());
-    for (op, line) in looks().into_iter().filter(|(op, _)| [2, 7].contains(op)) {
+    for (op, line) in looks().into_iter().filter(|(op, _)| [2, 7].contains(op) || *op > 0x10) {
         let before = session.clone();
         assert_eq!(answer(&mut session, line)[..4], format!("{op:02x}00"));
         assert!(session == before);
@@ -180,6 +225,15 @@ fn what_refuses_and_what_only_looks_changes_nothing() {
         (insert(&free, &part(1, 1), 2), 3, 7),
         (remove(&mark(0, 1)), 4, 10),
         (remove(&free), 4, 11),
+        (why_not(&elsewhere, &part(0, 1)), 0x11, 3),
+        (why_not(&elsewhere, &part(1, 1)), 0x11, 4),
+        (why_not(&gone, &part(1, 1)), 0x11, 5),
+        (why_not(&mark(0, 1), &part(1, 1)), 0x11, 6),
+        (line(&[vec![0x12], part(1, 0)].concat()), 0x12, 3),
+        (line(&[0x13, 0, 1]), 0x13, 12),
+        (line(&[0x13, 255, 255]), 0x13, 12),
+        (line(&[0x14, 0, 2]), 0x14, 12),
+        (line(&[0x14, 255, 255]), 0x14, 12),
     ];
     for (line, op, number) in asked {
         stays(&mut session, line, &refused(op, number));
@@ -187,6 +241,25 @@ fn what_refuses_and_what_only_looks_changes_nothing() {
     for line in ["", "05fc", "0800f8", "no frame"] {
         stays(&mut session, line, MALFORMED);
     }
+    // a field too few or too many, a turn that is not listed, an op that is none
+    for (op, frame) in questions() {
+        let bytes = numbers(&frame);
+        let fields = &bytes[..bytes.len() - 1];
+        stays(&mut session, line(&[fields, &[0]].concat()), MALFORMED);
+        if fields.len() > 1 {
+            stays(&mut session, line(&fields[..fields.len() - 1]), MALFORMED);
+        }
+        if [0x11, 0x12].contains(&op) {
+            stays(&mut session, line(&[&fields[..fields.len() - 1], &[3]].concat()), MALFORMED);
+        }
+    }
+    for op in (8..=0x10).chain(0x19..=255).chain([0]) {
+        stays(&mut session, line(&[op]), MALFORMED);
+    }
+}
+
+fn why_not(mark: &[u8], part: &[u8]) -> String {
+    line(&[&[0x11], mark, part].concat())
 }
 
 /// Records of random numbers, small ones among them: whatever they hold, what refuses leaves them as they were.

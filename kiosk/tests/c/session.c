@@ -1,5 +1,5 @@
-/* The archive from a program in C, by nickelgrove.h: its sizes, document 01's session, the list of saw cuts, and refusals that leave the session as it was.
- * kiosk/test compiles and runs it. The last line counts as cargo's does. */
+/* The archive from a program in C, by nickelgrove.h: its sizes, document 01's session, the desk's questions, the list of saw cuts, and refusals that leave the
+ * session as it was. kiosk/test compiles and runs it. The last line counts as cargo's does. */
 #include <stdio.h>
 #include <string.h>
 
@@ -7,6 +7,8 @@
 
 static const char OPEN[] = "010001000000640000003c01035a";
 static const char BOOKING[] = "03000101000000020007000000280000003c0000018d";
+/* The same into the piece that it leaves. */
+static const char BOOKING_BEHIND[] = "03000102000000040007000000280000003c0000018a";
 static const char KEEP[] = "05fb";
 static const char RESTORE[] = "06fa";
 static const char REPORT[] = "07f9";
@@ -19,6 +21,8 @@ static struct {
   uint8_t behind_session[BEHIND];
   uint8_t answer[NICKELGROVE_LONGEST];
   uint8_t behind_answer[BEHIND];
+  uint8_t desk_answer[NICKELGROVE_DESK_LONGEST];
+  uint8_t behind_desk_answer[BEHIND];
   uint8_t list[NICKELGROVE_ROOM];
   uint8_t behind_list[BEHIND];
 } lent;
@@ -43,7 +47,8 @@ static int all(const uint8_t *bytes, size_t count, int byte) {
 }
 
 static int guards_stand(void) {
-  return all(lent.behind_session, BEHIND, 7) && all(lent.behind_answer, BEHIND, 7) && all(lent.behind_list, BEHIND, 7);
+  return all(lent.behind_session, BEHIND, 7) && all(lent.behind_answer, BEHIND, 7) && all(lent.behind_desk_answer, BEHIND, 7) &&
+         all(lent.behind_list, BEHIND, 7);
 }
 
 /* Whether the line gets this answer, with its newline and then zeros. */
@@ -74,9 +79,24 @@ static int stays(const char *line, const char *answer) {
   return says(line, answer) && same_layout(&lent.session.layout, &before.layout) && same_layout(&lent.session.kept, &before.kept);
 }
 
+/* Whether the desk gives the line this answer, with its newline and then zeros. */
+static int desk_says(const char *line, const char *answer) {
+  size_t length = strlen(answer);
+  size_t count = nickelgrove_desk(&lent.session, (const uint8_t *)line, strlen(line), lent.desk_answer);
+  return count == length + 1 && memcmp(lent.desk_answer, answer, length) == 0 && lent.desk_answer[length] == '\n' &&
+         all(lent.desk_answer + count, NICKELGROVE_DESK_LONGEST - count, 0) && guards_stand();
+}
+
+/* The same, and the session stays as it was. */
+static int desk_stays(const char *line, const char *answer) {
+  struct nickelgrove_session before = lent.session;
+  return desk_says(line, answer) && same_layout(&lent.session.layout, &before.layout) && same_layout(&lent.session.kept, &before.kept);
+}
+
 static void sizes(void) {
   check(nickelgrove_limit() == NICKELGROVE_LIMIT, "the limit");
   check(nickelgrove_longest() == NICKELGROVE_LONGEST, "the longest answer");
+  check(nickelgrove_desk_longest() == NICKELGROVE_DESK_LONGEST, "the longest answer of the desk");
   check(nickelgrove_room() == NICKELGROVE_ROOM, "the room for a list");
   check(nickelgrove_session_bytes() == sizeof(struct nickelgrove_session), "the size of a session");
 }
@@ -88,6 +108,28 @@ static void document_01_session(void) {
   check(says(BOOKING, "030000010100000003000101000000030100010200000004eb"), "the booking");
   check(stays(BOOKING, "0305f8"), "the booking again");
   check(stays("no frame", "ff0ef3") && stays("", "ff0ef3"), "a malformed line");
+}
+
+/* The questions of the desk on document 01's sheet with its part on it: why 101 x 60 doesn't fit, the light for it and for 60 x 60, the lists, the numbers, the
+ * figures, the tree and the cuts. */
+static void desk(void) {
+  start();
+  check(desk_stays("15eb", "1501ea") && desk_stays("17e9", "1701e8") && desk_stays(REPORT, "0701f8"), "the desk before an opening");
+  check(desk_stays("010001000000000000003c0103be", "0102fd"), "an opening outside the limits, at the desk");
+  check(desk_says(OPEN, "010000010100000002fb") && desk_says(KEEP, "0500fb"), "an opening and a keep, at the desk");
+  check(desk_says(BOOKING, "030000010100000003000101000000030100010200000004eb"), "the booking, at the desk");
+  check(desk_stays("11000102000000040008000000650000003c003f", "11000102ec"), "why not: too wide, and too tall when it is turned");
+  check(desk_stays("120008000000650000003c0045", "12000000000000000000ee"), "no light");
+  check(desk_stays("1200080000003c0000003c006e", "12000100010200000004e6"), "a light");
+  check(desk_stays("130000ed", "130000010200000004e6") && desk_stays("130001ec", "130ce1"), "the free list and its end");
+  check(desk_stays("140000ec", "140000010100000003e7") && desk_stays("140002ea", "140ce0"), "the removable list and its end");
+  check(desk_stays("15eb", "150000010007e3"), "the part numbers");
+  check(desk_stays("16ea", "160000000000000009600000000000000e100003003fd999999999999a3fd999999999999a02"), "the figures");
+  check(desk_stays("17e9", "170000030002010000000000640000003c0101000007000000280000003c01000000000000003c0000003c5d"), "the tree");
+  check(desk_stays("18e8", "18000001000001000000280100bd"), "the saw cuts");
+  check(desk_stays(BOOKING, "0305f8") && desk_stays("no frame", "ff0ef3") && desk_stays("", "ff0ef3"), "the counter's lines at the desk");
+  check(stays("15eb", "ff0ef3"), "a question of the desk at the counter");
+  check(desk_says(RESTORE, "0600fa") && desk_stays("15eb", "15000000eb") && desk_stays(BOOKING_BEHIND, "0305f8"), "a restore, at the desk");
 }
 
 static void list_of_cuts(void) {
@@ -110,6 +152,9 @@ static void unlisted(void) {
   lent.session.layout.nodes[1].datum.kind = 3;
   check(stays(BOOKING, "0301fc") && stays(KEEP, "0501fa") && stays(RESTORE, "0601f9") && stays(REPORT, "0701f8"),
         "a layout with an unlisted kind");
+  check(desk_stays("130000ed", "1301ec") && desk_stays("15eb", "1501ea") && desk_stays("16ea", "1601e9") && desk_stays("17e9", "1701e8") &&
+            desk_stays("18e8", "1801e7"),
+        "and the desk's questions");
   check(nickelgrove_cuts(&lent.session, lent.list) == NICKELGROVE_NO_LIST && all(lent.list, NICKELGROVE_ROOM, 7), "and its list");
   check(says(OPEN, "010000010100000002fb") && says(RESTORE, "0600fa"), "an opening takes its place");
 }
@@ -117,6 +162,7 @@ static void unlisted(void) {
 int main(void) {
   sizes();
   document_01_session();
+  desk();
   list_of_cuts();
   unlisted();
   printf("test result: %s. %d passed; %d failed\n", failed ? "FAILED" : "ok", passed, failed);

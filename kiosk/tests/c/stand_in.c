@@ -12,6 +12,7 @@ static size_t size(const char *name, size_t ours) {
 
 size_t nickelgrove_limit(void) { return size("limit", NICKELGROVE_LIMIT); }
 size_t nickelgrove_longest(void) { return size("longest", NICKELGROVE_LONGEST); }
+size_t nickelgrove_desk_longest(void) { return size("desk_longest", NICKELGROVE_DESK_LONGEST); }
 size_t nickelgrove_room(void) { return size("room", NICKELGROVE_ROOM); }
 size_t nickelgrove_session_bytes(void) { return size("session_bytes", sizeof(struct nickelgrove_session)); }
 
@@ -21,6 +22,14 @@ size_t nickelgrove_step(struct nickelgrove_session *session, const uint8_t *line
   memset(session, 0, nickelgrove_session_bytes());
   memset(answer, '\n', nickelgrove_longest());
   return nickelgrove_longest();
+}
+
+size_t nickelgrove_desk(struct nickelgrove_session *session, const uint8_t *line, size_t length, uint8_t *answer) {
+  (void)line;
+  (void)length;
+  memset(session, 0, nickelgrove_session_bytes());
+  memset(answer, '\n', nickelgrove_desk_longest());
+  return nickelgrove_desk_longest();
 }
 
 uint16_t nickelgrove_cuts(const struct nickelgrove_session *session, uint8_t *list) {

@@ -1,6 +1,8 @@
 //! What the tests share: the checkout's files, frames on document 01's sheet, and random numbers. No test takes all of it.
 #![allow(dead_code)]
 
+pub mod typed;
+
 use std::fs;
 use std::path::Path;
 
@@ -47,7 +49,12 @@ pub fn remove(mark: &[u8]) -> String {
 /// The line for these bytes, with the check that makes them add to 0.
 pub fn line(bytes: &[u8]) -> String {
     let sum = bytes.iter().fold(0, |sum: u8, byte| sum.wrapping_add(*byte));
-    bytes.iter().chain([&sum.wrapping_neg()]).map(|byte| format!("{byte:02x}")).collect()
+    hex(&[bytes, &[sum.wrapping_neg()]].concat())
+}
+
+/// These bytes, two characters each.
+pub fn hex(bytes: &[u8]) -> String {
+    bytes.iter().map(|byte| format!("{byte:02x}")).collect()
 }
 
 /// The bytes that an answer stands for.

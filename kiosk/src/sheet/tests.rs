@@ -1,0 +1,303 @@
+//! The typed calls on the recorded sessions and on random ones: the answers that the frames get, and the fields that `inspect` shows.
+//!
+//! A session of frames opens sheets one after another, keeps and restores over their openings, and asks before there is one. A `Sheet` is one opening. These tests
+//! stand inside the crate: they put a `Sheet` around a desk with no sheet on it and open the next sheet on that desk, which no program can.
+
+use std::collections::BTreeMap;
+use std::io::Write;
+use std::path::Path;
+use std::process::{Command, Stdio};
+use std::sync::Once;
+use std::{io, thread};
+
+use super::*;
+use crate::common::typed::{fields, op_of, part_asked, request_of, said, MALFORMED};
+use crate::common::{lines_of, Random};
+use crate::{Kind, Report, Rotation, Shape, Turn};
+
+/// The request as a typed call, and what that gives as the answer to the request.
+fn call(sheet: &mut Sheet, request: &Request) -> Result<Answer, Refusal> {
+    match *request {
+        Request::Open { number, width, height, first_cut, stages } => {
+            let answer = sheet.desk.ask(request);
+            let own = Sheet::open(number, width, height, first_cut, stages);
+            // a sheet on a desk of its own is the same one
+            assert_eq!(own.map(|own| fields(&own, None)), answer.clone().map(|_| fields(sheet, None)));
+            answer
+        }
+        Request::Offers { piece, part } => sheet.offers(piece, part).map(Answer::Offers),
+        Request::Insert { piece, part, offer } => sheet.insert(piece, part, offer).map(Answer::Booked),
+        Request::Remove { piece } => sheet.remove(piece).map(Answer::Removed),
+        Request::Keep => sheet.keep().map(|()| Answer::Kept),
+        Request::Restore => sheet.restore().map(|()| Answer::Restored),
+        // the figures have what the report says
+        Request::Report => sheet.figures().map(|figures| {
+            Answer::Report(Report { used_area: figures.used_area, nodes: figures.nodes, sheet_usage: figures.sheet_usage })
+        }),
+        Request::WhyNot { piece, part } => sheet.why_not(piece, part).map(Answer::Reasons),
+        Request::RoomLight { part } => sheet.room_light(part).map(Answer::Light),
+        Request::FreePiece { position } => at(sheet.free_pieces()?, position).map(Answer::FreePiece),
+        Request::RemovablePiece { position } => at(sheet.removable()?, position).map(Answer::RemovablePiece),
+        Request::PartNumbers => sheet.part_numbers().map(Answer::PartNumbers),
+        Request::Figures => sheet.figures().map(Answer::Figures),
+        Request::Snapshot => sheet.snapshot().map(Answer::Snapshot),
+        Request::Cuts => sheet.cuts().map(Answer::Cuts),
+    }
+}
+
+fn at(list: Vec<Mark>, position: u16) -> Result<Mark, Refusal> {
+    list.get(usize::from(position)).copied().ok_or(Refusal::PastTheEnd)
+}
+
+/// A session of frames by typed calls.
+struct Session {
+    sheet: Sheet,
+    malformed: usize,
+}
+
+impl Session {
+    fn new() -> Self {
+        Session { sheet: Sheet { desk: Desk::new() }, malformed: 0 }
+    }
+
+    /// What a line gets, and the part that it asks about. A malformed line has no typed call: it is counted, and changes nothing.
+    fn turn(&mut self, line: &[u8]) -> (String, Option<Part>) {
+        let Some(request) = request_of(line) else {
+            self.malformed += 1;
+            return (MALFORMED.into(), None);
+        };
+        (said(op_of(&request), &call(&mut self.sheet, &request)), part_asked(&request))
+    }
+
+    /// The line that `inspect` has for this one.
+    fn inspected(&mut self, line: &[u8]) -> String {
+        let (answer, part) = self.turn(line);
+        format!("{answer} {}", fields(&self.sheet, part).join(" "))
+    }
+}
+
+fn texts_of(file: &str) -> Vec<String> {
+    lines_of(file).into_iter().map(|line| String::from_utf8(line).expect("hexadecimal")).collect()
+}
+
+/// The Rust's recorded lines of `inspect`: the answers, the trees, the lists, the figures, the part numbers, the lights and the saw cuts.
+#[test]
+fn short_sessions_by_typed_calls() {
+    let (frames, lines) = (lines_of("recorded/sessions.in"), texts_of("recorded/sessions.out"));
+    assert_eq!(frames.len(), lines.len());
+    let mut session = Session::new();
+    for (place, (frame, line)) in frames.iter().zip(lines).enumerate() {
+        assert_eq!(session.inspected(frame), line, "line {}", place + 1);
+    }
+    assert_eq!((frames.len(), session.malformed), (4_125, 93));
+}
+
+/// On a quarter of the stack that a thread has by default.
+fn on_a_small_stack(test: impl FnOnce() + Send + 'static) {
+    let thread = thread::Builder::new().stack_size(512 << 10).spawn(test);
+    thread.expect("a thread").join().expect("every answer was right");
+}
+
+/// The Rust's recorded answers to the long sessions.
+#[test]
+fn long_sessions_by_typed_calls() {
+    on_a_small_stack(|| {
+        let (frames, answers) = (lines_of("recorded/long.in"), texts_of("recorded/long.out"));
+        assert_eq!(frames.len(), answers.len());
+        let mut session = Session::new();
+        for (place, (frame, answer)) in frames.iter().zip(answers).enumerate() {
+            assert_eq!(session.turn(frame).0, answer, "line {}", place + 1);
+        }
+        assert_eq!((frames.len(), session.malformed), (1_975, 3));
+    });
+}
+
+/// What our program `inspect` says to these lines. Nothing where it is not there: `kiosk/test` makes it, and a plain `cargo test` may go without.
+fn inspect(lines: &[String]) -> Option<Vec<String>> {
+    let program = Path::new(env!("CARGO_MANIFEST_DIR")).join("../target/native/inspect");
+    if !program.exists() {
+        // once, and past what `cargo test` keeps to itself
+        static SAID: Once = Once::new();
+        let words = "skipped: there is no target/native/inspect to compare with; tools/native inspect makes it";
+        SAID.call_once(|| writeln!(io::stderr(), "{words}").expect("said"));
+        return None;
+    }
+    let mut child = Command::new(program).stdin(Stdio::piped()).stdout(Stdio::piped()).spawn().expect("inspect runs");
+    let mut input = child.stdin.take().expect("its input");
+    let text = lines.iter().map(|line| format!("{line}\n")).collect::<String>();
+    let writer = thread::spawn(move || input.write_all(text.as_bytes()).expect("inspect reads all lines"));
+    let output = child.wait_with_output().expect("inspect ends");
+    writer.join().expect("all lines were written");
+    assert!(output.status.success());
+    Some(String::from_utf8(output.stdout).expect("hexadecimal").lines().map(str::to_string).collect())
+}
+
+/// Compares the lines of `inspect` with these, each of which stands for the frame of its place.
+fn compare(frames: &[String], ours: &[String]) {
+    let Some(theirs) = inspect(frames) else { return };
+    assert_eq!(theirs.len(), ours.len());
+    for (place, (ours, theirs)) in ours.iter().zip(theirs).enumerate() {
+        assert_eq!(*ours, theirs, "line {}: {}", place + 1, frames[place]);
+    }
+}
+
+/// The fields of `inspect` on the long sessions, the deepest trees and the fullest tables.
+#[test]
+fn long_sessions_by_inspect() {
+    on_a_small_stack(|| {
+        let frames = texts_of("recorded/long.in");
+        let mut session = Session::new();
+        let lines: Vec<String> = frames.iter().map(|frame| session.inspected(frame.as_bytes())).collect();
+        compare(&frames, &lines);
+    });
+}
+
+/// Random calls.
+struct Caller {
+    random: Random,
+    /// Every mark that was answered, gone ones too.
+    seen: Vec<Mark>,
+}
+
+const LARGEST: u32 = 67_108_863;
+
+impl Caller {
+    fn below(&mut self, limit: usize) -> usize {
+        self.random.below(limit as u64) as usize
+    }
+
+    fn one_of<T: Copy>(&mut self, list: &[T]) -> T {
+        list[self.below(list.len())]
+    }
+
+    /// A side: now and then one at a limit or past it, else one of a piece, or a smaller one.
+    fn side(&mut self, of: u32) -> u32 {
+        match self.below(20) {
+            0 => self.one_of(&[0, 1, LARGEST, LARGEST + 1, u32::MAX]),
+            1..=6 => of,
+            _ => 1 + self.random.below(u64::from(of.max(1))) as u32,
+        }
+    }
+
+    /// A part, mostly one that some free piece has room for.
+    fn part(&mut self, sheet: &Sheet) -> Part {
+        let nodes = sheet.snapshot().unwrap_or_default();
+        let frees: Vec<_> = nodes.iter().filter(|node| node.kind == Kind::Free).map(|node| (node.width, node.height)).collect();
+        let (width, height) = if frees.is_empty() { (9, 9) } else { self.one_of(&frees) };
+        let (width, height) = if self.below(4) == 0 { (height, width) } else { (width, height) };
+        let (number, turn) =
+            (self.one_of(&[0, 7, 8, 65_535]), self.one_of(&[Turn::Either, Turn::Either, Turn::Default, Turn::Rotated]));
+        Part::new(number, self.side(width), self.side(height)).turned(turn)
+    }
+
+    /// A mark: mostly of the list, else one that was seen before, or numbers.
+    fn mark(&mut self, list: &[Mark]) -> Mark {
+        match self.below(12) {
+            0 if !self.seen.is_empty() => {
+                let place = self.below(self.seen.len());
+                self.seen[place]
+            }
+            1 => Mark::from_numbers(self.below(4) as u16, self.one_of(&[0, 1, 2, 254, 255]), self.below(20) as u32),
+            _ if list.is_empty() => Mark::from_numbers(1, 1, 2),
+            _ => self.one_of(list),
+        }
+    }
+
+    fn offer(&mut self, sheet: &Sheet, piece: Mark, part: Part) -> Offer {
+        let offers = sheet.offers(piece, part).unwrap_or_default();
+        if !offers.is_empty() && self.below(10) > 0 {
+            return self.one_of(&offers);
+        }
+        let shapes = [Shape::AlongCurrentCut, Shape::AcrossCurrentCut, Shape::AlongThenAcross, Shape::AcrossThenAlong];
+        Offer { rotation: self.one_of(&[Rotation::Default, Rotation::Rotated]), shape: self.one_of(&shapes) }
+    }
+
+    fn opening(&mut self) -> Request {
+        let (number, stages) = (1 + self.below(2) as u16, self.one_of(&[1, 2, 3, 4, 6, 254, 0, 255]));
+        let (width, height) = (self.side(200), self.side(120));
+        Request::Open { number, width, height, first_cut: self.one_of(&[Way::Horizontal, Way::Vertical]), stages }
+    }
+
+    fn request(&mut self, sheet: &Sheet) -> Request {
+        let (free, removable) = (sheet.free_pieces().unwrap_or_default(), sheet.removable().unwrap_or_default());
+        match self.below(40) {
+            0 => self.opening(),
+            1 | 2 => Request::Offers { piece: self.mark(&free), part: self.part(sheet) },
+            3..=17 => {
+                let (piece, part) = (self.mark(&free), self.part(sheet));
+                Request::Insert { piece, part, offer: self.offer(sheet, piece, part) }
+            }
+            18..=22 => Request::Remove { piece: self.mark(&removable) },
+            // of any kind
+            23 => Request::Remove { piece: self.mark(&free) },
+            24 => Request::Offers { piece: self.mark(&removable), part: self.part(sheet) },
+            25 | 26 => Request::Keep,
+            27 | 28 => Request::Restore,
+            29 => Request::Report,
+            30 | 31 => Request::WhyNot { piece: self.mark(&free), part: self.part(sheet) },
+            32 => Request::WhyNot { piece: self.mark(&removable), part: self.part(sheet) },
+            33 | 34 => Request::RoomLight { part: self.part(sheet) },
+            35 => Request::FreePiece { position: self.one_of(&[0, 1, free.len() as u16, u16::MAX]) },
+            36 => Request::RemovablePiece { position: self.one_of(&[0, 1, removable.len() as u16, u16::MAX]) },
+            37 => Request::PartNumbers,
+            38 => Request::Figures,
+            _ => self.one_of(&[Request::Snapshot, Request::Cuts]),
+        }
+    }
+}
+
+/// How often each op was answered so: 0 where it was carried out, else the refusal's number.
+type Counts = BTreeMap<(u8, u8), usize>;
+
+/// A random session: each typed call answers the bytes that its frame is answered with, and what is behind it are the fields of `inspect`.
+fn random_session(seed: u64, calls: usize, counts: &mut Counts) {
+    let mut caller = Caller { random: Random(seed), seen: vec![] };
+    let (mut session, mut raw) = (Session::new(), Desk::new());
+    let (mut frames, mut lines) = (vec![], vec![]);
+    for _ in 0..calls {
+        let request = caller.request(&session.sheet);
+        let frame = request.line();
+        // the tests' own reading of the frame
+        assert_eq!(request_of(frame.as_bytes()), Some(request));
+        let (answer, part) = session.turn(frame.as_bytes());
+        assert_eq!(answer, raw.answer(&frame), "{request:?}");
+        let read = Answer::read(&answer);
+        *counts.entry((request.op(), read.as_ref().map_or_else(|refusal| refusal.number(), |_| 0))).or_default() += 1;
+        match (request, read) {
+            (_, Ok(Answer::Opened(mark))) => caller.seen.push(mark),
+            (_, Ok(Answer::Booked(booking))) => caller.seen.extend([booking.first, booking.part].iter().chain(&booking.free)),
+            (_, Ok(Answer::Removed(removal))) => caller.seen.push(removal.free),
+            // a reason is "offered" exactly where there is an offer in that rotation
+            (Request::WhyNot { piece, part }, Ok(Answer::Reasons(reasons))) => {
+                let offers = session.sheet.offers(piece, part).expect("the piece is there");
+                for rotation in [Rotation::Default, Rotation::Rotated] {
+                    let offered = offers.iter().any(|offer| offer.rotation == rotation);
+                    assert_eq!(reasons.of(rotation) == crate::Reason::Offered, offered, "{request:?}");
+                }
+            }
+            _ => (),
+        }
+        // `inspect` knows the counter's frames
+        if request.op() <= 7 {
+            lines.push(format!("{answer} {}", fields(&session.sheet, part).join(" ")));
+            frames.push(frame);
+        }
+    }
+    compare(&frames, &lines);
+}
+
+#[test]
+fn random_sessions_by_frames_and_by_inspect() {
+    let mut counts = Counts::new();
+    for seed in 0..40 {
+        random_session(seed, 200, &mut counts);
+    }
+    // each op, with each refusal that a few calls can reach
+    let mut wanted: Vec<(u8, u8)> = (1..=7).chain(0x11..=0x18).map(|op| (op, 0)).collect();
+    wanted.extend([(1, 2), (6, 1), (6, 4), (0x12, 3), (0x13, 12), (0x14, 12)]);
+    wanted.extend([2, 3, 0x11].into_iter().flat_map(|op| [3, 4, 5, 6].map(|number| (op, number))));
+    wanted.extend([4, 5, 10, 11].map(|number| (4, number)));
+    wanted.push((3, 7));
+    let missing: Vec<_> = wanted.into_iter().filter(|outcome| !counts.contains_key(outcome)).collect();
+    assert_eq!(missing, [], "{counts:?}");
+}
