@@ -156,8 +156,8 @@ function commands(line,    parts, count, i, words) {
   }
 }
 
-# a block that is fenced as text holds no commands
-/^```/ { flush(); fenced = !fenced; plain = fenced && $0 == "```text"; next }
+# a block that is fenced as text or as Rust holds no commands
+/^```/ { flush(); fenced = !fenced; plain = fenced && ($0 == "```text" || $0 == "```rust"); next }
 fenced && plain { next }
 fenced || (/^    / && paragraph == "") { commands($0); next }
 /^[ \t]*$/ || /^#/ { flush(); begun = FNR; if (/^#/) whole($0); next }
