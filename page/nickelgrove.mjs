@@ -4,6 +4,7 @@
 //   const counter = await open(bytes);
 //   counter.step('010001000000640000003c01035a');   // '010000010100000002fb'
 //   counter.cuts();                                 // []
+//   counter.desk('18e8');                           // '18000000e8', the same list as a line of the desk
 
 /** What the bytes of a cut stand for: the way of the saw; what a piece is, once it is cut. */
 export const WAYS = ['Horizontal', 'Vertical'];
@@ -23,13 +24,14 @@ export async function open(bytes) {
  * A counter: a sheet and a kept snapshot of it, none of both at the start. It has an instance of the module, and its memory, for itself.
  *
  * Behind the stack and the module's own data, from `__heap_base` on, the memory is ours: it holds the session, which starts with zeros, the room for an answer,
- * that for a list of saw cuts, and last the line. The module says how long each is.
+ * that for an answer of the desk, that for a list of saw cuts, and last the line. The module says how long each is.
  */
 export class Counter {
   #calls;
   #stopped = false;
   #session;
   #answer;
+  #said;
   #list;
   #line;
 
@@ -37,18 +39,26 @@ export class Counter {
     this.#calls = calls;
     this.#session = calls.__heap_base.value; // a multiple of 16
     this.#answer = this.#session + this.#call('nickelgrove_session_bytes');
-    this.#list = this.#answer + this.#call('nickelgrove_longest');
+    this.#said = this.#answer + this.#call('nickelgrove_longest');
+    this.#list = this.#said + this.#call('nickelgrove_desk_longest');
     this.#line = this.#list + this.#call('nickelgrove_room');
     this.#reach(this.#line);
   }
 
   /** The answer to a line, both without their newlines. A line that is no frame is answered as malformed. */
   step(line) {
-    const bytes = new TextEncoder().encode(line);
-    this.#reach(this.#line + bytes.length);
-    this.#bytes(this.#line, bytes.length).set(bytes);
-    const count = this.#call('nickelgrove_step', this.#session, this.#line, BigInt(bytes.length), this.#answer);
-    return new TextDecoder().decode(this.#bytes(this.#answer, count - 1));
+    return this.#answered('nickelgrove_step', line, this.#answer);
+  }
+
+  /** The same at the desk, which also answers the questions of ops 11 to 18. */
+  desk(line) {
+    return this.#answered('nickelgrove_desk', line, this.#said);
+  }
+
+  /** Holds from now on what another counter holds, its sheet and its kept one: for trying what a line would do. */
+  become(other) {
+    const length = this.#answer - this.#session;
+    this.#bytes(this.#session, length).set(other.#bytes(other.#session, length));
   }
 
   /**
@@ -60,6 +70,14 @@ export class Counter {
     if (count === NO_LIST) return null;
     const at = (cut) => new DataView(this.#memory.buffer, this.#list + cut * CUT_BYTES, CUT_BYTES);
     return Array.from({ length: count / CUT_BYTES }, (_, cut) => cutOf(at(cut)));
+  }
+
+  #answered(call, line, room) {
+    const bytes = new TextEncoder().encode(line);
+    this.#reach(this.#line + bytes.length);
+    this.#bytes(this.#line, bytes.length).set(bytes);
+    const count = this.#call(call, this.#session, this.#line, BigInt(bytes.length), room);
+    return new TextDecoder().decode(this.#bytes(room, count - 1));
   }
 
   /** A call of the module. One that the engine stops leaves the module's stack where it was, so that no other may follow. */

@@ -5,7 +5,7 @@
 set -u
 cd "$(dirname "$0")/.." || exit 2
 . tests/run.bash
-kib=512 # of stack, which a module has unless tools/wasm is told another number
+kib=1024 # of stack, which a module has unless tools/wasm is told another number
 meant=0
 
 # means COUNT: so many things more are to be tried
@@ -51,12 +51,16 @@ fi
 
 command -v node > /dev/null || { echo 'skipped: there is no node here, and the module was not run'; finished $meant; }
 
-means 7
+means 10
 writes 'the long sessions' recorded/long.out ask answers "$module" < recorded/long.in
 cut -d ' ' -f 1,8 recorded/sessions.out > "$room/cuts"
 writes 'the short sessions, each line with its list of saw cuts' "$room/cuts" ask cuts "$module" < recorded/sessions.in
-{ yes ff0ef3 | head -n 6; echo 'refused: the line is too long for the memory'; echo 0701f8; } > "$room/odd"
-writes 'lines that are no frames, and a report behind them' "$room/odd" ask odd "$module"
+writes 'the long sessions, at the desk' recorded/long.out ask desk "$module" < recorded/long.in
+writes 'the short sessions, with all that inspect shows, asked of the desk' recorded/sessions.out ask inspect "$module" < recorded/sessions.in
+echo alike > "$room/alike"
+writes 'why not, beside the offers of the short sessions' "$room/alike" ask reasons "$module" < recorded/sessions.in
+for call in step desk; do yes ff0ef3 | head -n 6; echo 'refused: the line is too long for the memory'; echo 0701f8; done > "$room/odd"
+writes 'lines that are no frames, and a report behind them, at the counter and at the desk' "$room/odd" ask odd "$module"
 
 { sed -n 's/^[a-z0-9_]* \(nickelgrove_[a-z_]*\)(.*/export function \1/p' kiosk/nickelgrove.h; echo 'export memory memory'; echo 'export global __heap_base'; } |
   LC_ALL=C sort > "$room/calls"
