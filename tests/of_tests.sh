@@ -9,7 +9,7 @@ cd "$(dirname "$0")/.." || exit 2
 unset PROGRAMS
 
 # What a script is given here, so that it takes less time. (On a stack that is too small all three programs are tried, below.)
-declare -A arguments=([counter_random]=200000 [stack]='deep_chain counter')
+declare -A arguments=([counter_random]=200000 [desk]=300 [stack]='deep_chain counter' [page]='day reopen counter page')
 
 # Real words for a stand-in: the program of the same name, as the tests run it.
 words_of NAME
@@ -57,7 +57,7 @@ mkdir "$room/missing" || exit 2
 
 # module KIND STATEMENT...: beside the programs of a kind a WebAssembly module with their step, as tools/wasm would make it
 module() {
-  local calls=(limit longest room session_bytes cuts step)
+  local calls=(limit longest room session_bytes cuts step desk_longest desk)
   cat > "$room/module.c" <<END
 typedef unsigned long long usize;
 usize nickelgrove_limit(void) { return 255; }
@@ -66,9 +66,11 @@ usize nickelgrove_room(void) { return 2295; }
 usize nickelgrove_session_bytes(void) { return 18432; }
 unsigned short nickelgrove_cuts(const void *session, char *list) { return 65535; }
 usize nickelgrove_step(void *session, const char *line, usize length, char *answer) { ${*:2} }
+usize nickelgrove_desk_longest(void) { return 6641; }
+usize nickelgrove_desk(void *session, const char *line, usize length, char *answer) { ${*:2} }
 END
   "$tools/bin/clang" --target=wasm32-unknown-unknown --no-default-config -c "$room/module.c" -o "$room/module.o" &&
-    "$tools/bin/ld.lld" -flavor wasm --no-entry --stack-first -z stack-size=$((512 << 10)) "${calls[@]/#/--export=nickelgrove_}" --export=__heap_base \
+    "$tools/bin/ld.lld" -flavor wasm --no-entry --stack-first -z stack-size=$((1024 << 10)) "${calls[@]/#/--export=nickelgrove_}" --export=__heap_base \
       "$room/module.o" -o "$room/$1/kiosk.wasm" || exit 2
 }
 module wrong 'answer[0] = 0x30; answer[1] = 10; return 2;'
@@ -98,6 +100,14 @@ stand_in heavy <<END_OF_SCRIPT
 echo "\$0" >> "\$RUNS"
 [ "\$(ulimit -s)" = unlimited ] || [ "\$(ulimit -s)" -gt 2048 ] || kill -SEGV \$\$
 $real
+END_OF_SCRIPT
+
+stand_in growing <<END_OF_SCRIPT
+# Needs more of the stack to take a structure out than to take a part out.
+cat > "\$RUNS.in"
+case \$(tail -n 1 "\$RUNS.in") in 0400010100000003*) least=1088 ;; *) least=1024 ;; esac
+[ "\$(ulimit -s)" = unlimited ] || [ "\$(ulimit -s)" -ge \$least ] || kill -SEGV \$\$
+$real < "\$RUNS.in"
 END_OF_SCRIPT
 
 # fails KIND COUNT SCRIPT [ARGUMENT...]: the script ends in non-zero on the stand-ins of a kind and has a line for what failed: one for each run of a stand-in, and COUNT at
@@ -147,7 +157,58 @@ fails hoarding 1 tests/counter_random.sh 1000000
 grep -q '^FAILED: flat memory' "$room/log"
 tried $? 'it is the memory that tests/counter_random.sh finds'
 fails heavy 3 tests/stack.sh
+env PROGRAMS="$room/growing" RUNS="$room/growing.runs" bash tests/stack.sh counter > "$room/log" 2>&1
+[ "$(grep -c '^FAILED: .* KiB' "$room/log")" -eq 2 ]
+tried $? 'tests/stack.sh finds the stack that a removal needs for what it takes out' || show
+
+# A page that is wrong, in a copy of the checkout: tests/page.sh has to find it.
+copied() { # a new copy, in $room/copy
+  rm -rf "$room/copy" && mkdir "$room/copy" && cp -r page tests tools docs "$room/copy" && ln -s "$PWD"/{target,recorded,crates,kiosk} "$room/copy"
+}
+
+# mutant NAME FILE OLD NEW: with NEW in the place of OLD, which is in the file once, NAME fails and the page is made all the same
+mutant() {
+  local name=$1 file=$2 old=$3 new=$4 text
+  meant=$((meant + 1))
+  copied && text=$(cat "$room/copy/$file") && [[ $text = *"$old"* ]] || { tried 1 "$file has: $old"; return; }
+  printf '%s\n' "${text/"$old"/"$new"}" > "$room/copy/$file"
+  MODULE=$page_module bash "$room/copy/tests/page.sh" "$name" > "$room/log" 2>&1
+  [ $? -ne 0 ] && grep -q '^ok: the page is made' "$room/log" && [ "$(grep -c '^FAILED: ' "$room/log")" -eq 1 ]
+  tried $? "tests/page.sh $name fails on a page with $new in $file" || show
+}
+
+mutants() {
+  page_module=$(realpath "${MODULE:-$(tools/wasm kiosk)}")
+  copied && MODULE=$page_module bash "$room/copy/tests/page.sh" day page > "$room/log" 2>&1
+  tried $? 'tests/page.sh passes on a copy of the page' || show
+  meant=$((meant + 1))
+  mutant page page/page.html '@POLICY@' "default-src * 'unsafe-inline' 'unsafe-eval'"
+  mutant words page/words.mjs 'the piece is gone' 'the piece is taken'
+  mutant fields page/words.mjs '/^\d+$/' '/\d/'
+  mutant frames page/frames.mjs 'check(answer) !== 0' 'false'
+  mutant day page/glass.mjs 'this.#desk.restore()' 'this.#desk.keep()'
+  mutant reopen page/desk.mjs '=== MALFORMED' '=== null'
+  mutant located page/desk.mjs 'if (!refusal) return at;' 'return candidates[0];'
+  mutant picture page/draw.mjs 'whole(before * free, total)' 'whole(before * free, total + 1)'
+  mutant picture page/say.mjs "'Above', 'Below'" "'Below', 'Above'"
+  mutant drill page/drill.mjs 'said.distance === cut.distance' 'true'
+  mutant voice page/voice.mjs '({ localService }) => localService' '() => true'
+  if ! command -v chromium > /dev/null && ! command -v chromium-browser > /dev/null; then
+    echo 'skipped: there is no chromium here, and no wrong page was opened in it'
+    return
+  fi
+  mutant browser-day page/kiosk_view.mjs '${refused(answer.refusal)} The offer' 'The offer'
+  mutant browser-touch page/picture.mjs 'if (tap) tappable(made, word, tap);' ''
+  mutant browser-keys page/picture.mjs "event.key !== 'Enter'" "event.key !== 'F9'"
+  mutant browser-saw page/saw_view.mjs 'textContent = sentences[at]' 'textContent = sentences[0]'
+  mutant browser-away page/app.mjs 'kiosk.tick() && tabs.again()' 'kiosk.tick()'
+  mutant browser-drill page/drill_view.mjs 'this.#count(wrong.length === 0)' 'this.#count(true)'
+  mutant browser-fields page/dom.mjs 'numbers[key] = number;' 'numbers[key] = number; find(id).value = "";'
+  mutant browser-sizes page/style.css 'main { padding: 0.75rem; }' 'main { padding: 0.75rem; width: 400px; }'
+  mutant browser-quiet page/page.html '@POLICY@' "default-src * data: 'unsafe-inline' 'unsafe-eval'"
+}
 if command -v node > /dev/null; then
+  mutants
   fails wrong 3 tests/wasm.sh
   grep -q '^FAILED: the long sessions: .* differ' "$room/log" && grep -q '^ok: it imports nothing' "$room/log"
   tried $? 'it is the answers that tests/wasm.sh finds'
@@ -195,4 +256,4 @@ compares 1 'fails where neither side says anything' mute "$room/silent" 20 1
 compares 1 'fails where the judge dies' failing '' 20 1
 compares 1 'fails on wrong programs' right "$room/wrong" 20 1
 compares 1 'fails on dying programs' right "$room/dying" 20 1
-finished $((meant + 20))
+finished $((meant + 21))

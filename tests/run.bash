@@ -27,6 +27,10 @@ run() { # NAME
   timeout --foreground "$limit" "${program[@]}"
 }
 
+# The system puts the start of a stack at a place that it draws, within 8 KiB, unless it is told not to.
+fixed=()
+! setarch -R true 2> /dev/null || fixed=(setarch -R)
+
 # run_on_stack KIB NAME: the same on a stack of so many KiB, which the emulator makes itself
 run_on_stack() {
   local program
@@ -34,7 +38,7 @@ run_on_stack() {
   if [ -n "$emulator" ]; then
     timeout --foreground "$limit" "$emulator" -s $(($1 * 1024)) "${program[@]:1}"
   else
-    (ulimit -s "$1" && exec timeout --foreground "$limit" "${program[@]}")
+    (ulimit -s "$1" && exec timeout --foreground "$limit" "${fixed[@]}" "${program[@]}")
   fi
 }
 

@@ -1,7 +1,9 @@
 // The deepest sound tree, 254 levels below the top, is examined, snapshotted, measured and its saw cuts are listed; and those of the longest row, 254
-// parts under the top, since the cuts are listed call by call along a row too. The proofs know no stack: tests/stack.sh runs this on one of 2 MiB.
+// parts under the top, since the cuts are listed call by call along a row too. Then the whole chain is taken out, and one part of the row. The proofs
+// know no stack: tests/stack.sh runs this on one of 256 KiB.
 ghost use Prim.Native.Nat.{_<_};
 use layout::layout::Layout;
+use marks::Mark;
 use piece::node::Datum;
 use piece::node::Kind;
 use piece::orientation::Orientation;
@@ -190,6 +192,22 @@ fn wide(b: u8) -> u64 {
     b as u64
 }
 
+fn number(n: u16) -> u64 {
+    n as u64
+}
+
+// The nodes that are left when the piece at a place is taken out. In these trees a piece's serial is its place and one.
+fn nodes_without(l: Layout, place: u16, out: &mut [u16]) -> u64 {
+    let mark = Mark {
+        layout: 0,
+        place,
+        serial: place as u32 + 1,
+    };
+    let removed = l.remove(mark, out);
+    let next = removed.layout;
+    number(next.held)
+}
+
 fn main() {
     let l = chain();
     let mut out = [0u8; 3400];
@@ -223,4 +241,14 @@ fn main() {
     say(b"the last one's distance ", wide(out[2274]));
     say(b"the last one's piece ", wide(out[2275]));
     say(b"the last one leaves ", wide(out[2276]));
+    let mut numbers = [0u16; 255];
+    say(
+        b"nodes without the chain ",
+        nodes_without(l, 1, &mut numbers),
+    );
+    say(b"the number that came out ", number(numbers[0]));
+    say(
+        b"nodes without the row's last part ",
+        nodes_without(r, 254, &mut numbers),
+    );
 }

@@ -19,6 +19,7 @@ use Rattle.tree.proofs.Goes.{subtree-is}
 use Rattle.tree.proofs.Family.{parent-cleared}
 use Rattle.table.specs.Table.{at}
 use Rattle.table.specs.Steps.{going, freeLastPlace}
+use Rattle.walks.specs.Inner.{Hangs}
 use Rattle.walks.specs.Along.{numbersAlong, parts, PartsEnd}
 use Rattle.lists.specs.Lists.{entries}
 use Rattle.walks.proofs.Meaning.{length-order}
@@ -75,11 +76,13 @@ module _ (l : Layout) (x : ℕ) (t : Takeable l x) where
   -- what `going_with` asks
   pub goable : (x < limit) × (at (l .nodes) x .parent < limit) × (at (l .nodes) (at (l .nodes) x .parent) .last < limit)
       × (length (goingOf (l .nodes) x (l .held)) ≤ limit)
+      × Hangs limit (l .nodes) x (l .held)
   goable = (
     t .sound .sound .placed x held-there,
     parent-low limit (l .settings) (l .nodes) (tree l) (t .sound .sound) (t .sound .holds) x (t .removable),
     last-low limit (l .settings) (l .nodes) (tree l) (t .sound .sound) (t .sound .holds) x (t .removable),
     rw goes-is (going-most limit (l .settings) (l .nodes) (tree l) (t .sound .sound) (t .sound .holds) x (t .removable)),
+    record { tree = tree l; holds = t .sound .holds; there = held-there; many = sym (t .sound .held) },
   )
 
   -- along what goes stand the numbers that come out

@@ -16,8 +16,7 @@ use Rattle.lists.specs.Lists.{limit, zeros, entries}
 use Rattle.lists.proofs.Fill.{sets-append}
 use Rattle.walks.specs.Inner.{Placed}
 use Rattle.walks.specs.Chain.{siblings}
-use Rattle.walks.specs.declared.columns.Columns.{Columns}
-use Rattle.walks.specs.Columns.{columnsOf, orderIn}
+use Rattle.walks.specs.Columns.{orderIn}
 use Rattle.walks.specs.Walk.{gathered, walkOf}
 use Rattle.walks.specs.Order.{itself, orderOf}
 use Rattle.walks.proofs.Entries.{written-entries, written-placed}
@@ -89,34 +88,22 @@ module _ (t : List Node) (x held : ℕ) where
       low-placed limit (below ++ end)
       (low-append limit below end (low-order limit _ _ held x h) (low-free-last limit t (at t x .parent) l))
 
-  -- the walk over the columns
-  walk : {c : Columns} → c ≡ columnsOf t → orderOf limit (c .first) (c .next) held x ≡ below
-  walk columns = ap (λ (c : Columns). orderOf limit (c .first) (c .next) held x) columns
-
-  pub walk-fits : {c : Columns} → c ≡ columnsOf t
-      → length (orderOf limit (c .first) (c .next) held x) + length end ≡ length (goingOf t x held)
-  walk-fits columns = omega (arith, going-length, ap length (walk columns))
-
   -- what the walk writes, and how much that is, where there is room for all that goes
-  module _ {c : Columns} (columns : c ≡ columnsOf t) {o : List ℕ} {k : ℕ}
-      (first : o ≡ sets (zeros limit) 0 (orderOf limit (c .first) (c .next) held x))
-      (k-is : k ≡ 0 + length (orderOf limit (c .first) (c .next) held x)) (room : length (goingOf t x held) ≤ limit) where
+  module _ {o : List ℕ} {k : ℕ} (first : o ≡ sets (zeros limit) 0 below) (k-is : k ≡ 0 + length below) (room : length (goingOf t x held) ≤ limit) where
     fits : length (goingOf t x held) ≤ length (zeros limit)
     fits = omega (arith, length-replicate {A = ℕ} limit 0)
 
     pub end-fits : k + length end ≤ length o
-    end-fits =
-        let n = length-sets (zeros limit) 0 (orderOf limit (c .first) (c .next) held x) in
-        omega (arith, fits, walk-fits columns, ap length first)
+    end-fits = omega (arith, fits, going-length, length-sets (zeros limit) 0 below, ap length first)
 
     -- and with what comes behind it
     module _ {order : List ℕ} {n : ℕ} (second : order ≡ sets o k end) (n-is : n ≡ k + length end) where
       wrote : order ≡ sets (zeros limit) 0 (goingOf t x held)
       unfolding goingOf
-      wrote = second ∙ rw (first, k-is, walk columns) (sym (sets-append below end (zeros limit) 0))
+      wrote = second ∙ rw (first, k-is) (sym (sets-append below end (zeros limit) 0))
 
       many : n ≡ 0 + length (goingOf t x held)
-      many = omega (arith, walk-fits columns)
+      many = omega (arith, going-length)
 
       pub gone-places : entries n order ≡ goingOf t x held
       gone-places = written-entries (zeros limit) (goingOf t x held) wrote many fits

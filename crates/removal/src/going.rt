@@ -6,11 +6,10 @@ ghost use lib.ListN.{length};
 ghost use lib.Seq.{sets};
 ghost use Rattle.table.specs.Steps.{freeLastPlace};
 ghost use Rattle.table.specs.Table.{at};
-ghost use Rattle.walks.specs.Inner.{Placed};
+ghost use Rattle.walks.specs.Inner.{Hangs, Placed};
 ghost use Rattle.removal.specs.Going.{goingOf, places};
 use table::LIMIT;
 use table::Node;
-use walks::columns::columns_of;
 use walks::order::order_out;
 
 // The places that go; the entries past the count are zero.
@@ -44,19 +43,16 @@ fn put_free_last(nodes: [Node; LIMIT], q: u16, order: &mut [u16], n: usize) -> u
 // the end of its row.
 pub fn going_with(nodes: [Node; LIMIT], x: u16, held: usize) -> Going
     requires { ⌜ (x < limit) × (at nodes x .parent < limit) × (at nodes (at nodes x .parent) .last < limit)
-        × (length (goingOf nodes x held) ≤ limit) ⌝ }
+        × (length (goingOf nodes x held) ≤ limit) × Hangs limit nodes x held ⌝ }
     ensures entries { λ r. ⌜ places r ≡ goingOf nodes x held ⌝ }
     ensures counted { λ r. ⌜ r .count ≡ length (goingOf nodes x held) ⌝ }
     ensures placed { λ r. ⌜ Placed limit (r .count) (r .order) ⌝ }
 {
-    let c = columns_of(nodes);
-    let first = c.first;
-    let next = c.next;
     let xi = x as usize;
     let n = nodes[xi];
     let q = n.parent;
     let mut order = [0u16; LIMIT];
-    let k = order_out(&first, &next, x, held, &mut order, 0);
+    let k = order_out(nodes, x, held, &mut order, 0);
     let count = put_free_last(nodes, q, &mut order, k);
     Going { order, count }
 }

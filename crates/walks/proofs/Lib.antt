@@ -3,6 +3,7 @@ mod Written
 mod WalkSteps
 mod UsageSteps
 pub mod Meaning
+mod Following
 pub mod Entries
 mod NodeBytes
 mod Everywhere

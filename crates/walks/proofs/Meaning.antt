@@ -17,15 +17,18 @@ use Rattle.piece.specs.Sides.{area}
 use Rattle.piece.specs.Row.{Row, nil, grow}
 use Rattle.piece.specs.Numbers.{kindNo}
 use Rattle.tree.specs.Tree.{Tree, In, Distinct, count}
+use Rattle.tree.specs.Steps.{Kids}
 use Rattle.tree.specs.Removal.{subtree}
 use Rattle.tree.specs.Snapshot.{nodeBytes, snapshot}
 use Rattle.tree.specs.Figures.{nought, whole, added, treeUsage}
 use Rattle.tree.specs.Figures as figures
 use Rattle.tree.proofs.Rows.{same?, after-nil}
+use Rattle.tree.proofs.Kids.{kids-count}
 use Rattle.tree.proofs.Goes.{subtree-absent}
 use Rattle.table.specs.declared.Node.{Node}
 use Rattle.table.specs.Table.{zeroNode, at, head, Rep, Holds}
-use Rattle.table.specs.Columns.{kindNoOf}
+use Rattle.table.specs.Columns.{kindNoOf, firstOf}
+use Rattle.table.proofs.Rep.{Shows, shows}
 use Rattle.walks.specs.Chain.{siblings}
 use Rattle.walks.specs.Walk.{gathered, nothing, walkOf}
 use Rattle.walks.specs.Order.{itself, childrenFirst}
@@ -107,9 +110,9 @@ module _ (limit : ℕ) (t : List Node) where
       ∙ ap (λ (l : List ℕ). p ∷ l) (chain r (m - 1) (e .2) (omega arith))
 
   -- the children of a piece
-  children : {p : ℕ} {d : Datum} {k r : Tree} (m : ℕ) → Piece limit t p d k r → Shown limit t k → count k ≤ m
+  children : (p : ℕ) (k : Tree) (m : ℕ) → getD (firstsOf t) p 0 ≡ head limit k → Shown limit t k → count k ≤ m
       → siblings limit (nextsOf t) m (getD (firstsOf t) p 0) ≡ tops k
-  children {k = k} m e f h = ap (siblings limit (nextsOf t) m) (e .first) ∙ chain k m f h
+  children p k m e f h = ap (siblings limit (nextsOf t) m) e ∙ chain k m f h
 
   -- A walk down a row, and W, what it is to write of a row: nothing of the empty row, and of a piece its own before its children's or after them,
   -- and then that of its later siblings.
@@ -120,18 +123,18 @@ module _ (limit : ℕ) (t : List Node) where
     walked n x = walkOf limit (firstsOf t) (nextsOf t) before after n x
 
     -- of a piece, from what it writes of its children
-    walk-of : {p : ℕ} {d : Datum} {k r : Tree} (n : ℕ) → Piece limit t p d k r → Shown limit t k → count k < n
+    walk-of : (p : ℕ) (k : Tree) (n : ℕ) → getD (firstsOf t) p 0 ≡ head limit k → Shown limit t k → count k < n
         → gathered (walked (n - 1)) (tops k) ≡ W k → walked n p ≡ before p ++ (W k ++ after p)
-    walk-of {p = p} {k = k} n e f h g =
+    walk-of p k n e f h g =
         walk-more limit (firstsOf t) (nextsOf t) before after n p (λ z. omega arith)
-        ∙ ap (λ (l : List ℕ). before p ++ (gathered (walked (n - 1)) l ++ after p)) (children (n - 1) e f (omega arith))
+        ∙ ap (λ (l : List ℕ). before p ++ (gathered (walked (n - 1)) l ++ after p)) (children p k (n - 1) e f (omega arith))
         ∙ ap (λ (l : List ℕ). before p ++ (l ++ after p)) g
 
     -- of a row
     walk-row : (r : Tree) (n : ℕ) → Shown limit t r → count r ≤ n → gathered (walked n) (tops r) ≡ W r
     walk-row nil n e h = sym none
     walk-row (grow p d k r) n e h =
-        ap (λ (l : List ℕ). l ++ gathered (walked n) (tops r)) (walk-of n (e .0) (e .1) (omega arith) (walk-row k (n - 1) (e .1) (omega arith)))
+        ap (λ (l : List ℕ). l ++ gathered (walked n) (tops r)) (walk-of p k n (e .0 .first) (e .1) (omega arith) (walk-row k (n - 1) (e .1) (omega arith)))
         ∙ ap (λ (l : List ℕ). (before p ++ (W k ++ after p)) ++ l) (walk-row r n (e .2) (omega arith))
         ∙ more p d k r (e .0 .bytes)
 
@@ -139,7 +142,7 @@ module _ (limit : ℕ) (t : List Node) where
     walk-at : {p : ℕ} {d : Datum} {k r : Tree} (n : ℕ) → Piece limit t p d k r → Shown limit t k → count k < n
         → walked n p ≡ W (grow p d k nil)
     walk-at {p = p} {d = d} {k = k} n e f h =
-        walk-of n e f h (walk-row k (n - 1) f (omega arith))
+        walk-of p k n (e .first) f h (walk-row k (n - 1) f (omega arith))
         ∙ sym (append-nil (before p ++ (W k ++ after p)))
         ∙ ap (λ (l : List ℕ). (before p ++ (W k ++ after p)) ++ l) (sym none)
         ∙ more p d k nil (e .bytes)
@@ -163,7 +166,7 @@ module _ (limit : ℕ) (t : List Node) where
       by-kind n p (d .kind) (area (d .size)) (added nought k) (λ z. omega arith) (e .kind) (e .covers)
       (ap
       (λ (l : List ℕ). summed (usageIn limit t (n - 1)) (areasOf t) l nought)
-      (children (n - 1) e f (omega arith))
+      (children p k (n - 1) (e .first) f (omega arith))
       ∙ g)
 
   -- what a row adds to s
@@ -181,10 +184,17 @@ module _ (limit : ℕ) (t : List Node) where
       (usage-of n (e .0) (e .1) (omega arith) (usage-row k (n - 1) (e .1) (omega arith) nought)))
       ∙ usage-row r n (e .2) (omega arith) _
 
+  -- the order at a piece, by its children
+  order-of : (p : ℕ) (k : Tree) (n : ℕ) → getD (firstsOf t) p 0 ≡ head limit k → Shown limit t k → count k < n
+      → orderIn limit t n p ≡ childrenFirst k ++ itself p
+  order-of p k n e f h =
+      walk-of nothing itself childrenFirst refl (λ p d k r b. refl) p k n e f h
+      (walk-row nothing itself childrenFirst refl (λ p d k r b. refl) k (n - 1) f (omega arith))
+
   -- the walks at a piece
   order-at : {p : ℕ} {d : Datum} {k r : Tree} (n : ℕ) → Piece limit t p d k r → Shown limit t k → count k < n
       → orderIn limit t n p ≡ childrenFirst (grow p d k nil)
-  order-at n e f h = walk-at nothing itself childrenFirst refl (λ p d k r b. refl) n e f h
+  order-at {p = p} {k = k} n e f h = order-of p k n (e .first) f h ∙ sym (append-nil (childrenFirst k ++ itself p))
 
   snapshot-at : {p : ℕ} {d : Datum} {k r : Tree} (n : ℕ) → Piece limit t p d k r → Shown limit t k → count k < n
       → snapshotIn limit (columnsOf t) n p ≡ snapshot (grow p d k nil)
@@ -226,6 +236,13 @@ module _ (limit : ℕ) (t : List Node) where
   usage-top p d k left w h =
       let s = shown limit t limit limit (grow p d k nil) (w .rep) in
       usage-at limit t left (s .0) (s .1) (omega arith)
+
+  -- of a piece with these children
+  pub order-kids : (x : ℕ) (k w : Tree) (left : ℕ) → Holds limit t w → Kids x k w → count w ≤ left
+      → orderIn limit t left x ≡ childrenFirst k ++ itself x
+  order-kids x k w left holds kids h =
+      let o = shows limit t limit limit x k w (holds .rep) kids in
+      order-of limit t x k left (column firstOf t x _ refl ∙ o .first) (shown limit t x limit k (o .rep)) (omega (arith, kids-count x k w kids))
 
   -- of any place of the tree that the table holds
   module _ (w : Tree) (x left : ℕ) (holds : Holds limit t w) (is : In x w) (fuel : count w ≤ left) where

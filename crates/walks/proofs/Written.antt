@@ -33,6 +33,10 @@ module _ {all l₀ l : List ℕ} {k₀ k : ℕ} where
   pub piece-room : (a rest : List ℕ) → Left all l₀ k₀ (a ++ rest) l k → k + length a ≤ length l
   piece-room a rest e = omega (arith, length-append a rest, e .room)
 
+  -- the slice stays as long as it was
+  pub as-long : (rest : List ℕ) → Left all l₀ k₀ rest l k → length l ≡ length l₀
+  as-long rest e = sym (length-sets l k rest) ∙ ap length (e .writes) ∙ length-sets l₀ k₀ all
+
   -- the last piece
   pub end : (a : List ℕ) {l′ : List ℕ} {k′ : ℕ} → Left all l₀ k₀ a l k → l′ ≡ sets l k a → k′ ≡ k + length a
       → (l′ ≡ sets l₀ k₀ all) × (k′ ≡ k₀ + length all)

@@ -8,7 +8,7 @@ ghost use Rattle.walks.specs.Usage.{usageAlong};
 ghost use Rattle.walks.specs.Inner.{Small};
 
 // The usage of the subtree of x: 0 for a free piece (kind 0), 1 for a part (kind 1), else its children's area times usage added in order
-// from 0, divided by its own area. `left` is as in `order_out`.
+// from 0, divided by its own area. `left` is as in `put_subtree`.
 pub fn usage_of<'a>(
     first: &'a [u16; LIMIT],
     next: &'a [u16; LIMIT],
