@@ -1,13 +1,13 @@
 #!/usr/bin/env bash
 # The commands of the papers, word for word, print what the papers say that they print.
-# A command is a block of lines with an indent of four, behind an empty line and outside fences, in README.md, docs/FRAMES.md, docs/REFUSALS.md and docs/TOUR.md. Bash runs it at the top. Before
+# A command is a block of lines with an indent of four, behind an empty line and outside fences, in README.md, docs/FRAMES.md, docs/REFUSALS.md, docs/DESK.md and docs/TOUR.md. Bash runs it at the top. Before
 # the next one stands what it prints: a block that is fenced as `text`, or a picture, whose file has the same bytes. What prints neither has to be named below, with why.
 # The two commands of docs/PAGE.md are run as well.
 # No stand-ins: it runs the programs through tools/run and tools/nickelgrove, as a reader does; what it compares with is tried here on other texts.
 set -u
 cd "$(dirname "$0")/.." || exit 2
 . tests/run.bash
-papers=(README.md docs/FRAMES.md docs/REFUSALS.md docs/TOUR.md)
+papers=(README.md docs/FRAMES.md docs/REFUSALS.md docs/DESK.md docs/TOUR.md)
 
 # The commands that are not run here, and why.
 declare -A left=(
@@ -67,7 +67,7 @@ for paper in "${papers[@]}"; do
 done
 [ ${#left[@]} -eq 0 ]
 tried $? 'each command that is not run stands in a paper' || printf '%s\n' "${!left[@]}"
-[ "$run" -ge 16 ] && [ -e "$room/FRAMES.1.command" ] && [ -e "$room/REFUSALS.1.command" ] && [ -e "$room/TOUR.1.command" ]
+[ "$run" -ge 16 ] && [ -e "$room/FRAMES.1.command" ] && [ -e "$room/REFUSALS.1.command" ] && [ -e "$room/DESK.1.command" ] && [ -e "$room/TOUR.1.command" ]
 tried $? "each paper has a command that is run: $run in all"
 grep -q '| tools/run counter$' "$room/README.1.command" && [ "$(wc -l < "$room/README.1.said")" -eq 3 ]
 tried $? "README's first command is over tools/run, and a block says what that prints"

@@ -1,6 +1,7 @@
 -- The laws of the step: the record and the request decide what comes of them; a refusal leaves the record as it was, whatever it holds; a record with an
 -- unlisted kind or cut is refused with 1; the next record stands for the next session. And of the list of saw cuts: the record and the bytes decide it,
--- and there is none of an unlisted record. Rests on `session`'s proofs/Decided, proofs/Kept and proofs/Refused, and on Listed.
+-- and there is none of an unlisted record. And of the desk: the same is decided, and a question changes nothing. Rests on `session`'s proofs/Decided,
+-- proofs/Kept and proofs/Refused, and on Listed.
 use mathlib.Core.Path.{_≡_, refl, sym, ap, _∙_}
 use mathlib.Core.Bool.{Bool, true, false, cond}
 use mathlib.Core.List.{List}
@@ -8,12 +9,14 @@ use mathlib.Core.Logic.{_⊎_, inl, inr}
 use mathlib.Core.Option.{some}
 use Prim.Native.Nat.{ℕ}
 use lib.ListN.{length}
+use lib.Seq.{sets}
 use Rattle.lists.proofs.Scan.{test, clash}
 use Rattle.marks.specs.declared.Refusal.the-variants.{NotSound}
 use Rattle.frames.specs.declared.Ask.{Ask}
 use Rattle.frames.specs.declared.Request.{Request}
 use Rattle.frames.specs.declared.Request.the-variants.{OfLayout, Keep, Restore, Malformed}
-use Rattle.frames.specs.Answers.{Answer, refused, answerLine}
+use Rattle.frames.specs.Answers.{Answer, refused, answerLine, contentOf}
+use Rattle.frames.specs.Writing.{lineFor}
 use Rattle.layout.specs.declared.layout.Layout.{Layout}
 use Rattle.layout.specs.Check.{soundB}
 use Rattle.session.specs.declared.Session.{Session}
@@ -26,7 +29,11 @@ use Rattle.kiosk.specs.declared.records.LayoutRecord.{LayoutRecord}
 use Rattle.kiosk.specs.declared.records.SessionRecord.{SessionRecord}
 use Rattle.kiosk.specs.Records.{layoutOf, sessionOf, layoutRecord, AllListed, allListedB}
 use Rattle.kiosk.specs.Step.{keptRecord, recordAfter, Answered}
+use Rattle.desk_frames.specs.declared.Question.{Question}
+use Rattle.desk_frames.specs.declared.DeskRequest.{DeskRequest}
+use Rattle.desk_frames.specs.declared.DeskRequest.the-variants.{Asks}
 use Rattle.kiosk.specs.Cuts.{Handed}
+use Rattle.kiosk.specs.Desk.{blank, DeskAnswered, question, at-counter}
 use Rattle.kiosk.proofs.Listed.{unlisted-unsound, layout-listed, layout-back, sound-stays}
 
 -- ---- decided
@@ -141,3 +148,20 @@ module _ {before next : SessionRecord} {q : Request} {answer : List ℕ} {count 
           either false = refl
       go (inr e) =
           record-stays a (ap (λ (r : Reply). refusal (r .answer)) (unsound-refused (sessionOf before) q op looks e t (a .steps .answer) (a .steps .answers)))
+
+-- ---- the desk
+
+-- THE DESK: the record and the request decide the next record, the answer and its count
+pub desk-answered-once : {before n m : SessionRecord} {q : DeskRequest} {xs ys : List ℕ} {j k : ℕ} → DeskAnswered before q n xs j
+    → DeskAnswered before q m ys k → (n ≡ m) × (xs ≡ ys) × (j ≡ k)
+desk-answered-once (question t) (question u) = (refl, t .line ∙ sym (u .line), t .count ∙ sym (u .count))
+desk-answered-once {before} (at-counter {q = q} a t) (at-counter b u) =
+    let same = answered-once a b in
+    let e = answers-once (sessionOf before) q (a .steps .answers) (b .steps .answers) in
+    let said : a .steps .answer ≡ b .steps .answer = ap (λ (r : Reply). r .answer) e in
+    (same .0, t .line ∙ ap (λ (x : Answer). sets blank 0 (lineFor (contentOf x))) said ∙ sym (u .line), same .2)
+
+-- a question leaves the record as it was
+pub desk-question-stays : {before next : SessionRecord} {q : Question} {answer : List ℕ} {count : ℕ} → DeskAnswered before (Asks q) next answer count
+    → next ≡ before
+desk-question-stays (question t) = refl
