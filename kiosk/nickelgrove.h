@@ -22,14 +22,14 @@ extern "C" {
 /* The most nodes that a layout holds; the bytes lent for an answer, for an answer of the desk, and for a list of saw cuts. */
 #define NICKELGROVE_LIMIT 255
 #define NICKELGROVE_LONGEST 1035
-#define NICKELGROVE_DESK_LONGEST 6641
+#define NICKELGROVE_DESK_LONGEST 7151
 #define NICKELGROVE_ROOM 2295
 
 /* Said in place of a list's bytes, where there is no list. */
 #define NICKELGROVE_NO_LIST 65535
 
-/* The numbers of a piece: kind 0 free, 1 part, 2 structure; cut 0 Horizontal, 1 Vertical. A layout with any other kind or cut, at any of its places, is
- * not sound. */
+/* The numbers of a piece: kind 0 free, 1 part, 2 structure; cut 0 Horizontal, 1 Vertical; and what the blade ate behind it when it was cut off. A layout with
+ * any other kind or cut, at any of its places, is not sound, and nor is one with more eaten than its blade is wide. */
 struct nickelgrove_datum {
   uint32_t serial;
   uint32_t width;
@@ -38,6 +38,7 @@ struct nickelgrove_datum {
   uint8_t level;
   uint8_t kind;
   uint8_t cut;
+  uint8_t eaten;
 };
 
 /* A node: its piece, and the places that it is linked to; 255 is none. */
@@ -50,7 +51,8 @@ struct nickelgrove_node {
   uint16_t next;
 };
 
-/* A layout: its nodes by place, the free pieces and the removable ones, how many of each, and the sheet's own numbers. */
+/* A layout: its nodes by place, the free pieces and the removable ones, how many of each, and the sheet's own numbers, the width of the saw's blade (0 to 100)
+ * among them. */
 struct nickelgrove_layout {
   struct nickelgrove_node nodes[NICKELGROVE_LIMIT];
   uint16_t free[NICKELGROVE_LIMIT];
@@ -62,6 +64,7 @@ struct nickelgrove_layout {
   uint32_t serial;
   uint16_t number;
   uint8_t stages;
+  uint8_t blade;
   uint32_t width;
   uint32_t height;
 };
@@ -88,8 +91,8 @@ size_t nickelgrove_session_bytes(void);
 size_t nickelgrove_step(struct nickelgrove_session *session, const uint8_t *line, size_t length, uint8_t *answer);
 
 /* Answers the line of `length` characters as nickelgrove_step does, on the same session, and the lines of the desk's own ops too (docs/DESK.md): why not, the
- * room light, the two lists, the part numbers, the figures, the tree snapshot and the saw cuts. None of these changes anything. A line of nickelgrove_step gets
- * the same answer here, byte for byte.
+ * room light, the two lists, the part numbers, the figures, the tree snapshot, the saw cuts, the eaten area (op 19) and what the blade eats with each cut (op 1a).
+ * None of these changes anything. A line of nickelgrove_step gets the same answer here, byte for byte.
  *
  * Writes NICKELGROVE_DESK_LONGEST bytes to `answer`: the answer, its newline, and zeros. Gives how many of them are the answer, its newline among them. Where the
  * answer is a refusal, each number of the session is afterwards what it was before. */
@@ -97,8 +100,11 @@ size_t nickelgrove_desk(struct nickelgrove_session *session, const uint8_t *line
 
 /* Writes the saw cuts that make the parts and free pieces of the session's layout to the first bytes of `list`, which has room for NICKELGROVE_ROOM, and gives
  * how many bytes it wrote: 9 for each cut, in the order in which they are made. Place of the piece 2, way 1 (0 Horizontal, 1 Vertical), distance 4, what is cut
- * off 1 and what is left 1 (0 free, 1 part, 2 structure, 3 several siblings), highest byte first. The bytes behind the list stay. Where the layout isn't sound
- * it gives NICKELGROVE_NO_LIST and writes nothing. The session stays as it is. */
+ * off 1 and what is left 1 (0 free, 1 part, 2 structure, 3 what is cut again: several siblings, or one and what is eaten behind it), highest byte first. The bytes
+ * behind the list stay. Where the layout isn't sound it gives NICKELGROVE_NO_LIST and writes nothing. The session stays as it is.
+ *
+ * What the blade eats with each of these cuts, behind the piece that is cut off, stands beside the list: op 1a of nickelgrove_desk answers a byte for each cut, in
+ * the order of the list. Where that is all that lay there, nothing is left, and what is left is said to be free. */
 uint16_t nickelgrove_cuts(const struct nickelgrove_session *session, uint8_t *list);
 
 /* The records as the archive has them. */
@@ -110,6 +116,7 @@ NICKELGROVE_ASSERT(offsetof(struct nickelgrove_datum, number) == 12, "number");
 NICKELGROVE_ASSERT(offsetof(struct nickelgrove_datum, level) == 14, "level");
 NICKELGROVE_ASSERT(offsetof(struct nickelgrove_datum, kind) == 15, "kind");
 NICKELGROVE_ASSERT(offsetof(struct nickelgrove_datum, cut) == 16, "cut");
+NICKELGROVE_ASSERT(offsetof(struct nickelgrove_datum, eaten) == 17, "eaten");
 
 NICKELGROVE_ASSERT(sizeof(struct nickelgrove_node) == 32, "the size of a node");
 NICKELGROVE_ASSERT(offsetof(struct nickelgrove_node, datum) == 0, "datum");
@@ -130,6 +137,7 @@ NICKELGROVE_ASSERT(offsetof(struct nickelgrove_layout, used) == 9192, "used");
 NICKELGROVE_ASSERT(offsetof(struct nickelgrove_layout, serial) == 9200, "serial");
 NICKELGROVE_ASSERT(offsetof(struct nickelgrove_layout, number) == 9204, "number");
 NICKELGROVE_ASSERT(offsetof(struct nickelgrove_layout, stages) == 9206, "stages");
+NICKELGROVE_ASSERT(offsetof(struct nickelgrove_layout, blade) == 9207, "blade");
 NICKELGROVE_ASSERT(offsetof(struct nickelgrove_layout, width) == 9208, "width");
 NICKELGROVE_ASSERT(offsetof(struct nickelgrove_layout, height) == 9212, "height");
 

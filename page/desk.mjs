@@ -1,6 +1,6 @@
 // The desk: a sheet, asked by name. Each question and each change is a line to the module and its answer back; here is what was sent, and nothing of a layout.
-// A change is remembered, so that a session can be saved as the lines that were sent (ops 01 to 07). Questions of the desk alone (ops 11 to 18) change nothing.
-import { FREE, opOf, read, readLine, write } from './frames.mjs';
+// A change is remembered, so that a session can be saved as the lines that were sent (ops 01 to 07). Questions of the desk alone (ops 11 to 1a) change nothing.
+import { FREE, cutsAsked, opOf, read, readLine, write } from './frames.mjs';
 import { Counter } from './nickelgrove.mjs';
 
 const LAST_OF_THE_COUNTER = 0x07;
@@ -15,10 +15,11 @@ export class Desk {
   #module;
   #counter;
   #trial;
+  #kept = null; // what `sheet` and `bookings` were when the sheet was kept
 
   /** The lines that were sent. */
   lines = [];
-  /** What the last opening said, or null. */
+  /** What the sheet was opened with, or null. */
   sheet = null;
   /** Each booking of this sheet: its part, and the marks of the part and of the first node made. */
   bookings = [];
@@ -37,7 +38,7 @@ export class Desk {
     if (!text.endsWith('\n')) throw new NoSession('The file ends within a line: a session ends with a newline.');
     const desk = new Desk(this.#module);
     text.slice(0, -1).split('\n').forEach((line, index) => {
-      if (desk.#counter.step(line) === MALFORMED) throw new NoSession(`Line ${index + 1} of the file is no frame of the counter: "${shortened(line)}".`);
+      if (desk.#counter.step(line) === MALFORMED) throw new NoSession(`Line ${index + 1} of the file is no frame of the counter: "${shortened(line)}".${hintFor(line)}`);
     });
     const again = new Desk(this.#module);
     for (const line of text.slice(0, -1).split('\n')) again.send(line);
@@ -86,15 +87,15 @@ export class Desk {
     return this.#ask(write.snapshot()).nodes ?? [];
   }
 
-  /** The list of saw cuts; none before a sheet is opened. */
+  /** The list of saw cuts, each with what the blade eats; none before a sheet is opened. */
   get cuts() {
-    return this.#ask(write.cuts()).cuts ?? [];
+    return cutsAsked((line) => this.#ask(line));
   }
 
-  /** The figures, or null before a sheet is opened. */
+  /** The figures, the eaten area among them, or null before a sheet is opened. */
   get figures() {
     const figures = this.#ask(write.figures());
-    return figures.refusal ? null : figures;
+    return figures.refusal ? null : { ...figures, eaten: this.#ask(write.eaten()).eaten };
   }
 
   /** The marks of the free list, the greatest area first. */
@@ -119,11 +120,12 @@ export class Desk {
    */
   tried(mark, part, offer) {
     this.#trial.become(this.#counter);
-    const { refusal } = read(this.#trial.desk(write.insert(mark, part, offer)));
+    const ask = (line) => read(this.#trial.desk(line));
+    const { refusal } = ask(write.insert(mark, part, offer));
     if (refusal) return { refusal };
     const before = this.nodes;
-    const { nodes } = read(this.#trial.desk(write.snapshot()));
-    const { cuts } = read(this.#trial.desk(write.cuts()));
+    const { nodes } = ask(write.snapshot());
+    const cuts = cutsAsked(ask);
     return { refusal, nodes, cuts, at: before.findIndex((node, index) => !same(node, nodes[index])) };
   }
 
@@ -180,8 +182,16 @@ export class Desk {
       this.bookings = [];
     } else if (answer.op === 0x03) {
       this.bookings.push({ part: said.part, mark: answer.part, first: answer.first });
+    } else if (answer.op === 0x05) {
+      this.#kept = { sheet: this.sheet, bookings: [...this.bookings] };
+    } else if (answer.op === 0x06) {
+      this.sheet = this.#kept.sheet;
+      this.bookings = [...this.#kept.bookings];
     }
   }
 }
+
+/** A line that opened a sheet before the saw's blade had a width: what to do with it. Of others nothing is said. */
+const hintFor = (line) => (/^01[0-9a-f]{26}$/.test(line) ? ' It says nothing of the saw blade: for a blade of 0 put 00 before its last two characters.' : '');
 
 const shortened = (line) => (line.length > 40 ? `${line.slice(0, 40)}...` : line);

@@ -1,9 +1,9 @@
 // The cut diagram as SVG, the same bytes as the command `nickelgrove draw` writes (docs/DRAWING.md has the rules). All numbers are integers. Small pieces are drawn
 // larger where their labels need the room, and the picture says then that it is not to scale.
 import { PART, STRUCTURE, VERTICAL } from './frames.mjs';
-import { nameOf, treeOf } from './pieces.mjs';
+import { isStrip, nameOf, rowOf, treeOf } from './pieces.mjs';
 import { sawn } from './saw.mjs';
-import { say } from './say.mjs';
+import { areasOf, say } from './say.mjs';
 
 const LEFT = 40;
 const TOP = 80;
@@ -13,24 +13,28 @@ const FEW_PIECES = 20;
 const NARROWEST = 640;
 const CUT_COLOUR = '#b00020';
 const NUMBER_COLOUR = '#00459e';
+const STRIP_COLOUR = '#555';
 
 const whole = (number, divisor) => (number - (number % divisor)) / divisor;
 const digits = (number) => String(number).length;
 const added = (numbers) => numbers.reduce((sum, number) => sum + number, 0);
 
 /**
- * The picture { svg, pieces, lines, width, height, sheet }: its text; of each piece its drawn rectangle, { x, y, width, height }; of each cut its drawn line; how wide and
- * high it is; and the sheet's own drawn rectangle.
+ * The picture { svg, pieces, tiles, lines, width, height, sheet }: its text; the pieces and the tiles, each with its drawn rectangle, { x, y, width, height }; of each cut
+ * its drawn line; how wide and high it is; and the sheet's own drawn rectangle.
  */
 export function draw(nodes, cuts) {
   const made = sawn(nodes, cuts);
   const plan = planOf(nodes, made);
-  const labels = made.pieces.map((piece, at) => labelled(piece, at + 1, plan.drawn.get(piece.index), plan));
-  const lines = made.steps.map((step) => lineOf(step, made.pieces, plan));
-  const legend = legendOf(made.pieces, labels, plan);
+  const tiles = made.tiles.map((tile) => ({ ...tile, drawn: plan.drawn.get(tile.index) }));
+  const [pieces, strips] = [tiles.filter((tile) => !isStrip(tile)), tiles.filter(isStrip)];
+  const labels = pieces.map((piece, at) => labelled(piece, at + 1, piece.drawn, plan));
+  const lines = made.steps.map((step) => lineOf(step, tiles));
+  const legend = legendOf(pieces, labels, areasOf(nodes[0], tiles), plan);
   const text = [
     ...headOf(nodes[0], made, plan, legend),
-    ...made.pieces.map((piece, at) => pieceLine(piece, at + 1, plan.drawn.get(piece.index))),
+    ...pieces.map((piece, at) => pieceLine(piece, at + 1, piece.drawn)),
+    ...strips.map((strip) => stripLine(strip, plan)),
     ...pathOf(lines, plan),
     `<rect x="${LEFT}" y="${TOP}" width="${plan.width}" height="${plan.height}" fill="none" stroke="#000" stroke-width="2"/>`,
     ...labels.flatMap(({ text }) => text),
@@ -38,9 +42,8 @@ export function draw(nodes, cuts) {
     ...legend.text,
     '</svg>',
   ];
-  const pieces = made.pieces.map((piece) => ({ ...piece, drawn: plan.drawn.get(piece.index) }));
   const sheet = { x: LEFT, y: TOP, width: plan.width, height: plan.height };
-  return { svg: text.map((line) => `${line}\n`).join(''), pieces, lines, width: legend.width, height: legend.height, sheet };
+  return { svg: text.map((line) => `${line}\n`).join(''), pieces, tiles, lines, width: legend.width, height: legend.height, sheet };
 }
 
 // Sizes in the picture.
@@ -54,7 +57,7 @@ function planOf(nodes, made) {
   return small.tight ? planned(nodes, made, 1, true) : small;
 }
 
-/** Where everything is drawn with a factor of 2 or 1: how large the sheet is, the rectangle of each node by its index in the snapshot, and whether it is too tight. */
+/** Where everything is drawn with a factor of 2 or 1: how large the sheet is, the rectangle of each node and of each strip by its index, and whether it is too tight. */
 function planned(nodes, made, k, stretched) {
   const band = k * (9 + Math.max(8, 5 * digits(made.steps.length)));
   const along = 12 * k;
@@ -78,27 +81,32 @@ function needing(node, along, across) {
 
 function needOf(node, along, across) {
   if (node.kind !== STRUCTURE) return node.cutOver === VERTICAL ? { width: along, height: across } : { width: across, height: along };
-  const needs = node.children.map((child) => needing(child, along, across));
-  if (needs.length === 1) return needs[0];
+  const needs = rowOf(node).map((tile, at, row) => (isStrip(tile) ? stripNeeding(tile, node.cut, at === row.length - 1 ? along : 0) : needing(tile, along, across)));
   const [widths, heights] = [needs.map(({ width }) => width), needs.map(({ height }) => height)];
   return node.cut === VERTICAL ? { width: added(widths), height: Math.max(...heights) } : { width: Math.max(...widths), height: added(heights) };
 }
 
-/** Gives a node its drawn rectangle, and its children theirs. */
+/** A strip at the end of its row has the number of its cut beside it, and needs room for that; others need none. */
+function stripNeeding(strip, cut, room) {
+  strip.need = cut === VERTICAL ? { width: room, height: 0 } : { width: 0, height: room };
+  return strip.need;
+}
+
+/** Gives a node its drawn rectangle, and its children and their strips theirs. */
 function spread(node, rectangle, plan) {
   plan.drawn.set(node.index, rectangle);
   const [side, edge] = node.cut === VERTICAL ? ['width', 'x'] : ['height', 'y'];
-  const { children } = node;
-  const { lengths, fixed } = shared(rectangle[side], children.map((child) => child[side]), children.map((child) => child.need[side]));
+  const row = rowOf(node);
+  const { lengths, fixed } = shared(rectangle[side], row.map((tile) => tile[side]), row.map((tile) => tile.need[side]));
   if (fixed) plan.tight = true;
   let at = rectangle[edge];
-  children.forEach((child, index) => {
-    spread(child, { ...rectangle, [edge]: at, [side]: lengths[index] }, plan);
+  row.forEach((tile, index) => {
+    spread(tile, { ...rectangle, [edge]: at, [side]: lengths[index] }, plan);
     at += lengths[index];
   });
 }
 
-/** A drawn length among children, by their true lengths; but each gets what it needs. */
+/** A drawn length among a row, by its true lengths; but each gets what it needs. */
 function shared(length, sides, needs) {
   const lengths = sides.map(() => null);
   let [free, total, fixed] = [length, added(sides), false];
@@ -150,14 +158,22 @@ function pieceLine(piece, number, { x, y, width, height }) {
   return `<rect x="${x}" y="${y}" width="${width}" height="${height}" fill="${fill}"><title>${words}</title></rect>`;
 }
 
+/** A strip is seen beside the line of its cut, however narrow it is. */
+function stripLine(strip, { k }) {
+  const side = strip.cutOver === VERTICAL ? 'width' : 'height';
+  const { x, y, width, height } = { ...strip.drawn, [side]: Math.max(strip.drawn[side], 2 * k) };
+  const words = `saw: ${sizeOf(strip)}, ${strip.x} from the left, ${strip.y} from the top`;
+  return `<rect x="${x}" y="${y}" width="${width}" height="${height}" fill="${STRIP_COLOUR}"><title>${words}</title></rect>`;
+}
+
 // The cuts' lines and their numbers.
 
-/** A cut's line, from edge to edge of its board: { vertical, at, from, to }. */
-function lineOf({ way, board, rest }, pieces, { drawn }) {
-  const [first, last, next] = [board.first, board.last, rest.first].map((at) => drawn.get(pieces[at].index));
+/** A cut's line, from edge to edge of its board and right behind what is cut off: { vertical, at, from, to }. */
+function lineOf({ way, board, piece }, tiles) {
+  const [first, last, before] = [board.first, board.last, piece.last].map((at) => tiles[at].drawn);
   return way === VERTICAL
-    ? { vertical: true, at: next.x, from: first.y, to: last.y + last.height }
-    : { vertical: false, at: next.y, from: first.x, to: last.x + last.width };
+    ? { vertical: true, at: before.x + before.width, from: first.y, to: last.y + last.height }
+    : { vertical: false, at: before.y + before.height, from: first.x, to: last.x + last.width };
 }
 
 function pathOf(lines, { k }) {
@@ -241,13 +257,16 @@ function written(piece, label, region, isTurned) {
   return piece.kind === PART ? texts : [backdrop, ...texts];
 }
 
-// The legend, of the pieces that have their number alone.
+// The legend, of what the saw takes and of the pieces that have their number alone.
 
-function legendOf(pieces, labels, plan) {
+function legendOf(pieces, labels, areas, plan) {
   const width = Math.max(plan.width + 2 * LEFT, NARROWEST);
-  const below = TOP + plan.height;
+  const bottom = TOP + plan.height;
+  const said = areas.map((line, at) => `<text x="72" y="${bottom + 40 + 24 * at}" font-size="15" text-anchor="start">${line}</text>`);
+  const saw = areas.length > 0 ? [`<rect x="${LEFT}" y="${bottom + 28}" width="24" height="12" fill="${STRIP_COLOUR}"/>`, ...said] : [];
+  const below = bottom + 24 * areas.length;
   const numbered = pieces.flatMap((piece, at) => (labels[at].alone ? [[at + 1, piece]] : []));
-  if (numbered.length === 0) return { width, height: below + 40, text: [] };
+  if (numbered.length === 0) return { width, height: below + 40, text: saw };
   const columns = whole(width - 2 * LEFT, 240);
   const rows = whole(numbered.length + columns - 1, columns);
   const entry = ([number, piece], at) => {
@@ -255,5 +274,5 @@ function legendOf(pieces, labels, plan) {
     return `<text x="${x}" y="${y}" text-anchor="start"><tspan font-style="italic" fill="${NUMBER_COLOUR}">${number}</tspan> ${nameOf(piece)}, ${sizeOf(piece)}</text>`;
   };
   const head = `<text x="${LEFT}" y="${below + 40}" font-size="15" text-anchor="start">Pieces by their numbers:</text>`;
-  return { width, height: below + 40 + 24 + 16 * rows, text: [head, ...numbered.map(entry)] };
+  return { width, height: below + 40 + 24 + 16 * rows, text: [...saw, head, ...numbered.map(entry)] };
 }

@@ -16,12 +16,13 @@ function numbersFrom(seed) {
   };
 }
 
-/** Opens a sheet that follows from the seed at a desk, and books parts that it offers room for. */
-export function fill(desk, seed) {
+/** Opens a sheet that follows from the seed at a desk, for a blade of this width, and books parts that it offers room for. Its answer is that of the opening. */
+export function fill(desk, seed, blade = 0) {
   const next = numbersFrom(seed);
   const among = (from, to) => from + Math.floor(next() * (to - from + 1));
   const [width, height] = [10 * among(80, 280), 10 * among(60, 210)];
-  desk.open({ layout: seed % 65536, width, height, cut: among(0, 1), stages: among(2, 4) });
+  const opened = desk.open({ layout: seed % 65536, width, height, cut: among(0, 1), stages: among(2, 4), blade });
+  if (opened.refusal) return opened;
   let booked = 0;
   for (let tries = 0; tries < TRIES && (booked < PARTS || desk.cuts.length < ENOUGH_CUTS); tries += 1) {
     const part = { number: booked + 1, width: 10 * among(8, width / 20), height: 10 * among(8, height / 20), turn: 0 };
@@ -30,6 +31,7 @@ export function fill(desk, seed) {
     const { offers } = desk.offers(mark, part);
     if (!desk.insert(mark, part, offers[among(0, offers.length - 1)]).refusal) booked += 1;
   }
+  return opened;
 }
 
 export class Drill {
@@ -43,17 +45,23 @@ export class Drill {
     this.cuts = desk.cuts;
   }
 
+  /** The width of the saw's blade. */
+  get blade() {
+    return this.desk.sheet.blade;
+  }
+
   get over() {
     return this.at >= this.cuts.length;
   }
 
-  /** The new hire's cut { place, way, distance }: what in it is wrong, as words; none if it is right. The next cut is asked for then. */
+  /** The new hire's cut { place, way, distance, eaten }: what in it is wrong, as words; none if it is right. The next cut is asked for then. */
   answer(said) {
     const cut = this.cuts[this.at];
     const wrong = [
       ...(said.place === cut.place ? [] : ['the board']),
       ...(said.way === cut.way ? [] : ['the way']),
       ...(said.distance === cut.distance ? [] : ['the distance']),
+      ...(said.eaten === cut.eaten ? [] : ['what the saw takes']),
     ];
     this.count(wrong.length === 0);
     return wrong;

@@ -4,7 +4,18 @@ import { Drill, fill as book } from './drill.mjs';
 import { show } from './picture.mjs';
 import { sawn } from './saw.mjs';
 import { say } from './say.mjs';
-import { pileOf } from './saw_view.mjs';
+import { pileOf, takenBy } from './saw_view.mjs';
+import { refused } from './words.mjs';
+
+const SEED = [
+  ['seed', 'seed', 'The seed', 4],
+  ['blade', 'drill-blade', "The saw blade's width", 1],
+];
+const CUT = [
+  ['board', 'drill-board', 'The board', 2],
+  ['distance', 'drill-distance', 'The distance', 4],
+];
+const EATEN = ['eaten', 'drill-eaten', 'What the saw takes', 1]; // asked for where the blade has a width
 
 export class DrillView {
   #desk; // makes a new one
@@ -22,10 +33,14 @@ export class DrillView {
 
   #begin(event) {
     event.preventDefault();
-    const numbers = numbersOf([['seed', 'seed', 'The seed', 4]], 'seed-wrong');
+    const numbers = numbersOf(SEED, 'seed-wrong');
     if (!numbers) return;
     const desk = this.#desk();
-    book(desk, numbers.seed);
+    const { refusal } = book(desk, numbers.seed, numbers.blade);
+    if (refusal) {
+      find('seed-wrong').textContent = refused(refusal);
+      return;
+    }
     this.#drill = new Drill(desk);
     tell('drill-word', `The sheet of seed ${numbers.seed}. What is the first cut?`);
     find('seed').value = (numbers.seed + 1) % 2 ** 32;
@@ -34,7 +49,7 @@ export class DrillView {
   }
 
   #cleared() {
-    for (const id of ['drill-board', 'drill-distance']) {
+    for (const [, id] of [...CUT, EATEN]) {
       find(id).value = '';
       find(id).removeAttribute('aria-invalid');
     }
@@ -46,12 +61,12 @@ export class DrillView {
   #answer(event) {
     event.preventDefault();
     if (!this.#drill || this.#drill.over) return;
-    const numbers = numbersOf([['board', 'drill-board', 'The board', 2], ['distance', 'drill-distance', 'The distance', 4]], 'drill-wrong');
+    const numbers = numbersOf(this.#drill.blade > 0 ? [...CUT, EATEN] : CUT, 'drill-wrong');
     const way = chosen('way');
     if (way === null) find('drill-wrong').textContent += ' Say whether the cut is Horizontal or Vertical.';
     if (!numbers || way === null) return;
     const said = this.#sentence();
-    const wrong = this.#drill.answer({ place: numbers.board - 1, way, distance: numbers.distance });
+    const wrong = this.#drill.answer({ place: numbers.board - 1, way, distance: numbers.distance, eaten: numbers.eaten ?? 0 });
     this.#count(wrong.length === 0);
     tell('drill-word', wrong.length === 0 ? `Right. ${said}` : `Not right: ${wrong.join(' and ')}. The list says: ${said}`, wrong.length > 0);
     this.#cleared();
@@ -88,15 +103,17 @@ export class DrillView {
     find('score').textContent = `Score: ${right} right of ${asked}.`;
     const drill = this.#drill;
     find('drill-form').hidden = !drill || drill.over;
+    find('drill-eats').hidden = !drill || drill.blade === 0;
     if (!drill) {
       show(find('drill-diagram'), [], []);
       return;
     }
     const { cuts, at } = drill;
     const { nodes } = drill.desk;
-    const { pieces, steps, piles } = sawn(nodes, cuts);
-    const made = at > 0 ? [steps[at - 1].piece, steps[at - 1].rest] : [];
-    fill('drill-pile', ...pileOf(piles[at], pieces, made));
+    const { tiles, steps, piles } = sawn(nodes, cuts);
+    const step = at > 0 ? steps[at - 1] : null;
+    find('drill-taken').textContent = takenBy(step);
+    fill('drill-pile', ...pileOf(piles[at], tiles, step ? step.made : []));
     fill('drill-cuts', ...say(nodes, cuts).slice(1, at + 1).map((sentence) => element('li', {}, sentence.replace(/^\d+\. /, ''))));
     if (drill.over) find('score').textContent += ` All ${cuts.length} cuts of this sheet are made: take a new sheet.`;
     show(find('drill-diagram'), nodes, cuts, { plain: true });

@@ -41,7 +41,7 @@ const partFields = ({ number, width, height, turn }) => [[2, number], [4, width]
 
 /** A line for each op. */
 export const write = {
-  open: ({ layout, width, height, cut, stages }) => frame(0x01, [2, layout], [4, width], [4, height], [1, cut], [1, stages]),
+  open: ({ layout, width, height, cut, stages, blade }) => frame(0x01, [2, layout], [4, width], [4, height], [1, cut], [1, stages], [1, blade]),
   offers: (mark, part) => frame(0x02, ...markFields(mark), ...partFields(part)),
   insert: (mark, part, { rotation, shape }) => frame(0x03, ...markFields(mark), ...partFields(part), [1, rotation], [1, shape]),
   remove: (mark) => frame(0x04, ...markFields(mark)),
@@ -56,6 +56,8 @@ export const write = {
   figures: () => frame(0x16),
   snapshot: () => frame(0x17),
   cuts: () => frame(0x18),
+  eaten: () => frame(0x19),
+  amounts: () => frame(0x1a),
 };
 
 /** The fields of an answer, one after the other. */
@@ -105,6 +107,7 @@ const node = (fields) => ({
   number: fields.number(2),
   width: fields.number(4),
   height: fields.number(4),
+  eaten: fields.number(1),
 });
 const sawCut = (fields) => ({
   place: fields.number(2),
@@ -140,6 +143,8 @@ const READERS = {
   }),
   0x17: (fields) => ({ nodes: fields.list(fields.number(2), node) }),
   0x18: (fields) => ({ cuts: fields.list(fields.number(2), sawCut) }),
+  0x19: (fields) => ({ eaten: fields.number(8) }),
+  0x1a: (fields) => ({ amounts: fields.list(fields.number(2), () => fields.number(1)) }),
 };
 
 /** An answer: its op and the refusal's number, which is 0 where there is none, and then the fields of that op. What is no answer is an error. */
@@ -158,6 +163,17 @@ export function read(answer) {
   return { op, refusal, ...rest };
 }
 
+/**
+ * The saw cuts, of a desk that `ask` sends a line to and reads the answer of: each with what the blade eats behind the piece that it cuts off (`eaten`), which the desk
+ * says beside the list. None before a sheet is opened.
+ */
+export function cutsAsked(ask) {
+  const { cuts = [] } = ask(write.cuts());
+  const { amounts = [] } = ask(write.amounts());
+  if (amounts.length !== cuts.length) throw new Error(`${cuts.length} cuts have ${amounts.length} amounts`);
+  return cuts.map((cut, at) => ({ ...cut, eaten: amounts[at] }));
+}
+
 /** The op of a line that is a frame. */
 export const opOf = (line) => parseInt(line.slice(0, 2), 16);
 
@@ -167,7 +183,7 @@ export function readLine(line) {
   const part = () => ({ number: fields.number(2), width: fields.number(4), height: fields.number(4), turn: fields.number(1) });
   switch (opOf(line)) {
     case 0x01:
-      return { layout: fields.number(2), width: fields.number(4), height: fields.number(4), cut: fields.number(1), stages: fields.number(1) };
+      return { layout: fields.number(2), width: fields.number(4), height: fields.number(4), cut: fields.number(1), stages: fields.number(1), blade: fields.number(1) };
     case 0x03:
       return { mark: fields.mark(), part: part(), ...offer(fields) };
     default:

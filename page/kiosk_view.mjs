@@ -2,7 +2,7 @@
 import { chosen, element, fill, find, numbersOf, tell } from './dom.mjs';
 import { OFFERED, PART, SHAPES } from './frames.mjs';
 import { show } from './picture.mjs';
-import { LIES, REASONS, capital, grouped, marked, refused, sized } from './words.mjs';
+import { LIES, REASONS, capital, figured, grouped, marked, refused, sized } from './words.mjs';
 
 const SIZES = [[600, 400], [800, 300], [1200, 600], [2000, 500], [2070, 600], [300, 300]];
 const SHEET = [
@@ -10,6 +10,7 @@ const SHEET = [
   ['width', 'sheet-width', 'The width', 4],
   ['height', 'sheet-height', 'The height', 4],
   ['stages', 'sheet-stages', 'The number of stages', 1],
+  ['blade', 'sheet-blade', "The saw blade's width", 1],
 ];
 const PANEL = [
   ['width', 'panel-width', 'The width', 4],
@@ -50,7 +51,8 @@ export class KioskView {
       find('sheet-wrong').textContent = refused(refusal);
       return;
     }
-    tell('word', `Sheet ${sized(numbers)} is open as layout ${numbers.layout}.`);
+    const saw = numbers.blade > 0 ? `, for a saw blade of ${numbers.blade}` : '';
+    tell('word', `Sheet ${sized(numbers)} is open as layout ${numbers.layout}${saw}.`);
     find('sheet-layout').value = (numbers.layout + 1) % 65536; // a number is for one sheet
     this.render();
   }
@@ -185,8 +187,8 @@ export class KioskView {
 
   #figures(desk) {
     const { figures, sheet } = desk;
-    const used = figures && `Layout ${sheet.layout}, ${sheet.stages} stages. Used ${grouped(figures.used)}, free ${grouped(figures.free)}: ${(100 * figures.sheetUsage).toFixed(1)} % is used.`;
-    find('kiosk-figures').textContent = used ?? '';
+    find('kiosk-figures').textContent = figures ? figured(figures, sheet) : '';
+    find('kiosk-strips').hidden = !figures || figures.eaten === 0;
   }
 
   #diagram() {

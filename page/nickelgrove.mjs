@@ -2,7 +2,7 @@
 // module's own; here are its memory and how bytes cross. kiosk/nickelgrove.h says what each call does.
 //
 //   const counter = await open(bytes);
-//   counter.step('010001000000640000003c01035a');   // '010000010100000002fb'
+//   counter.step('010001000000640000003c0103005a'); // '010000010100000002fb'
 //   counter.cuts();                                 // []
 //   counter.desk('18e8');                           // '18000000e8', the same list as a line of the desk
 
@@ -50,7 +50,7 @@ export class Counter {
     return this.#answered('nickelgrove_step', line, this.#answer);
   }
 
-  /** The same at the desk, which also answers the questions of ops 11 to 18. */
+  /** The same at the desk, which also answers the questions of ops 11 to 1a. */
   desk(line) {
     return this.#answered('nickelgrove_desk', line, this.#said);
   }
@@ -63,7 +63,8 @@ export class Counter {
 
   /**
    * The saw cuts that make the sheet's parts and free pieces, in the order in which they are made; null before a sheet is opened. Each takes the piece at a
-   * place of the pile, cuts it at a distance from its left or upper edge, and puts the piece cut off and what is left of it there.
+   * place of the pile, cuts it at a distance from its left or upper edge, and puts the piece cut off and what is left of it there. What the blade eats with each cut
+   * is no part of it: the desk's op 1a says that.
    */
   cuts() {
     const count = this.#call('nickelgrove_cuts', this.#session, this.#list) & 0xffff; // of a u16 the module says nothing of the bits above

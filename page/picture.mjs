@@ -2,12 +2,13 @@
 // the pieces have their numbers alone, and a list says what they are.
 import { draw } from './draw.mjs';
 import { element } from './dom.mjs';
-import { called } from './say.mjs';
+import { areasOf, called } from './say.mjs';
 
 const SVG = 'http://www.w3.org/2000/svg';
 const READABLE = 0.6; // of its full size
 const ALMOST_FULL = 0.8;
 const NUMBER_PIXELS = 15;
+const TAKEN_PIXELS = 4; // of what the saw takes with the cut that is shown, over half of the cut's line and hardly more
 const EDGE = 8; // around a sheet that fills the picture
 const NARROW = 480; // pixels of a screen on which the style lets a picture be half as high as the screen; on others it is most of it
 
@@ -24,6 +25,7 @@ const LOOKS = {
   lit: { under: true, fill: 'none', stroke: '#00694d', 'stroke-width': 7, 'stroke-dasharray': '16 6', class: 'lamp' },
   booked: { under: true, fill: 'url(#booked)', stroke: '#0072b2', 'stroke-width': 5 },
   board: { fill: 'none', stroke: '#0072b2', 'stroke-width': 5 },
+  taken: { fill: '#333333', class: 'strip' },
   veil: { fill: '#ffffff', 'fill-opacity': 0.72 },
 };
 
@@ -38,8 +40,9 @@ function hatches(scale) {
 }
 
 /**
- * Shows a sheet in a figure. `over(drawing)` gives what is laid over it: { look, drawn, word, tap } for a rectangle, { line, cut } for a cut. `plain` leaves out the cuts'
- * numbers and their sentences, as a drill wants it. `words` says whether the list in words is open where the picture is small.
+ * Shows a sheet in a figure. `over(drawing)` gives what is laid over it: { look, drawn, word, tap } for a rectangle, with its `side` for one that is to be seen however
+ * narrow it is on that; { line, cut } for a cut. `plain` leaves out the cuts' numbers and their sentences, as a drill wants it. `words` says whether the list in words is
+ * open where the picture is small.
  */
 export function show(figure, nodes, cuts, { over = () => [], plain = false, words = true } = {}) {
   if (nodes.length === 0) {
@@ -55,7 +58,7 @@ export function show(figure, nodes, cuts, { over = () => [], plain = false, word
   const svg = document.importNode(new DOMParser().parseFromString(drawing.svg, 'image/svg+xml').documentElement, true);
   svg.setAttribute('role', 'group'); // and not an image, in which nothing could be tapped
   svg.setAttribute('aria-label', svg.querySelector('title').textContent);
-  lay(svg, over(drawing), scale);
+  lay(svg, over(drawing), drawing.pieces.length, scale);
   if (plain) svg.querySelectorAll('g').forEach((group) => group.remove());
   if (small) shrink(svg, drawing, scale);
   figure.classList.toggle('small', small);
@@ -64,7 +67,7 @@ export function show(figure, nodes, cuts, { over = () => [], plain = false, word
   figure.replaceChildren(
     element('div', { class: 'frame', tabindex: large ? '0' : null }, svg),
     ...sizeButton(figure, large, whole, again),
-    inWords(figure, drawing.pieces, small && words),
+    inWords(figure, drawing.pieces, areasOf(nodes[0], drawing.tiles), small && words),
   );
 }
 
@@ -75,28 +78,29 @@ function shownAt(figure, width, height) {
   return Math.min(wide / width, high / height);
 }
 
-/** Lays things over the pieces: some right above them and under all labels, the others above everything, but for the number of the cut that is shown. */
-function lay(svg, things, scale) {
-  const pieces = [...svg.children].filter((child) => child.localName === 'rect' && child.firstElementChild?.localName === 'title');
-  const above = pieces.at(-1).nextSibling;
+/** Lays things over the pieces: some right above them and under strips and labels, the others above everything, but for the number of the cut that is shown. */
+function lay(svg, things, pieces, scale) {
+  const tiles = [...svg.children].filter((child) => child.localName === 'rect' && child.firstElementChild?.localName === 'title'); // the pieces first
+  const above = tiles[pieces - 1].nextSibling;
   const numbers = svg.querySelectorAll('g');
   svg.insertBefore(hatches(scale), svg.firstChild);
   for (const thing of things) {
-    const made = laid(thing);
+    const made = laid(thing, scale);
     if (LOOKS[thing.look]?.under) svg.insertBefore(made, above);
     else svg.append(made);
-    if (thing.line) svg.append(numbers[thing.cut]);
   }
+  svg.append(...things.filter(({ line }) => line).map(({ cut }) => numbers[cut]));
 }
 
-function laid({ look, drawn, line, word, tap }) {
+function laid({ look, drawn, side, line, word, tap }, scale) {
   if (line) {
     const { vertical, at, from, to } = line;
     const path = vertical ? `M${at} ${from}V${to}` : `M${from} ${at}H${to}`;
     return drawnElement('path', { d: path, stroke: '#b00020', 'stroke-width': 5, fill: 'none', 'vector-effect': 'non-scaling-stroke' });
   }
   const { under, ...looks } = LOOKS[look];
-  const made = drawnElement('rect', { ...drawn, ...looks, 'vector-effect': 'non-scaling-stroke' });
+  const rectangle = side ? { ...drawn, [side]: Math.max(drawn[side], TAKEN_PIXELS / scale) } : drawn;
+  const made = drawnElement('rect', { ...rectangle, ...looks, 'vector-effect': 'non-scaling-stroke' });
   if (word) made.append(drawnElement('title', {}, word));
   if (tap) tappable(made, word, tap);
   return made;
@@ -115,6 +119,7 @@ function tappable(made, word, tap) {
 /** Too small for the labels: the sheet alone, with the numbers of its pieces. (The style hides the labels.) */
 function shrink(svg, { sheet, pieces }, scale) {
   svg.setAttribute('viewBox', `${sheet.x - EDGE} ${sheet.y - EDGE} ${sheet.width + 2 * EDGE} ${sheet.height + 2 * EDGE}`);
+  svg.querySelectorAll('rect[fill="#555"]').forEach((strip) => strip.firstElementChild ?? strip.remove()); // the legend's
   svg.append(...pieces.flatMap((piece, at) => numberOf(piece, at + 1, scale)));
 }
 
@@ -136,10 +141,11 @@ function sizeButton(figure, large, whole, again) {
   return [element('button', { type: 'button', class: 'size', onclick: turn }, large ? 'Whole picture' : 'Larger picture')];
 }
 
-function inWords(figure, pieces, open) {
+function inWords(figure, pieces, areas, open) {
   const line = (piece) => element('li', {}, `${called(piece)}: ${piece.x} from the left, ${piece.y} from the top`);
   const noted = (event) => (figure.dataset.words = event.target.open ? 'yes' : 'no');
   const isOpen = figure.dataset.words ? figure.dataset.words === 'yes' : open;
   const summary = element('summary', {}, 'The pieces in words');
-  return element('details', { open: isOpen, ontoggle: noted }, summary, element('ol', { class: 'pieces' }, ...pieces.map(line)));
+  const said = areas.length > 0 ? [element('p', { class: 'taken' }, areas.join(' '))] : [];
+  return element('details', { open: isOpen, ontoggle: noted }, summary, element('ol', { class: 'pieces' }, ...pieces.map(line)), ...said);
 }

@@ -4,7 +4,7 @@ import { most } from './frames.mjs';
 /** Of each refusal what it is, in a word, and who can put it right. The table of docs/REFUSALS.md has the same words. */
 export const REFUSALS = {
   1: ['no sheet, or a spoilt one', 'the counter: open a sheet, or keep one first'],
-  2: ["a sheet that we don't take", 'the counter: look at sides and stages'],
+  2: ["a sheet that we don't take", 'the counter: look at sides, stages and blade'],
   3: ["a part that we don't take", 'the customer: look at the sides'],
   4: ["the mark is another sheet's", 'the program: it mixed up two sheets'],
   5: ['the piece is gone', 'the counter: ask for the room again'],
@@ -40,6 +40,13 @@ export const grouped = (number) => String(number).replace(/\B(?=(\d{3})+$)/g, ',
 
 /** A size as people write it. */
 export const sized = ({ width, height }) => `${grouped(width)} x ${grouped(height)}`;
+
+/** The figures of a sheet in two sentences: the blade where it has a width, and the eaten area where something was eaten. */
+export function figured({ used, free, eaten, sheetUsage }, { layout, stages, blade }) {
+  const saw = blade > 0 ? `, saw blade ${blade}` : '';
+  const taken = eaten > 0 ? `, taken by the saw ${grouped(eaten)}` : '';
+  return `Layout ${layout}, ${stages} stages${saw}. Used ${grouped(used)}, free ${grouped(free)}${taken}: ${(100 * sheetUsage).toFixed(1)} % is used.`;
+}
 
 /** A mark, as the frames' page has it. */
 export const marked = ({ layout, place, serial }) => `layout ${layout}, place ${place}, serial ${serial}`;

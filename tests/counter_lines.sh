@@ -44,6 +44,6 @@ answers 'a last line of 300000 characters without its newline' "$(digits 300000)
 many=$(printf '%*s' 3000 '')
 answers '3000 frames at once' "${many// /$report}" "${many// /$refused}"
 
-open=010001000000640000003c01035a insert=03000101000000020007000000280000003c0000018d
+open=010001000000640000003c0103005a insert=03000101000000020007000000280000003c0000018d
 answers "document 01's session" "$open\n$insert\n$insert\n" '010000010100000002fb\n030000010100000003000101000000030100010200000004eb\n0305f8\n'
 finished 41

@@ -22,7 +22,7 @@ function book(number, place, serial, level) {
 BEGIN {
   width = height = 1000
   if (!size) size = tree == "chain" ? 252 : 126
-  say("010001" four(width) four(height) "01" "fe", "0100" mark(1, 2))
+  say("010001" four(width) four(height) "01" "fe" "00", "0100" mark(1, 2))
   last = 2
   if (tree == "chain") {
     for (i = 1; i <= size; i++) {

@@ -1,7 +1,7 @@
 # What the desk is asked over the Rust's recorded sessions, and what it has to answer: awk -v sent=FILE -v said=FILE -f tests/desk.awk sessions.in sessions.out
 # Each line of sessions.in goes to the desk with its answer; then come the questions whose answers the line of `inspect` has (recorded/README.md): each
-# position of both lists and the one past the end, part numbers, figures, tree snapshot, saw cuts, and the room light of an offers or insert frame. Of the
-# reasons `inspect` has none: an offers frame is asked as why not too, whose refusals are the same, and which says that a rotation is offered (05) exactly
+# position of both lists and the one past the end, part numbers, figures, tree snapshot, saw cuts, eaten area, amounts of the cuts, and the room light of an
+# offers or insert frame. Of the reasons `inspect` has none: an offers frame is asked as why not too, whose refusals are the same, and which says that a rotation is offered (05) exactly
 # where the Rust has an offer in it; the other reasons are left open as dots.
 BEGIN {
   for (i = 0; i < 256; i++) byte[sprintf("%02x", i)] = i
@@ -45,16 +45,19 @@ FNR == NR { frame[FNR] = $0; next }
 {
   line = frame[FNR]
   open = $2 != "-"
-  nodes = length($2) / 26
+  nodes = length($2) / 28
   give(line, $1)
   positions("13", open, $3 == "-" ? "" : $3)
   positions("14", open, $4 == "-" ? "" : $4)
   numbers = $6 == "-" ? "" : $6
   bare("15", open, sprintf("%04x", length(numbers) / 4) numbers)
-  bare("16", open, substr($5, 1, 32) sprintf("%04x", nodes) "00" substr($5, 33))
+  bare("16", open, substr($5, 1, 32) sprintf("%04x", nodes) "00" substr($5, 33, 32))
   bare("17", open, sprintf("%04x", nodes) $2)
   cuts = $8 == "-" ? "" : $8
   bare("18", open, sprintf("%04x", length(cuts) / 18) cuts)
+  bare("19", open, substr($5, 65))
+  amounts = $9 == "-" ? "" : $9
+  bare("1a", open, sprintf("%04x", length(amounts) / 2) amounts)
   op = substr(line, 1, 2)
   if ($7 != "-") light(substr(line, 17, 22), $7)
   if (op == "02" && substr($1, 1, 2) == "02") why(line, $1)

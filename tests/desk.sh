@@ -10,7 +10,7 @@ cd "$(dirname "$0")/.." || exit 2
 lines=${1:-$(wc -l < recorded/sessions.in)}
 for side in in out; do head -n "$lines" recorded/sessions.$side > "$room/sessions.$side"; done
 awk -v sent="$room/sent" -v said="$room/said" -f tests/desk.awk "$room/sessions.in" "$room/sessions.out"
-[ "$(wc -l < "$room/sent")" -ge $((lines * 7)) ] && grep -q '^11' "$room/sent" && grep -q '^1100.*05' "$room/said"
+[ "$(wc -l < "$room/sent")" -ge $((lines * 9)) ] && grep -q '^11' "$room/sent" && grep -q '^1100.*05' "$room/said"
 tried $? "there are $(wc -l < "$room/sent") lines, $(grep -c '^11' "$room/sent") of them why not"
 
 # as_left_open ANSWERS: what the desk writes, with dots for a reason other than 05, and for the check behind it, where these answers have dots; the status is the
@@ -25,7 +25,7 @@ as_left_open() {
 }
 writes 'the short sessions, each line with every question that the Rust has an answer to' "$room/said" as_left_open "$room/said" < "$room/sent"
 writes 'the long sessions, as at the counter, on a stack of 2 MiB' recorded/long.out run_on_stack 2048 desk < recorded/long.in
-grep '^1[1-8]' "$room/sent" | sort -u | head -n 2000 > "$room/own"
+grep '^1[1-9a]' "$room/sent" | sort -u | head -n 2000 > "$room/own"
 sed 's/.*/ff0ef3/' "$room/own" > "$room/malformed"
 writes "the desk's own ops at the counter: malformed" "$room/malformed" run counter < "$room/own"
 finished 4

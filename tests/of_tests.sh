@@ -66,7 +66,7 @@ usize nickelgrove_room(void) { return 2295; }
 usize nickelgrove_session_bytes(void) { return 18432; }
 unsigned short nickelgrove_cuts(const void *session, char *list) { return 65535; }
 usize nickelgrove_step(void *session, const char *line, usize length, char *answer) { ${*:2} }
-usize nickelgrove_desk_longest(void) { return 6641; }
+usize nickelgrove_desk_longest(void) { return 7151; }
 usize nickelgrove_desk(void *session, const char *line, usize length, char *answer) { ${*:2} }
 END
   "$tools/bin/clang" --target=wasm32-unknown-unknown --no-default-config -c "$room/module.c" -o "$room/module.o" &&
@@ -193,6 +193,18 @@ mutants() {
   mutant picture page/say.mjs "'Above', 'Below'" "'Below', 'Above'"
   mutant drill page/drill.mjs 'said.distance === cut.distance' 'true'
   mutant voice page/voice.mjs '({ localService }) => localService' '() => true'
+  mutant frames page/frames.mjs '[1, stages], [1, blade])' '[1, stages])'
+  mutant frames page/frames.mjs 'amounts.length !== cuts.length' 'false'
+  mutant blade page/frames.mjs 'eaten: amounts[at]' 'eaten: 0'
+  mutant blade page/saw.mjs 'rest ? [piece, rest] : [piece]' '[piece, rest ?? strip]'
+  mutant blade page/words.mjs ', taken by the saw ${grouped(eaten)}' ''
+  mutant blade page/desk.mjs 'this.sheet = this.#kept.sheet;' ''
+  mutant blades page/pieces.mjs 'parent[edge] += node.eaten;' ''
+  mutant strips page/draw.mjs '...strips.map((strip) => stripLine(strip, plan)),' ''
+  mutant strips page/draw.mjs 'Math.max(strip.drawn[side], 2 * k)' 'strip.drawn[side]'
+  mutant strips page/say.mjs '; the saw takes ${eaten}' ''
+  mutant reopen page/desk.mjs '${hintFor(line)}' ''
+  mutant drill page/drill.mjs 'said.eaten === cut.eaten' 'true'
   if ! command -v chromium > /dev/null && ! command -v chromium-browser > /dev/null; then
     echo 'skipped: there is no chromium here, and no wrong page was opened in it'
     return
@@ -200,9 +212,15 @@ mutants() {
   mutant browser-day page/kiosk_view.mjs '${refused(answer.refusal)} The offer' 'The offer'
   mutant browser-touch page/picture.mjs 'if (tap) tappable(made, word, tap);' ''
   mutant browser-keys page/picture.mjs "event.key !== 'Enter'" "event.key !== 'F9'"
+  mutant browser-blade page/kiosk_view.mjs "['blade', 'sheet-blade'," "['blade', 'sheet-stages',"
+  mutant browser-blade page/kiosk_view.mjs "find('kiosk-strips').hidden = !figures || figures.eaten === 0;" ''
+  mutant browser-blade page/saw_view.mjs "find('taken').textContent = takenBy(step);" ''
+  mutant browser-blade page/saw_view.mjs "look: 'taken'" "look: 'veil'"
+  mutant browser-blade page/draw.mjs '...strips.map((strip) => stripLine(strip, plan)),' ''
   mutant browser-saw page/saw_view.mjs 'textContent = sentences[at]' 'textContent = sentences[0]'
   mutant browser-away page/app.mjs 'kiosk.tick() && tabs.again()' 'kiosk.tick()'
   mutant browser-drill page/drill_view.mjs 'this.#count(wrong.length === 0)' 'this.#count(true)'
+  mutant browser-drill page/drill_view.mjs 'eaten: numbers.eaten ?? 0' 'eaten: this.#drill.blade'
   mutant browser-fields page/dom.mjs 'numbers[key] = number;' 'numbers[key] = number; find(id).value = "";'
   mutant browser-sizes page/style.css 'main { padding: 0.75rem; }' 'main { padding: 0.75rem; width: 400px; }'
   mutant browser-quiet page/page.html '@POLICY@' "default-src * data: 'unsafe-inline' 'unsafe-eval'"
@@ -233,7 +251,7 @@ ends 1 'a failure in a subshell counts' <<< '(tried 1 one); finished 1'
 
 # oracle/compare, on judges that stand in for the Rust: FRAMES is how many it generates, and `judge` is a script that answers them.
 judge() { # NAME
-  { echo '#!/usr/bin/env bash'; echo 'case "$*" in gen*) head -n "$FRAMES" recorded/sessions.in; exit ;; esac'; cat; } > "$room/$1"
+  { echo '#!/usr/bin/env bash'; echo 'case "$*" in gen*) head -n "$FRAMES" recorded/sessions.in; exit ;; *--judges) sed s/.*/rust/; exit ;; esac'; cat; } > "$room/$1"
   chmod +x "$room/$1"
 }
 words_of inspect && inspect=$(printf '%q ' "${program[@]}")

@@ -3,12 +3,14 @@
 //   fields    what is said of bad numbers in a field
 //   frames    whether the recorded lines and their answers are read and written again alike, and what is no answer is refused (with the lines' file, and their answers')
 //   day       a day at the kiosk: offers, why not, a booking, a timeout, a stale offer; FILE is written with the session
+//   blade     a day with a saw blade of 3: what it eats, a customer who walks away, panels taken out; FILE is written with the session
+//   blades    FILE is written with sessions of blades of many widths, and what the blades do in them is counted
 //   reopen    a session that was saved, opened again; and files that are none (FILE is the saved one)
-//   located   whether every free piece of the recorded sessions is found in the diagram
+//   located   whether every free piece of the recorded sessions is found in the diagram, and the sheet is the one that it was opened as
 //   picture   the cut diagram and the sentences of FILE's last sheet
 //   draw      the cut diagram after each line of FILE that leaves a sheet, as `nickelgrove draw --each` writes it
 //   say       the same, in sentences
-//   drill     the sheets of 200 seeds, answered rightly and wrongly
+//   drill     the sheets of 200 seeds, without a blade and with one, answered rightly and wrongly
 //   sheet     FILE is written with the session of a drill's sheet, and what the saw's view says of it: the sentences, and the last pile
 //   voice     which voice is taken
 //   page      what is in the page FILE: its policy, its hashes, the module, and nothing from elsewhere
@@ -17,14 +19,14 @@ import { readFileSync, writeFileSync } from 'node:fs';
 import { Desk, NoSession } from '../page/desk.mjs';
 import { draw } from '../page/draw.mjs';
 import { Drill, fill } from '../page/drill.mjs';
-import { SHAPES, read, readLine, write } from '../page/frames.mjs';
+import { SHAPES, cutsAsked, read, readLine, write } from '../page/frames.mjs';
 import { Glass } from '../page/glass.mjs';
 import { Counter } from '../page/nickelgrove.mjs';
 import { piecesOf, treeOf } from '../page/pieces.mjs';
 import { sawn } from '../page/saw.mjs';
 import { called, say as sentences } from '../page/say.mjs';
 import { ownVoice } from '../page/voice.mjs';
-import { LIES, REASONS, REFUSALS, marked, numberIn, refused, sized } from '../page/words.mjs';
+import { LIES, REASONS, REFUSALS, figured, marked, numberIn, refused, sized } from '../page/words.mjs';
 
 const [question, path, file, other] = process.argv.slice(2);
 const module = new WebAssembly.Module(readFileSync(path));
@@ -46,10 +48,11 @@ function thrown(call) {
 // after each line of a file: the answers to the desk's questions of tree and cuts
 function* states(lines) {
   const counter = new Counter(new WebAssembly.Instance(module).exports);
+  const ask = (line) => read(counter.desk(line));
   for (const [index, line] of lines.entries()) {
     counter.desk(line);
-    const { refusal, nodes } = read(counter.desk(write.snapshot()));
-    if (!refusal) yield { number: index + 1, nodes, cuts: read(counter.desk(write.cuts())).cuts };
+    const { refusal, nodes } = ask(write.snapshot());
+    if (!refusal) yield { number: index + 1, nodes, cuts: cutsAsked(ask) };
   }
 }
 
@@ -63,7 +66,7 @@ const questions = {
       const { number, wrong } = numberIn(text, 'The width', 4);
       say(wrong ?? String(number));
     }
-    say(thrown(() => write.open({ layout: 65536, width: 1, height: 1, cut: 0, stages: 1 })));
+    for (const wrong of [{ layout: 65536 }, { blade: 256 }, { blade: undefined }]) say(thrown(() => write.open({ layout: 1, width: 1, height: 1, cut: 0, stages: 1, blade: 0, ...wrong })));
     say(thrown(() => write.freePiece(-1)), thrown(() => write.freePiece(0.5)), thrown(() => write.freePiece(NaN)));
   },
 
@@ -78,11 +81,12 @@ const questions = {
     const such = answers.filter((answer) => answer.startsWith('01') || answer.startsWith('03')).length;
     say(`${answers.length} answers are read, ${written === such ? 'and the lines of openings and bookings written again' : `${such - written} lines are written otherwise`}`);
     const right = '070000000000000012c0063fe999999999999a62';
-    const wrong = ['', 'zz', right.slice(1), right.toUpperCase(), right.replace(/62$/, '63'), '0500fb00', '0200fe', '010000010100000002', '0800f8', '0100ff', `${right}\n`];
+    const wrong = ['', 'zz', right.slice(1), right.toUpperCase(), right.replace(/62$/, '63'), '0500fb00', '0200fe', '010000010100000002', '0800f8', '0100ff', `${right}\n`, '170000010002010000000000640000003c45'];
     say(`${wrong.filter((answer) => thrown(() => read(answer)) !== 'nothing is wrong').length} of ${wrong.length} that are none are refused`);
     const { used, held, sheetUsage } = read(right);
     say(`${used} ${held} ${sheetUsage}`);
-    say(read('0405f7').refusal);
+    say(read('0405f7').refusal, read('1900000000000000012cba').eaten, read('1a0000020302df').amounts.join(' '));
+    say(thrown(() => cutsAsked((line) => read(line === write.cuts() ? '18000000e8' : '1a0000020302df'))));
   },
 
   day() {
@@ -105,8 +109,8 @@ const questions = {
       told(glass.confirm(now));
     };
     ask(part(7, 40, 30), 0);
-    told(glass.open({ layout: 1, width: 0, height: 60, cut: 1, stages: 3 }));
-    told(glass.open({ layout: 1, width: 100, height: 60, cut: 1, stages: 3 }));
+    told(glass.open({ layout: 1, width: 0, height: 60, cut: 1, stages: 3, blade: 0 }));
+    told(glass.open({ layout: 1, width: 100, height: 60, cut: 1, stages: 3, blade: 0 }));
     ask(part(7, 0, 30), 0);
     ask(part(7, 40, 30), 0);
     const trial = glass.desk.tried(glass.shown.pieces[0].mark, part(7, 40, 30), glass.shown.pieces[0].offers[0]);
@@ -129,12 +133,88 @@ const questions = {
     writeFileSync(file, glass.desk.saved);
   },
 
+  blade() {
+    const glass = new Glass(new Desk(module));
+    glass.patience = 1000;
+    const sheet = { layout: 1, width: 100, height: 60, cut: 1, stages: 3, blade: 3 };
+    const told = (what) => {
+      const { nodes, cuts, figures, sheet: opened } = glass.desk;
+      say(`${what}: ${figured(figures, opened)}`, ...sentences(nodes, cuts).map((line) => `  ${line}`));
+      say(`  boards in the pile: ${sawn(nodes, cuts).piles.map((pile) => pile.length).join(' ')}`);
+    };
+    const book = (number, width, height, now) => {
+      glass.ask({ number, width, height, turn: 1 }, now);
+      const piece = glass.shown.pieces.find(({ offers }) => offers.length > 0);
+      glass.choose({ piece, offer: piece.offers[0] }, now);
+      const { refusal } = glass.confirm(now);
+      told(refusal ? refused(refusal) : `panel ${number}, ${width} x ${height}, is booked`);
+    };
+    const takeOut = (number, now) => {
+      const { refusal } = glass.remove(glass.desk.held.find(({ part }) => part.number === number).mark, now);
+      told(refusal ? refused(refusal) : `panel ${number} is taken out`);
+    };
+    say(refused(glass.open({ ...sheet, blade: 101 }).refusal));
+    glass.open(sheet);
+    told('the sheet is open');
+    book(1, 40, 30, 0);
+    book(2, 57, 60, 1); // exactly: it is cut off by what is in front of it
+    glass.done();
+    book(3, 39, 25, 5000); // the blade takes all that is left beside it
+    glass.tick(6000);
+    told('the time is out');
+    takeOut(1, 7000);
+    takeOut(2, 7001);
+    glass.done();
+    // 49 and 51 on a sheet of 100
+    glass.open({ ...sheet, layout: 2 });
+    book(4, 48, 60, 8000);
+    book(5, 49, 60, 8001);
+    takeOut(4, 8002);
+    book(6, 51, 60, 8003);
+    // a sheet of another width under the same number, and then the kept one again
+    glass.open({ ...sheet, layout: 2, blade: 0 });
+    told('the sheet is opened again');
+    glass.desk.restore();
+    told('what was kept is back');
+    writeFileSync(file, glass.desk.saved);
+  },
+
+  blades() {
+    const desk = new Desk(module);
+    const many = { sheets: 0, cuts: 0, 'cuts that eat less than the blade': 0, 'cuts that eat nothing': 0, 'cuts that leave nothing': 0 };
+    const note = () => {
+      const { steps } = sawn(desk.nodes, desk.cuts);
+      const such = (test) => steps.filter(test).length;
+      const { blade } = desk.sheet;
+      const counts = [1, steps.length, such(({ eaten }) => eaten > 0 && eaten < blade), blade > 0 ? such(({ eaten }) => eaten === 0) : 0, such(({ rest }) => rest === null)];
+      Object.keys(many).forEach((name, at) => (many[name] += counts[at]));
+    };
+    const BLADES = [3, 4, 1, 100, 10, 40, 0];
+    for (let seed = 0; seed < 70; seed += 1) {
+      const blade = BLADES[seed % BLADES.length];
+      fill(desk, seed, blade);
+      note();
+      desk.removableList.filter((_, at) => at % 4 === 1 + (seed % 3)).forEach((mark) => desk.remove(mark));
+      note();
+      for (const { mark, at } of desk.freePieces) {
+        const piece = desk.nodes[at];
+        if (!piece || piece.width <= blade || piece.height <= blade) continue;
+        const part = { number: 100 + at, width: piece.width - (seed % 2) * Math.ceil(blade / 2), height: piece.height - (seed % 5) * Math.floor(blade / 4), turn: 1 };
+        const { offers } = desk.offers(mark, part);
+        if (offers?.length > 0) desk.insert(mark, part, offers.at(-1));
+      }
+      note();
+    }
+    for (const [name, count] of Object.entries(many)) say(`${name}: ${count}`);
+    writeFileSync(file, desk.saved);
+  },
+
   reopen() {
     const text = readFileSync(file, 'latin1');
     const desk = new Desk(module);
     const again = desk.reopened(text);
     say(again.saved === text ? 'the same lines' : 'other lines', JSON.stringify(again.sheet), `${again.bookings.length} bookings, ${again.held.length} held`);
-    const files = ['', '07f9', '\n', '07f9\n\n', 'hello\n', '07f9\r\n', `${text}17e9\n`, `${'00'.repeat(60)}\n`, '\u00ff\n'];
+    const files = ['', '07f9', '\n', '07f9\n\n', 'hello\n', '07f9\r\n', `${text}17e9\n`, `${'00'.repeat(60)}\n`, '\u00ff\n', '010001000000640000003c01035a\n'];
     for (const wrong of files) say(thrown(() => desk.reopened(wrong)));
     say(thrown(() => desk.reopened('')).length > 0 && desk.lines.length === 0 ? 'the desk that was there has what it had' : 'the desk was changed');
     try {
@@ -149,7 +229,8 @@ const questions = {
     const LARGEST = 67108863;
     let [pieces, lost, wrong] = [0, 0, 0];
     const look = (desk) => {
-      const { nodes, freePieces } = desk;
+      const { nodes, freePieces, sheet } = desk;
+      if (nodes.length > 0) wrong += sheet.width !== nodes[0].width || sheet.height !== nodes[0].height || sheet.cut !== nodes[0].cut;
       if (nodes.length === 0 || nodes.length === 255) return; // where nothing can be tried a piece may be lost
       const found = freePieces.flatMap(({ at }) => (at === null ? [] : [at]));
       pieces += freePieces.length;
@@ -189,24 +270,25 @@ const questions = {
 
   drill() {
     let [fewest, right, wrong] = [Infinity, 0, 0];
-    for (let seed = 0; seed < 200; seed += 1) {
+    for (let at = 0; at < 400; at += 1) {
+      const [seed, blade] = [at % 200, at < 200 ? 0 : 4];
       const desk = new Desk(module);
-      fill(desk, seed);
+      fill(desk, seed, blade);
       const same = new Desk(module);
-      fill(same, seed);
+      fill(same, seed, blade);
       if (same.saved !== desk.saved) say(`seed ${seed} gives two sheets`);
       const [good, bad] = [new Drill(desk), new Drill(desk)];
       fewest = Math.min(fewest, good.cuts.length);
       for (const cut of desk.cuts) {
         right += good.answer(cut).length === 0;
-        const slips = [{ place: cut.place + 1 }, { way: 1 - cut.way }, { distance: cut.distance + 1 }, { place: cut.place + 1, way: 1 - cut.way, distance: 0 }];
-        wrong += bad.answer({ ...cut, ...slips[bad.at % 4] }).length === [1, 1, 1, 3][(bad.at - 1) % 4];
+        const slips = [{ place: cut.place + 1 }, { way: 1 - cut.way }, { distance: cut.distance + 1 }, { eaten: cut.eaten + 1 }, { place: cut.place + 1, way: 1 - cut.way, distance: 0, eaten: 9 }];
+        wrong += bad.answer({ ...cut, ...slips[bad.at % 5] }).length === [1, 1, 1, 1, 4][(bad.at - 1) % 5];
       }
       right -= good.right === good.asked && good.over ? desk.cuts.length : 0;
       wrong -= bad.right === 0 && bad.over ? desk.cuts.length : 0;
     }
     say(`each sheet has ${fewest >= 3 ? 'three cuts at least' : `${fewest} cuts`}, and ${right === 0 && wrong === 0 ? 'each answer was judged' : `${right} and ${wrong} were misjudged`}`);
-    say(thrown(() => fill(new Desk(module), 2 ** 32 - 1)));
+    say(thrown(() => fill(new Desk(module), 2 ** 32 - 1)), String(fill(new Desk(module), 1, 101).refusal));
   },
 
   sheet() {

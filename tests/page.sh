@@ -39,9 +39,13 @@ says day 'a day at the kiosk, with a timeout and a stale offer' "$room/day"
 frames_of sessions > "$room/sessions"
 says reopen 'a session that is opened again, and files that are none' "$room/sessions"
 says located 'each free piece is found in the diagram'
-printf '%s\n' 010001000000640000003c01035a 03000101000000020007000000280000001e010003a8 030001040000000600080000000100000003000004e2 > "$room/small"
+printf '%s\n' 010001000000640000003c0103005a 03000101000000020007000000280000001e010003a8 030001040000000600080000000100000003000004e2 > "$room/small"
 says picture 'a small sheet in a diagram and in sentences, as the command nickelgrove made them when they were recorded' "$room/small"
-says drill 'the drill, on 200 seeds'
+printf '%s\n' 010001000007d0000004b00103036c 03000101000000020007000003200000025801000371 03000104000000060008000004ab000003e80100034c > "$room/bladed"
+! wanted strips || writes 'a sheet with a saw blade of 3, in the same way' tests/page/strips.txt ask picture "$module" "$room/bladed"
+says blade 'a day with a saw blade of 3, with a timeout, panels taken out, and its width back with what was kept' "$room/blade"
+says blades 'sheets with blades of many widths' "$room/blades"
+says drill 'the drill, on 200 seeds, without a blade and with one'
 says voice "a voice of the machine's own"
 
 # A saved session, through the program: the same answers.
@@ -52,20 +56,22 @@ in_program() { # NAME WHAT FILE
 }
 [ -e "$room/day" ] || : > "$room/day"
 in_program counter 'its session through the program counter' "$room/day"
+[ -e "$room/blade" ] || : > "$room/blade"
+in_program counter_blade 'and that of the day with a blade' "$room/blade"
 
 # Diagrams and sentences, beside those of the command.
 command=${COMMAND:-tools/nickelgrove}
 for kind in draw say; do
-  for name in sessions long; do
+  for name in sessions long blades; do
     wanted "$kind" || continue
     if [ ! -x "$command" ] || { [ -z "${COMMAND:-}" ] && ! command -v cargo > /dev/null; }; then
-      echo "skipped: there is no $command here, or no cargo for it, and the page's $kind of recorded/$name.in was not compared with the command's"
+      echo "skipped: there is no $command here, or no cargo for it, and the page's $kind of $name was not compared with the command's"
       meant=$((meant - 1))
       continue
     fi
-    frames_of "$name" > "$room/frames"
+    if [ $name = blades ]; then ask blades "$module" "$room/frames" > /dev/null; else frames_of "$name" > "$room/frames"; fi
     "$command" "$kind" --each "$room/frames" > "$room/by_command"
-    writes "$kind after each line of recorded/$name.in, as the command nickelgrove does it" "$room/by_command" ask "$kind" "$module" "$room/frames"
+    writes "$kind after each line of $name, as the command nickelgrove does it" "$room/by_command" ask "$kind" "$module" "$room/frames"
   done
 done
 
@@ -90,6 +96,7 @@ if [ -e "$room/browser/nickelgrove-session.txt" ]; then
 fi
 shows touch 'the kiosk with a finger, at 320 pixels'
 shows keys 'the kiosk with keys alone'
+shows blade 'a day with a saw blade of 3, its cuts, a removal put back, a panel taken out'
 ask sheet "$module" "$room/sheet" > "$room/sentences" 2> /dev/null
 { echo 'sheet is open: 13 lines were sent.'; cat "$room/sentences" tests/page/browser-saw.txt; } > "$room/saw"
 expected=$room/saw shows saw 'a saved session opened, its cuts stepped through' "$room/sheet"

@@ -2,6 +2,7 @@
 //   day      a day at the kiosk, with the mouse: a booking, a timeout, the stale offer refused, the next customer; then the session is saved in FOLDER
 //   touch    the same with a finger, at 320 pixels: sizes and digits that are tapped, an offer tapped in the diagram
 //   keys     the same with keys alone: a sheet, an offer, a booking, the views
+//   blade    a day with a saw blade of 3: what it takes on the sheet and cut by cut, a removal put back when the time is out, a panel taken out
 //   saw      a saved SESSION is opened, and its cuts are stepped through, with keys and buttons: each sentence, and the last pile
 //   away     a customer's time runs out while the saw is looked at; a session is opened while an offer is tapped
 //   drill    a drill: an answer that is right, one that is wrong, one that was said aloud
@@ -25,8 +26,8 @@ const pause = (milliseconds) => new Promise((resolve) => setTimeout(resolve, mil
 const OPEN = '#sheet-form button.main';
 const ASK = '#panel-form button.main';
 
-async function openSheet(page, [layout, width, height, stages]) {
-  const fields = { '#sheet-layout': layout, '#sheet-width': width, '#sheet-height': height, '#sheet-stages': stages };
+async function openSheet(page, [layout, width, height, stages, blade = 0]) {
+  const fields = { '#sheet-layout': layout, '#sheet-width': width, '#sheet-height': height, '#sheet-stages': stages, '#sheet-blade': blade };
   for (const [field, number] of Object.entries(fields)) await page.type(field, String(number));
   await page.press(OPEN);
 }
@@ -115,7 +116,7 @@ const questions = {
       }
       throw new Error(`the Tab key does not come to ${wanted}`);
     };
-    await tabTo('sheet-width');
+    await tabTo('sheet-blade');
     await page.key('Enter', 13);
     say(await page.text('#word'));
     await tabTo('panel-width');
@@ -137,6 +138,58 @@ const questions = {
       await page.key('ArrowRight', 39);
       say(`${await active()}: ${await page.ask(`!document.getElementById("${view}").hidden`)}`);
     }
+  },
+
+  async blade(page) {
+    const book = async (width, height) => {
+      await askFor(page, width, height);
+      await page.press('.piece.offered button.offer');
+      await page.press('#confirm');
+      say(await page.text('#word'), await page.text('#kiosk-figures'));
+    };
+    const strips = async () => {
+      const drawn = await page.ask(`[...document.querySelectorAll('section:not([hidden]) figure rect > title')].filter((title) => title.textContent.startsWith('saw: ')).map((title) => {
+        const { width, height } = title.parentElement.getBoundingClientRect();
+        return title.textContent + (Math.min(width, height) > 0.5 ? '' : ', too narrow to be seen');
+      })`);
+      say(...drawn, `${drawn.length} strips, ${(await page.ask('document.getElementById("kiosk-strips").hidden')) ? 'no word of them' : 'dark is what the saw took'}`);
+    };
+    await openSheet(page, [1, 100, 60, 3, 101]);
+    say(await page.text('#sheet-wrong'));
+    await openSheet(page, [1, 100, 60, 3, 3]);
+    say(await page.text('#word'), await page.text('#kiosk-figures'));
+    await strips();
+    await book(40, 30);
+    await book(57, 60);
+    await book(39, 25); // the saw takes all that is left beside it and below it
+    await strips();
+    await page.press('#done');
+    await page.press('#tab-saw');
+    const count = await page.ask('document.querySelectorAll("#all-cuts li").length');
+    for (let at = 0; at <= count; at += 1) {
+      if (at > 0) await page.press('#saw-next');
+      const marked = await page.ask('[...document.querySelectorAll("#pile li")].map((board) => (board.className === "now" ? "* " : "") + board.textContent)');
+      const over = await page.ask(`document.querySelectorAll('#saw-diagram rect.strip').length`);
+      say(await page.text('#sentence'), (await page.text('#taken')) || 'nothing is taken', `strips shown: ${over}`, `the pile: ${marked.join('; ')}`);
+    }
+    await strips();
+    await page.press('#tab-kiosk');
+    await page.type('#patience', '2');
+    await page.press('#bookings li:nth-child(3) button');
+    say(await page.text('#word'), await page.text('#kiosk-figures'));
+    await page.until('document.getElementById("clock").textContent === "Nobody is at the glass."');
+    say(await page.text('#word'), await page.text('#kiosk-figures'));
+    await page.type('#patience', '600');
+    await page.press('#bookings li:nth-child(1) button');
+    say(await page.text('#word'), await page.text('#kiosk-figures'));
+    await strips();
+    await page.size(NARROW.width, NARROW.height);
+    await pause(400);
+    await strips();
+    await page.ask('document.querySelector("#kiosk-diagram summary").click()');
+    say(await page.text('#kiosk-diagram .taken'), await page.ask(`document.querySelectorAll('#kiosk-diagram rect[fill="#555"]:not(:has(title))').length === 0 ? 'no legend in the small picture' : 'a legend without words'`));
+    await page.press('#tab-session');
+    say(...(await page.ask('document.getElementById("lines").textContent')).split('\n'));
   },
 
   async saw(page) {
@@ -212,6 +265,19 @@ const questions = {
     const [, board, cut, distance] = shown.match(/Take board (\d+),.* Cut (down|across), (\d+) from/);
     await answer(board, cut === 'down' ? 1 : 0, distance);
     say(await page.ask('document.querySelectorAll("#drill-diagram svg > g").length === 0 ? "the cuts have no numbers" : "the cuts are numbered"'));
+    say((await page.ask('document.getElementById("drill-eats").hidden')) ? 'what the saw takes is not asked for' : 'what the saw takes is asked for');
+    // with a blade: the same seed, the first cut right but for what the saw takes, the second all right
+    await page.type('#seed', '7');
+    await page.type('#drill-blade', '4');
+    await page.press('#seed-form button');
+    say((await page.ask('document.getElementById("drill-eats").hidden')) ? 'what the saw takes is not asked for' : 'what the saw takes is asked for');
+    for (const slip of [1, 0]) {
+      await page.press('#aloud');
+      const [, place, way, from, taken] = (await page.text('#drill-word')).match(/Take board (\d+),.* Cut (down|across), (\d+) from the \w+; the saw takes (\d+)/);
+      await page.type('#drill-eaten', String(Number(taken) + slip));
+      await answer(place, way === 'down' ? 1 : 0, from);
+      say(await page.text('#drill-taken'));
+    }
   },
 
   async fields(page) {
@@ -232,10 +298,11 @@ const questions = {
       }
       await page.type(`#${id}`, before);
     };
-    for (const id of ['sheet-layout', 'sheet-width', 'sheet-height', 'sheet-stages']) await tries(id, OPEN, '#sheet-wrong', ['', 'six']);
+    for (const id of ['sheet-layout', 'sheet-width', 'sheet-height', 'sheet-stages', 'sheet-blade']) await tries(id, OPEN, '#sheet-wrong', ['', 'six']);
     await tries('sheet-layout', OPEN, '#sheet-wrong', ['65536']);
     await tries('sheet-width', OPEN, '#sheet-wrong', ['0', '67108864', '4294967296', '-5', '1.5']);
     await tries('sheet-stages', OPEN, '#sheet-wrong', ['0', '255', '256']);
+    await tries('sheet-blade', OPEN, '#sheet-wrong', ['101', '255', '256', '-3', '3.2']);
     await openSheet(page, [1, 100, 60, 3]);
     const before = await sent();
     for (const id of ['panel-width', 'panel-height', 'panel-number']) await tries(id, ASK, '#light', ['', 'six', '<b>1</b>']);
@@ -246,11 +313,14 @@ const questions = {
     say((await sent()).startsWith(before) ? 'the session is there' : 'the session is lost', await page.text('#kiosk-figures'));
     await page.press('#tab-drill');
     await tries('seed', '#seed-form button', '#seed-wrong', ['', 'x', '4294967296']);
+    await tries('drill-blade', '#seed-form button', '#seed-wrong', ['', 'x', '101', '256']);
+    await page.type('#drill-blade', '4');
     await page.press('#seed-form button');
     await page.press('#drill-form button.main');
     say(await page.text('#drill-wrong'));
     await tries('drill-board', '#drill-form button.main', '#drill-wrong', ['one', '70000']);
     await tries('drill-distance', '#drill-form button.main', '#drill-wrong', ['far']);
+    await tries('drill-eaten', '#drill-form button.main', '#drill-wrong', ['all', '256']);
     say(await page.text('#score'));
     for (const [name, text] of Object.entries({ empty: '', words: 'hello\n', cut: '07f9', questions: '07f9\n17e9\n' })) {
       writeFileSync(`${folder}/${name}.txt`, text);
@@ -261,7 +331,7 @@ const questions = {
   },
 
   async sizes(page) {
-    await openSheet(page, [1, 2800, 2070, 3]);
+    await openSheet(page, [1, 2800, 2070, 3, 4]);
     for (const [width, height] of [[600, 400], [1200, 600], [2000, 300]]) {
       await askFor(page, width, height);
       await page.press('.piece.offered button.offer');
@@ -269,6 +339,7 @@ const questions = {
     }
     await askFor(page, 300, 1800);
     await page.press('#tab-drill');
+    await page.type('#drill-blade', '4');
     await page.press('#seed-form button');
     for (const { width, height } of [NARROW, { width: 768, height: 1024 }, WIDE]) {
       await page.size(width, height);
@@ -317,7 +388,7 @@ const questions = {
       }
     };
     await both('start');
-    await openSheet(page, [1, 2800, 2070, 3]);
+    await openSheet(page, [1, 2800, 2070, 3, 4]);
     for (const [width, height] of [[600, 400], [1200, 600], [2000, 300], [800, 300]]) {
       await askFor(page, width, height);
       await page.press('.piece.offered button.offer');
@@ -342,9 +413,11 @@ const questions = {
     for (let times = 0; times < 3; times += 1) await page.press('#saw-next');
     await both('saw');
     await page.press('#tab-drill');
+    await page.type('#drill-blade', '4');
     await page.press('#seed-form button');
     await page.type('#drill-board', '1');
     await page.type('#drill-distance', '5');
+    await page.type('#drill-eaten', '3');
     await page.press('input[name="way"][value="0"]');
     await page.press('#drill-form button.main');
     await both('drill');

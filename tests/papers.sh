@@ -63,25 +63,29 @@ for paper in "${papers[@]}"; do
 done
 [ "$long" -eq 1 ]
 tried $? 'one session is long'
-sessions=24
+sessions=26
 [ "${1:-}" != long ] || sessions=$((sessions + long))
 
-# The bytes of docs/RULES.md are those that `inspect` shows: a tree snapshot after the first line of its last session, the light after the last line of the session
-# before that one, and a list of cuts after the second line of the last.
+# The bytes of docs/RULES.md are those that `inspect` shows: a tree snapshot after the first line of its fifth session, the light after the last line of the fourth, a list
+# of cuts after the second line of the fifth, and a list of cuts and their amounts after the fifth line of the sixth, which has a blade.
 bytes_in() { awk '/^```/ { inside = $0 == "```text"; if (bytes != "") print bytes; bytes = ""; next } inside && /^[0-9a-f ]+$/ { gsub(/ /, ""); bytes = bytes $0 }' "$1"; }
 shown() { # LINE FIELD
   run inspect | awk -v line="$1" -v field="$2" 'NR == line { print $field }'
   return "${PIPESTATUS[0]}"
 }
 bytes_in docs/RULES.md > "$room/bytes"
-[ "$(wc -l < "$room/bytes")" -eq 3 ]
-tried $? 'docs/RULES.md has three blocks of bytes'
+[ "$(wc -l < "$room/bytes")" -eq 5 ]
+tried $? 'docs/RULES.md has five blocks of bytes'
 sed -n 1p "$room/bytes" > "$room/bytes.snapshot"
 sed -n 2p "$room/bytes" > "$room/bytes.light"
 sed -n 3p "$room/bytes" > "$room/bytes.cuts"
+sed -n 4p "$room/bytes" > "$room/bytes.sawn"
+sed -n 5p "$room/bytes" > "$room/bytes.amounts"
 writes 'the snapshot of docs/RULES.md' "$room/bytes.snapshot" shown 1 2 < "$room/RULES.5.sent"
 writes 'the light of docs/RULES.md' "$room/bytes.light" shown 4 7 < "$room/RULES.4.sent"
 writes 'the cuts of docs/RULES.md' "$room/bytes.cuts" shown 2 8 < "$room/RULES.5.sent"
+writes 'the cuts of docs/RULES.md with a blade' "$room/bytes.sawn" shown 5 8 < "$room/RULES.6.sent"
+writes 'and their amounts' "$room/bytes.amounts" shown 5 9 < "$room/RULES.6.sent"
 
 # The numbers, against the papers' own words.
 given() { awk -v number="$1" '$1 == "REFUSALS" && $2 == number && $4 == sprintf("%02x", number)' "$room/answers" | grep -q .; } # NUMBER
@@ -110,4 +114,4 @@ grep -rhIoE '[Dd]ocument 01, "[^"]+"(( and|,) "[^"]+")*' README.md crates docs k
 sed -n 's/^###* //p' docs/RULES.md | sort > "$room/sections"
 [ "$(wc -l < "$room/cited")" -ge 10 ] && [ -z "$(comm -23 "$room/cited" "$room/sections")" ]
 tried $? "docs/RULES.md has the $(wc -l < "$room/cited") sections that are cited" || comm -23 "$room/cited" "$room/sections"
-finished $((sessions + 23))
+finished $((sessions + 25))

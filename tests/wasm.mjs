@@ -65,10 +65,10 @@ function inspected(counter, line, answer) {
   const light = part ? asked(counter, write.light(partOf(part))) : null;
   const lit = light && (light.refusal ? hex(light.refusal, 1) : `00${light.fields}`);
   const figures = asked(counter, write.figures());
-  if (figures.refusal) return ['', '', '', '', '', lit, ''];
-  const [snapshot, parts, cuts] = [write.snapshot(), write.partNumbers(), write.cuts()].map((question) => asked(counter, question).fields.slice(4));
-  const shown = figures.fields.replace(/^(.{32})......(.{32})$/, '$1$2'); // without the nodes held and whether it is empty
-  return [snapshot, marks(counter, write.freePiece), marks(counter, write.removablePiece), shown, parts, lit, cuts];
+  if (figures.refusal) return ['', '', '', '', '', lit, '', ''];
+  const [snapshot, parts, cuts, amounts] = [write.snapshot(), write.partNumbers(), write.cuts(), write.amounts()].map((question) => asked(counter, question).fields.slice(4));
+  const shown = figures.fields.replace(/^(.{32})......(.{32})$/, '$1$2') + asked(counter, write.eaten()).fields; // without the nodes held and whether it is empty
+  return [snapshot, marks(counter, write.freePiece), marks(counter, write.removablePiece), shown, parts, lit, cuts, amounts];
 }
 
 // whether the engine stops a call, or the loader refuses it
@@ -147,7 +147,7 @@ const questions = {
       const lowest = new Uint8Array(calls.memory.buffer, 0, top).findIndex((byte) => byte !== PAINT);
       return lowest < 0 ? 0 : Math.ceil((top - lowest) / 1024);
     };
-    const questions = [write.figures(), write.snapshot(), write.cuts(), write.partNumbers(), write.freePiece(0), write.removablePiece(0)];
+    const questions = [write.figures(), write.eaten(), write.snapshot(), write.cuts(), write.amounts(), write.partNumbers(), write.freePiece(0), write.removablePiece(0)];
     const atCounter = used((counter, line) => [counter.step(line), counter.cuts()]);
     const atDesk = used((counter, line) => [line, ...questions].map((asked) => counter.desk(asked)));
     say([Math.max(atCounter, atDesk)]);

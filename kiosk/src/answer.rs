@@ -1,6 +1,6 @@
 //! The desk's answers, read (docs/FRAMES.md, docs/DESK.md).
 
-use crate::{Booking, Cut, Figures, Mark, Node, Offer, Reason, Reasons, Refusal, Removal, Report};
+use crate::{Booking, Figures, ListedCut, Mark, Node, Offer, Reason, Reasons, Refusal, Removal, Report};
 
 /// What the desk answers where it carries a request out: for each [`Request`](crate::Request) the variant with the same op.
 #[derive(Clone, Debug, PartialEq)]
@@ -35,7 +35,11 @@ pub enum Answer {
     /// 17: the tree, each node before its children.
     Snapshot(Vec<Node>),
     /// 18: the saw cuts, in the order in which they are made.
-    Cuts(Vec<Cut>),
+    Cuts(Vec<ListedCut>),
+    /// 19: the area that the blade has eaten.
+    EatenArea(u64),
+    /// 1a: what the blade eats with each of the saw cuts, in their order.
+    CutAmounts(Vec<u8>),
 }
 
 impl Answer {
@@ -80,7 +84,7 @@ fn read(bytes: &[u8]) -> Option<Result<Answer, Refusal>> {
     match *bytes {
         [0xff, 14, _] => Some(Err(Refusal::NotUnderstood)),
         // a malformed line alone is said 14 to, and 255 is said by nobody
-        [0x01..=0x07 | 0x11..=0x18, number @ 1..=13, _] => Refusal::from_number(number).map(Err),
+        [0x01..=0x07 | 0x11..=0x1a, number @ 1..=13, _] => Refusal::from_number(number).map(Err),
         [op, 0, ref fields @ .., _] => {
             let mut fields = Fields(fields);
             let answer = fields.answer(op)?;
@@ -139,7 +143,12 @@ impl Fields<'_> {
             }
             0x18 => {
                 let count = self.u16()?;
-                Answer::Cuts(Cut::read_all(self.rest(count, crate::cuts::BYTES)?)?)
+                Answer::Cuts(ListedCut::read_all(self.rest(count, crate::cuts::BYTES)?)?)
+            }
+            0x19 => Answer::EatenArea(self.u64()?),
+            0x1a => {
+                let count = self.u16()?;
+                Answer::CutAmounts(self.rest(count, 1)?.to_vec())
             }
             _ => return None,
         })

@@ -2,8 +2,8 @@
 
 use std::fmt;
 
-use crate::records::{SessionRecord, LONGEST, NO_LIST, ROOM};
-use crate::{archive, Cut};
+use crate::records::{SessionRecord, DESK_LONGEST, LONGEST, NO_LIST, ROOM};
+use crate::{archive, Answer, Cut, ListedCut, Request};
 
 /// A counter: a sheet and a kept snapshot of it, none of both at the start.
 ///
@@ -29,7 +29,7 @@ impl Counter {
     ///
     /// ```
     /// let mut counter = nickelgrove_kiosk::Counter::new();
-    /// assert_eq!(counter.answer("010001000000640000003c01035a"), "010000010100000002fb");
+    /// assert_eq!(counter.answer("010001000000640000003c0103005a"), "010000010100000002fb");
     /// ```
     ///
     /// # Panics
@@ -48,14 +48,14 @@ impl Counter {
     ///
     /// let mut counter = Counter::new();
     /// assert_eq!(counter.cuts(), None);
-    /// counter.answer("010001000000640000003c01035a");
+    /// counter.answer("010001000000640000003c0103005a");
     /// counter.answer("03000101000000020007000000280000003c0000018d");
-    /// let cut = Cut { place: 0, way: Way::Vertical, distance: 40, piece: Piece::Part, left: Piece::Free };
+    /// let cut = Cut { place: 0, way: Way::Vertical, distance: 40, piece: Piece::Part, left: Piece::Free, eaten: 0 };
     /// assert_eq!(counter.cuts(), Some(vec![cut]));
     /// ```
     ///
     /// # Panics
-    /// Never with the archive of this build: its lists are proved to be whole cuts of the listed ways and kinds.
+    /// Never with the archive of this build: its lists are proved to be whole cuts of the listed ways and kinds, with an amount for each.
     #[must_use]
     pub fn cuts(&self) -> Option<Vec<Cut>> {
         let mut list = [0; ROOM];
@@ -63,7 +63,19 @@ impl Counter {
         if count == NO_LIST {
             return None;
         }
-        Some(Cut::read_all(&list[..usize::from(count)]).expect("a list is whole cuts of the listed ways and kinds"))
+        let listed = ListedCut::read_all(&list[..usize::from(count)]).expect("a list is whole cuts of the listed ways and kinds");
+        Some(Cut::all(&listed, &self.amounts()).expect("each cut has its amount"))
+    }
+
+    /// What the blade eats with each cut: by the desk's frame, on a copy of the session, since the counter has none for it.
+    fn amounts(&self) -> Vec<u8> {
+        let (mut copy, mut answer) = (self.session.clone(), [0; DESK_LONGEST]);
+        let count = archive::desk(&mut copy, Request::CutAmounts.line().as_bytes(), &mut answer);
+        let line = answer[..count].strip_suffix(b"\n").expect("an answer ends with its newline");
+        match Answer::read(line) {
+            Ok(Answer::CutAmounts(amounts)) => amounts,
+            other => panic!("the sheet has cuts, and of their amounts it is said {other:?}"),
+        }
     }
 }
 

@@ -7,7 +7,7 @@ use crate::{archive, Answer, Refusal, Request};
 
 /// A desk: a counter that answers the questions about its sheet too. It has a sheet and a kept snapshot of it, none of both at the start.
 ///
-/// Its frames are the counter's and eight more (docs/DESK.md). A [`Sheet`](crate::Sheet) has the same calls with Rust's types; take a desk where frames come
+/// Its frames are the counter's and ten more (docs/DESK.md). A [`Sheet`](crate::Sheet) has the same calls with Rust's types; take a desk where frames come
 /// from outside, or where sheets are opened one after another and share what was kept.
 ///
 /// It can't be copied: of two desks with one past, each would issue the other's marks for pieces of its own.
@@ -37,7 +37,7 @@ impl Desk {
     ///
     /// ```
     /// let mut desk = nickelgrove_kiosk::Desk::new();
-    /// assert_eq!(desk.answer("010001000000640000003c01035a"), "010000010100000002fb");
+    /// assert_eq!(desk.answer("010001000000640000003c0103005a"), "010000010100000002fb");
     /// // the first of the free list: layout 1, place 1, serial 2
     /// assert_eq!(desk.answer("130000ed"), "130000010100000002e9");
     /// assert_eq!(desk.answer("no frame"), "ff0ef3");
@@ -58,7 +58,7 @@ impl Desk {
     ///
     /// let mut desk = Desk::new();
     /// assert_eq!(desk.ask(&Request::Figures), Err(Refusal::NoSheet));
-    /// desk.ask(&Request::Open { number: 1, width: 100, height: 60, first_cut: Way::Vertical, stages: 3 })?;
+    /// desk.ask(&Request::Open { number: 1, width: 100, height: 60, first_cut: Way::Vertical, stages: 3, blade: 0 })?;
     /// assert_eq!(desk.ask(&Request::FreePiece { position: 0 }), Ok(Answer::FreePiece(Mark::from_numbers(1, 1, 2))));
     /// # Ok::<(), Refusal>(())
     /// ```
@@ -108,5 +108,18 @@ impl Default for Desk {
 impl fmt::Debug for Desk {
     fn fmt(&self, f: &mut fmt::Formatter<'_>) -> fmt::Result {
         f.debug_struct("Desk").finish_non_exhaustive()
+    }
+}
+
+#[cfg(test)]
+impl Desk {
+    /// A desk with the same past, for tests that look what a call would do.
+    pub(crate) fn copy(&self) -> Self {
+        Desk { session: self.session.clone(), ..Desk::new() }
+    }
+
+    /// The places of the nodes, in the order of the snapshot.
+    pub(crate) fn places(&self) -> Vec<u16> {
+        self.session.places()
     }
 }

@@ -45,7 +45,7 @@ mod values;
 
 pub use answer::Answer;
 pub use counter::Counter;
-pub use cuts::{Cut, Piece, Way};
+pub use cuts::{Cut, ListedCut, Piece, Way};
 pub use desk::Desk;
 pub use nodes::{Kind, Node};
 pub use refusal::Refusal;

@@ -18,6 +18,8 @@ pub struct Node {
     pub width: u32,
     /// Its height.
     pub height: u32,
+    /// What the blade ate behind it, when it was cut off: nothing behind the sheet itself, and behind the last child of a piece.
+    pub eaten: u8,
 }
 
 /// What a node is.
@@ -35,7 +37,7 @@ pub enum Kind {
 }
 
 /// The bytes of a node in a snapshot.
-pub(crate) const BYTES: usize = 13;
+pub(crate) const BYTES: usize = 14;
 
 impl Node {
     /// The part number, where the node is a part.
@@ -57,10 +59,10 @@ impl Node {
         }
     }
 
-    /// From the bytes of one node: level 1, kind 1, cut 1, part number 2, width 4, height 4, highest byte first. None where a kind or a cut is not listed, or
-    /// what is no part has a part number.
+    /// From the bytes of one node: level 1, kind 1, cut 1, part number 2, width 4, height 4, eaten 1, highest byte first. None where a kind or a cut is not
+    /// listed, or what is no part has a part number.
     fn read(bytes: [u8; BYTES]) -> Option<Self> {
-        let [level, kind, cut, n1, n0, w3, w2, w1, w0, h3, h2, h1, h0] = bytes;
+        let [level, kind, cut, n1, n0, w3, w2, w1, w0, h3, h2, h1, h0, eaten] = bytes;
         let kind = match (kind, u16::from_be_bytes([n1, n0])) {
             (0, 0) => Kind::Free,
             (1, number) => Kind::Part { number },
@@ -68,7 +70,7 @@ impl Node {
             _ => return None,
         };
         let (width, height) = (u32::from_be_bytes([w3, w2, w1, w0]), u32::from_be_bytes([h3, h2, h1, h0]));
-        Some(Node { level, kind, cut: Way::read(cut)?, width, height })
+        Some(Node { level, kind, cut: Way::read(cut)?, width, height, eaten })
     }
 
     /// A list of whole nodes. None where the bytes are no such list.

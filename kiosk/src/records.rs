@@ -37,6 +37,7 @@ struct DatumRecord {
     level: u8,
     kind: u8,
     cut: u8,
+    eaten: u8,
 }
 
 #[derive(Clone, Copy)]
@@ -65,6 +66,7 @@ struct LayoutRecord {
     serial: u32,
     number: u16,
     stages: u8,
+    blade: u8,
     width: u32,
     height: u32,
 }
@@ -79,7 +81,7 @@ pub struct SessionRecord {
 }
 
 impl DatumRecord {
-    const ZERO: Self = DatumRecord { serial: 0, width: 0, height: 0, number: 0, level: 0, kind: 0, cut: 0 };
+    const ZERO: Self = DatumRecord { serial: 0, width: 0, height: 0, number: 0, level: 0, kind: 0, cut: 0, eaten: 0 };
 }
 
 impl NodeRecord {
@@ -98,6 +100,7 @@ impl LayoutRecord {
         serial: 0,
         number: 0,
         stages: 0,
+        blade: 0,
         width: 0,
         height: 0,
     };
@@ -118,11 +121,11 @@ macro_rules! laid_out {
         };
     };
 }
-laid_out!(DatumRecord, 20, 4, serial 0, width 4, height 8, number 12, level 14, kind 15, cut 16);
+laid_out!(DatumRecord, 20, 4, serial 0, width 4, height 8, number 12, level 14, kind 15, cut 16, eaten 17);
 laid_out!(NodeRecord, 32, 4, datum 0, parent 20, first 22, last 24, prev 26, next 28);
 laid_out!(
     LayoutRecord, 9216, 8, nodes 0, free 8160, removable 8670, held 9180, frees 9182, removables 9184, used 9192, serial 9200, number 9204,
-    stages 9206, width 9208, height 9212
+    stages 9206, blade 9207, width 9208, height 9212
 );
 laid_out!(SessionRecord, 18432, 8, layout 0, kept 9216);
 

@@ -19,7 +19,7 @@ use std::fmt;
 pub enum Refusal {
     /// 1: nothing is open, or nothing was kept, or the sheet's memory was spoilt.
     NoSheet,
-    /// 2: a side of the sheet is not 1 to 67,108,863, or the stages are not 1 to 254.
+    /// 2: a side of the sheet is not 1 to 67,108,863, the stages are not 1 to 254, or the blade is more than 100 wide.
     SheetOutsideLimits,
     /// 3: a side of the part is not 1 to 67,108,863. A part that is only too large for the sheet is no refusal: it has no offers.
     PartOutsideLimits,
@@ -53,7 +53,7 @@ pub enum Refusal {
 /// Each refusal with its number, its words and what to do: the table of docs/REFUSALS.md, and what is this crate's own.
 const TABLE: [(Refusal, u8, &str, &str); 15] = [
     (Refusal::NoSheet, 1, "no sheet, or a spoilt one", "the counter: open a sheet, or keep one first"),
-    (Refusal::SheetOutsideLimits, 2, "a sheet that we don't take", "the counter: look at sides and stages"),
+    (Refusal::SheetOutsideLimits, 2, "a sheet that we don't take", "the counter: look at sides, stages and blade"),
     (Refusal::PartOutsideLimits, 3, "a part that we don't take", "the customer: look at the sides"),
     (Refusal::OtherSheet, 4, "the mark is another sheet's", "the program: it mixed up two sheets"),
     (Refusal::Gone, 5, "the piece is gone", "the counter: ask for the room again"),

@@ -11,8 +11,8 @@ use crate::{Mark, Offer, Part, Way};
 /// ```
 /// use nickelgrove_kiosk::{Request, Way};
 ///
-/// let request = Request::Open { number: 1, width: 100, height: 60, first_cut: Way::Vertical, stages: 3 };
-/// assert_eq!(request.line(), "010001000000640000003c01035a");
+/// let request = Request::Open { number: 1, width: 100, height: 60, first_cut: Way::Vertical, stages: 3, blade: 0 };
+/// assert_eq!(request.line(), "010001000000640000003c0103005a");
 /// ```
 #[derive(Clone, Copy, Debug, PartialEq, Eq, Hash)]
 #[non_exhaustive]
@@ -29,6 +29,8 @@ pub enum Request {
         first_cut: Way,
         /// How many cuts deep the saw goes.
         stages: u8,
+        /// The width of the saw's blade: what it eats behind a piece that is cut off.
+        blade: u8,
     },
     /// 02: the ways to book a part in a free piece.
     Offers {
@@ -87,6 +89,10 @@ pub enum Request {
     Snapshot,
     /// 18: the saw cuts.
     Cuts,
+    /// 19: the area that the blade has eaten.
+    EatenArea,
+    /// 1a: what the blade eats with each of the saw cuts.
+    CutAmounts,
 }
 
 impl Request {
@@ -109,6 +115,8 @@ impl Request {
             Request::Figures => 0x16,
             Request::Snapshot => 0x17,
             Request::Cuts => 0x18,
+            Request::EatenArea => 0x19,
+            Request::CutAmounts => 0x1a,
         }
     }
 
@@ -117,11 +125,11 @@ impl Request {
     pub fn line(&self) -> String {
         let mut bytes = vec![self.op()];
         match *self {
-            Request::Open { number, width, height, first_cut, stages } => {
+            Request::Open { number, width, height, first_cut, stages, blade } => {
                 bytes.extend(number.to_be_bytes());
                 bytes.extend(width.to_be_bytes());
                 bytes.extend(height.to_be_bytes());
-                bytes.extend([first_cut.number(), stages]);
+                bytes.extend([first_cut.number(), stages, blade]);
             }
             Request::Offers { piece, part } | Request::WhyNot { piece, part } => {
                 bytes.extend(piece.bytes());
@@ -141,7 +149,9 @@ impl Request {
             | Request::PartNumbers
             | Request::Figures
             | Request::Snapshot
-            | Request::Cuts => (),
+            | Request::Cuts
+            | Request::EatenArea
+            | Request::CutAmounts => (),
         }
         // the check makes all bytes add to 0
         bytes.push(bytes.iter().fold(0, |check: u8, byte| check.wrapping_sub(*byte)));

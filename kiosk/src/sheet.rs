@@ -38,7 +38,8 @@ macro_rules! answered {
 }
 
 impl Sheet {
-    /// Opens a sheet: its layout number, its sides, the way in which it is cut first, and how many cuts deep the saw goes.
+    /// Opens a sheet: its layout number, its sides, the way in which it is cut first, and how many cuts deep the saw goes. Its blade eats nothing;
+    /// [`Sheet::open_with_blade`] is for one that does.
     ///
     /// Give each sheet a layout number of its own. A mark names its sheet by it: marks of two sheets with one number could be taken for each other.
     ///
@@ -57,8 +58,36 @@ impl Sheet {
     /// # Panics
     /// Where the archive is of another build, with other sizes than this crate has.
     pub fn open(number: u16, width: u32, height: u32, first_cut: Way, stages: u8) -> Result<Self, Refusal> {
+        Sheet::open_with_blade(number, width, height, first_cut, stages, 0)
+    }
+
+    /// Opens a sheet for a saw whose blade is so wide: each piece that is cut off costs so much of what lies behind it, or all of that if it is less.
+    ///
+    /// What is removed gives back what was eaten behind it. What is offered doesn't change: a part has an offer where it fits, also if the blade then eats all that
+    /// is left. docs/RULES.md, "The blade", has the rules, and where they differ from a real saw.
+    ///
+    /// ```
+    /// use nickelgrove_kiosk::{Part, Refusal, Sheet, Way};
+    ///
+    /// // sheet 1, 100 x 60, first cut vertical, three stages, and a blade that is 3 wide
+    /// let mut sheet = Sheet::open_with_blade(1, 100, 60, Way::Vertical, 3, 3)?;
+    /// let (free, part) = (sheet.free_pieces()?[0], Part::new(7, 40, 60));
+    /// sheet.insert(free, part, sheet.offers(free, part)?[0])?;
+    /// let nodes = sheet.snapshot()?;
+    /// assert_eq!((nodes[1].width, nodes[1].eaten, nodes[2].width), (40, 3, 57));
+    /// assert_eq!(Sheet::open_with_blade(2, 100, 60, Way::Vertical, 3, 101).err(), Some(Refusal::SheetOutsideLimits));
+    /// # Ok::<(), Refusal>(())
+    /// ```
+    ///
+    /// # Errors
+    /// [`Refusal::SheetOutsideLimits`]: a side is not 1 to 67,108,863, the stages are not 1 to 254, or the blade is more than 100 wide.
+    ///
+    /// # Panics
+    /// Where the archive is of another build, with other sizes than this crate has.
+    pub fn open_with_blade(number: u16, width: u32, height: u32, first_cut: Way, stages: u8, blade: u8) -> Result<Self, Refusal> {
         let mut desk = Desk::new();
-        answered!(desk.ask(&Request::Open { number, width, height, first_cut, stages }), Answer::Opened(_) => Sheet { desk })
+        let request = Request::Open { number, width, height, first_cut, stages, blade };
+        answered!(desk.ask(&request), Answer::Opened(_) => Sheet { desk })
     }
 
     /// The ways to book the part in the free piece, none to four of them.
@@ -122,7 +151,7 @@ impl Sheet {
         answered!(self.desk.ask(&Request::Insert { piece, part, offer }), Answer::Booked(booking) => booking)
     }
 
-    /// Takes a part out, or a structure with all that is in it.
+    /// Takes a part out, or a structure with all that is in it. What the blade ate behind it comes back with it.
     ///
     /// ```
     /// use nickelgrove_kiosk::{Part, Refusal, Sheet, Way};
@@ -198,7 +227,8 @@ impl Sheet {
         answered!(self.desk.look(&Request::RoomLight { part }), Answer::Light(piece) => piece)
     }
 
-    /// The saw cuts that make the parts and the free pieces, in the order in which they are made. A free piece without area is left out.
+    /// The saw cuts that make the parts and the free pieces, in the order in which they are made, each with what the blade eats. A free piece without area is
+    /// left out; where the blade ate something before it, the cut is listed.
     ///
     /// ```
     /// use nickelgrove_kiosk::{Cut, Part, Piece, Refusal, Sheet, Way};
@@ -206,7 +236,7 @@ impl Sheet {
     /// let mut sheet = Sheet::open(1, 100, 60, Way::Vertical, 3)?;
     /// let (free, part) = (sheet.free_pieces()?[0], Part::new(7, 40, 60));
     /// sheet.insert(free, part, sheet.offers(free, part)?[0])?;
-    /// let cut = Cut { place: 0, way: Way::Vertical, distance: 40, piece: Piece::Part, left: Piece::Free };
+    /// let cut = Cut { place: 0, way: Way::Vertical, distance: 40, piece: Piece::Part, left: Piece::Free, eaten: 0 };
     /// assert_eq!(sheet.cuts()?, [cut]);
     /// # Ok::<(), Refusal>(())
     /// ```
@@ -214,7 +244,10 @@ impl Sheet {
     /// # Errors
     /// None but those of every call, which don't come.
     pub fn cuts(&self) -> Result<Vec<Cut>, Refusal> {
-        answered!(self.desk.look(&Request::Cuts), Answer::Cuts(cuts) => cuts)
+        let listed = answered!(self.desk.look(&Request::Cuts), Answer::Cuts(listed) => listed)?;
+        let amounts = answered!(self.desk.look(&Request::CutAmounts), Answer::CutAmounts(amounts) => amounts)?;
+        // the two are of one sheet, and so are equally long
+        Cut::all(&listed, &amounts).ok_or(Refusal::Unreadable)
     }
 
     /// The free pieces: the greatest area first, and of equal areas the older one.
@@ -289,7 +322,7 @@ impl Sheet {
         answered!(self.desk.look(&Request::PartNumbers), Answer::PartNumbers(numbers) => numbers)
     }
 
-    /// The figures: areas, nodes and usages.
+    /// The figures: areas, nodes and usages. The area that the blade has eaten is [`Sheet::eaten_area`].
     ///
     /// ```
     /// use nickelgrove_kiosk::{Part, Refusal, Sheet, Way};
@@ -307,6 +340,28 @@ impl Sheet {
     /// None but those of every call, which don't come.
     pub fn figures(&self) -> Result<Figures, Refusal> {
         answered!(self.desk.look(&Request::Figures), Answer::Figures(figures) => figures)
+    }
+
+    /// The area that the blade has eaten. With the used area and the free area of [`Sheet::figures`] it makes the sheet.
+    ///
+    /// ```
+    /// use nickelgrove_kiosk::{Part, Refusal, Sheet, Way};
+    ///
+    /// let mut sheet = Sheet::open_with_blade(1, 100, 60, Way::Vertical, 3, 3)?;
+    /// let (free, part) = (sheet.free_pieces()?[0], Part::new(7, 40, 60));
+    /// let booking = sheet.insert(free, part, sheet.offers(free, part)?[0])?;
+    /// let figures = sheet.figures()?;
+    /// assert_eq!((figures.used_area, figures.free_area, sheet.eaten_area()?), (2_400, 3_420, 180));
+    /// // what is removed gives back what was eaten behind it
+    /// sheet.remove(booking.part)?;
+    /// assert_eq!((sheet.figures()?.free_area, sheet.eaten_area()?), (6_000, 0));
+    /// # Ok::<(), Refusal>(())
+    /// ```
+    ///
+    /// # Errors
+    /// None but those of every call, which don't come.
+    pub fn eaten_area(&self) -> Result<u64, Refusal> {
+        answered!(self.desk.look(&Request::EatenArea), Answer::EatenArea(area) => area)
     }
 
     /// The tree: each node before its children, and a child with all that is below it before the next child. The first node is the sheet itself.

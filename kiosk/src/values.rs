@@ -322,7 +322,7 @@ pub struct Figures {
     pub nodes: u16,
     /// Whether the sheet is empty. It never is: it has a free piece at least.
     pub is_empty: bool,
-    /// The used area by the sheet's area.
+    /// The used area by the sheet's area. It is exactly 1 where nothing is free and nothing was eaten, and in no other case.
     pub sheet_usage: f64,
     /// The usage of the tree: by area, from the leaves to the top.
     pub tree_usage: f64,

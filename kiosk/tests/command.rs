@@ -84,7 +84,7 @@ fn counter_answers_as_the_program_does() {
 #[test]
 fn counter_on_lines_that_are_no_frames() {
     let (long, longer) = (vec![b'0'; 64], vec![b'0'; 300_000]);
-    let texts: [(Vec<u8>, &str); 10] = [
+    let texts: [(Vec<u8>, &str); 13] = [
         (b"".to_vec(), ""),
         (b"07f9\n".to_vec(), "0701f8\n"),
         (b"\n".to_vec(), "ff0ef3\n"),
@@ -95,6 +95,10 @@ fn counter_on_lines_that_are_no_frames() {
         (longer.clone(), "ff0ef3\n"),
         (b"07f9\n07f9".to_vec(), "0701f8\nff0ef3\n"),
         (b"11ef\n17e9\n".to_vec(), "ff0ef3\nff0ef3\n"),
+        // an opening without a blade's width, as it was written before there was one; one with it; and one with too much of it
+        (b"010001000000640000003c01035a\n".to_vec(), "ff0ef3\n"),
+        (b"010001000000640000003c01030357\n".to_vec(), "010000010100000002fb\n"),
+        (b"010001000000640000003c010365f5\n".to_vec(), "0102fd\n"),
     ];
     for (text, answers) in texts {
         let output = run(&["counter"], &text);
@@ -153,7 +157,7 @@ fn counter_on_ends_that_fail() {
     assert!(said(&output).starts_with("nickelgrove: line 1: reading: Is a directory"), "{}", said(&output));
 }
 
-const OPEN: &str = "010001000000640000003c01035a\n";
+const OPEN: &str = "010001000000640000003c0103005a\n";
 const BOOKING: &str = "03000101000000020007000000280000001e000003a9\n";
 
 /// Case i of docs/RULES.md: what is said of it, and what stands in its pictures.
@@ -178,10 +182,44 @@ fn a_session_is_said_and_drawn() {
     assert!(text.lines().all(|line| line.len() <= 78) && text.contains(" 1 panel 7 ") && text.contains("3 offcut"), "{text}");
 }
 
+const OPEN_WITH_BLADE: &str = "010001000000640000003c01030357\n";
+
+/// The same with a blade that is 3 wide: what it takes is said with each cut, and is drawn dark between the pieces.
+#[test]
+fn a_session_with_a_blade_is_said_and_drawn() {
+    let session = format!("{OPEN_WITH_BLADE}{BOOKING}");
+    let lines = "Sheet 100 by 60: 2 cuts make 3 pieces. Of the area 6000 the saw takes 300. Panels have 1200 of it, offcuts 4500.\n\
+        1. Take board 1, 100 by 60. Cut down, 40 from the left; the saw takes 3. Left: board 1, 40 by 60, to cut again. \
+        Right: offcut 57 by 60.\n\
+        2. Take board 1, 40 by 60. Cut across, 30 from the top; the saw takes 3. Above: panel 7, 40 by 30. Below: offcut 40 by 27.\n";
+    assert_eq!(String::from_utf8_lossy(&run(&["say"], session.as_bytes()).stdout), lines);
+    let svg = String::from_utf8(run(&["draw"], session.as_bytes()).stdout).expect("a picture");
+    for words in [
+        r##"<rect x="440" y="80" width="30" height="600" fill="#555"><title>saw: 3 x 60, 40 from the left, 0 from the top</title>"##,
+        r##"<rect x="40" y="380" width="400" height="30" fill="#555"><title>saw: 40 x 3, 0 from the left, 30 from the top</title>"##,
+        ">57 x 60<",
+        ">40 x 27<",
+        "Drawn to scale.",
+        ">Of the area 6000 the saw takes 300.<",
+        ">Panels have 1200 of it, offcuts 4500.<",
+    ] {
+        assert!(svg.contains(words), "{words}");
+    }
+    let text = String::from_utf8(run(&["draw", "--text"], session.as_bytes()).stdout).expect("a picture");
+    assert!(text.lines().all(|line| line.len() <= 78) && text.contains("####") && text.contains("#  Of the area 6000"), "{text}");
+
+    // part 8, 57 x 58, ends the second strip: of the 2 that are below it the blade takes all
+    let session = format!("{session}03000104000000060008000000390000003a00000275\n");
+    let said = String::from_utf8(run(&["say"], session.as_bytes()).stdout).expect("words");
+    let last =
+        "3. Take board 3, 57 by 60. Cut across, 58 from the top; the saw takes 2. Above: panel 8, 57 by 58. Below: nothing.\n";
+    assert!(said.starts_with("Sheet 100 by 60: 3 cuts make 3 pieces. ") && said.ends_with(last), "{said}");
+}
+
 /// The sheets of docs/pictures are drawn and said as when they were looked at.
 #[test]
 fn pictures_are_as_they_were_looked_at() {
-    for name in ["one", "k", "forty", "chain", "stair", "row", "thin"] {
+    for name in ["one", "k", "forty", "chain", "stair", "row", "thin", "blade", "wide", "ends"] {
         let frames = checkout(&format!("docs/pictures/{name}.frames"));
         for (words, ending) in [(&["draw"][..], "svg"), (&["draw", "--text"], "txt"), (&["say"], "said")] {
             let output = run(words, &frames);
@@ -191,23 +229,31 @@ fn pictures_are_as_they_were_looked_at() {
     }
 }
 
-/// From a file, to a file, and from the two lines that the desk answers with: the same bytes.
+/// From a file, to a file, and from the lines that the desk answers with: the same bytes.
 #[test]
 fn files_and_snapshots() {
+    for opening in [OPEN, OPEN_WITH_BLADE] {
+        files_and_snapshots_of(opening);
+    }
+}
+
+fn files_and_snapshots_of(opening: &str) {
     let room = Room::new("files");
     let (frames, shown, svg) = (room.file("frames"), room.file("shown"), room.file("svg"));
-    fs::write(&frames, format!("{OPEN}{BOOKING}")).expect("a file");
+    fs::write(&frames, format!("{opening}{BOOKING}")).expect("a file");
     let drawn = run(&["draw", &frames], b"").stdout;
     let output = run(&["draw", "-o", &svg, &frames], b"");
     assert!(output.status.success() && output.stdout.is_empty());
     assert!(fs::read(&svg).expect("a picture") == drawn);
 
     let mut desk = nickelgrove_kiosk::Desk::new();
-    for line in [OPEN, BOOKING] {
+    for line in [opening, BOOKING] {
         desk.answer(line.trim_end());
     }
-    let snapshot = desk.answer("17e9").to_string();
-    fs::write(&shown, format!("{snapshot}\n{}\n", desk.answer("18e8"))).expect("a file");
+    let [snapshot, cuts, amounts] = ["17e9", "18e8", "1ae6"].map(|frame| desk.answer(frame).to_string());
+    // the third line may be left out where the blade eats nothing
+    let short = format!("{snapshot}\n{cuts}\n");
+    fs::write(&shown, if opening == OPEN { short } else { format!("{short}{amounts}\n") }).expect("a file");
     assert!(run(&["draw", "--snapshot", &shown], b"").stdout == drawn);
     assert_eq!(run(&["say", "--snapshot", &shown], b"").stdout, run(&["say", &frames], b"").stdout);
     assert!(run(&["draw", "--snapshot"], format!("{snapshot}\n").as_bytes()).status.success());
@@ -229,21 +275,21 @@ fn input_that_is_wrong_is_told() {
     fs::write(&kept, "as it was").expect("a file");
     let sessions: [(&str, &str); 10] = [
         ("", "line 1: there is nothing: no line"),
-        ("010001000000640000003c01035a", "line 1: the newline at the end is missing"),
+        ("010001000000640000003c0103005a", "line 1: the newline at the end is missing"),
         ("07f9\n", "line 1: no sheet is open after this line"),
-        ("010001000000640000003c01035a\n\n", "line 2: no frame: the line is empty"),
-        ("010001000000640000003c01035a\r\n", "line 1: no frame: it ends with a carriage return"),
-        ("010001000000640000003c01035a\n07F9\n", "line 2: no frame: character 3 is not one of 0 to 9 and a to f"),
-        ("010001000000640000003c01035a\n07f\n", "line 2: no frame: a character is missing: two are a byte"),
-        ("010001000000640000003c01035a\n07f9\n07f8\n", "line 3: no frame: the check is wrong"),
-        ("010001000000640000003c01035a\n08f8\n", "line 2: no frame: the op is not listed"),
+        ("010001000000640000003c0103005a\n\n", "line 2: no frame: the line is empty"),
+        ("010001000000640000003c0103005a\r\n", "line 1: no frame: it ends with a carriage return"),
+        ("010001000000640000003c0103005a\n07F9\n", "line 2: no frame: character 3 is not one of 0 to 9 and a to f"),
+        ("010001000000640000003c0103005a\n07f\n", "line 2: no frame: a character is missing: two are a byte"),
+        ("010001000000640000003c0103005a\n07f9\n07f8\n", "line 3: no frame: the check is wrong"),
+        ("010001000000640000003c0103005a\n08f8\n", "line 2: no frame: the op is not listed"),
         (
             "00000000000000000000000000000000000000000000000000000000000000000\n",
             "line 1: no frame: it has 65 characters, and 64 is the most",
         ),
     ];
     // README's sheet, 100 x 60: part 7, 40 x 60, and what is left
-    let sheet = "0002010000000000640000003c0101000007000000280000003c01000000000000003c0000003c";
+    let sheet = "0002010000000000640000003c000101000007000000280000003c0001000000000000003c0000003c00";
     let cut = |list: &str| format!("{sheet}\n{list}\n");
     let lists = [
         ("000001000000290100", "line 2: board 1 of the last pile isn't that piece of the tree"),
@@ -256,27 +302,54 @@ fn input_that_is_wrong_is_told() {
         ("18000002000001000000280100bc", "line 2: no list of saw cuts: it is"),
         ("-", "line 2: the cuts make 1 board, and the tree has 2 pieces"),
     ];
-    let snapshots: [(&str, &str); 11] = [
+    let snapshots: [(&str, &str); 18] = [
         ("\n", "line 1: no tree snapshot: 0 bytes"),
         ("zz\n", "line 1: no tree snapshot"),
         ("00020100000000006400\n", "line 1: no tree snapshot: 10 bytes"),
         ("1701e8\n", "line 1: no tree snapshot"),
-        ("0000010000000000640000003c\n", "line 1: node 1 of the tree snapshot is the sheet itself, and no structure"),
-        ("0002010000000000640000003c\n", "line 1: node 1 of the tree snapshot has children that don't fill it"),
+        ("0000010000000000640000003c00\n", "line 1: node 1 of the tree snapshot is the sheet itself, and no structure"),
+        ("0002010000000000640000003c00\n", "line 1: node 1 of the tree snapshot has children that don't fill it"),
         (
-            "0002010000000000640000003c0100000000000000640000003d\n",
+            "0002010000000000640000003c000100000000000000640000003d00\n",
             "line 1: node 2 of the tree snapshot doesn't fit into its parent",
         ),
         (
-            "0002010000000000640000003c0100010000000000640000003c\n",
+            "0002010000000000640000003c000100010000000000640000003c00\n",
             "line 1: node 2 of the tree snapshot has the cut of its parent",
         ),
-        ("0002010000000000640000003c0100000000000000640000003c\n00\n", "line 2: no list of saw cuts: 1 byte"),
+        ("0002010000000000640000003c000100000000000000640000003c00\n00\n", "line 2: no list of saw cuts: 1 byte"),
         (
-            "0002010000000000640000003c0100000000000000640000003c\n000001000000280100\n",
+            "0002010000000000640000003c000100000000000000640000003c00\n000001000000280100\n",
             "line 2: the cuts make 2 boards, and the tree has 1 piece",
         ),
-        ("0002010000000000640000003c0100000000000000640000003c\n-\n07f9\n", "line 3: a snapshot is one line"),
+        ("0002010000000000640000003c000100000000000000640000003c00\n-\n07f9\n", "line 3: no amounts of the cuts"),
+        ("0002010000000000640000003c000100000000000000640000003c00\n-\n-\n-\n", "line 4: a snapshot is one line"),
+        // a byte a node too few, as it was before there was a blade
+        (
+            "0002010000000000640000003c0100000000000000640000003c\n",
+            "line 1: no tree snapshot: 26 bytes, and a node has 14, of 2 to 255 nodes",
+        ),
+        // what is eaten: behind the sheet, behind the last child, behind a free piece, more than a blade can, more than there is
+        (
+            "0002010000000000640000003c030100000000000000640000003c00\n",
+            "line 1: node 1 of the tree snapshot is the sheet itself, and something is eaten behind it",
+        ),
+        (
+            "0002010000000000640000003c000101000007000000610000003c03\n",
+            "line 1: node 1 of the tree snapshot has something eaten behind its last child",
+        ),
+        (
+            "0002010000000000640000003c000100000000000000610000003c03\n",
+            "line 1: node 2 of the tree snapshot has more eaten behind it than a blade can",
+        ),
+        (
+            "0002010000000000ff0000003c0001010000070000009a0000003c650100000000000000000000003c00\n",
+            "line 1: node 2 of the tree snapshot has more eaten behind it than a blade can",
+        ),
+        (
+            "0002010000000000640000003c000101000007000000620000003c030100000000000000000000003c00\n",
+            "line 1: node 2 of the tree snapshot doesn't fit into its parent",
+        ),
     ];
     let tell = |words: &[&str], input: &str, what: &str| {
         let output = run(words, input.as_bytes());
@@ -306,7 +379,30 @@ fn input_that_is_wrong_is_told() {
     for list in ["000001000000280100", "18000001000001000000280100bd"] {
         assert!(run(&["say", "--snapshot"], cut(list).as_bytes()).status.success(), "{list}");
     }
-    tell(&["say", "--snapshot"], "0002010000000000640000003c0100000000000000640000003c\n", "line 2: no list of saw cuts");
+    // the same with a blade of 3, and what each cut loses in a third line
+    let sheet = "0002010000000000640000003c000101000007000000280000003c030100000000000000390000003c00";
+    let lost = |list: &str, amounts: &str| format!("{sheet}\n{list}\n{amounts}");
+    let one = "000001000000280100";
+    for (list, amounts, what) in [
+        (one, "", "line 3: no amounts of the cuts: lower-case hexadecimal, or the desk's answer to 1ae6, belongs here"),
+        (one, "-\n", "line 3: no amounts of the cuts: 0 amounts, of 1 cut"),
+        (one, "0\n", "line 3: no amounts of the cuts: lower-case"),
+        (one, "1a00000203e1\n", "line 3: no amounts of the cuts: lower-case"),
+        (one, "1a0000020300e1\n", "line 3: no amounts of the cuts: 2 amounts, of 1 cut"),
+        (one, "3d\n", "line 3: cut 1 loses more than its board has"),
+        (one, "02\n", "line 2: board 2 of the last pile isn't that piece of the tree"),
+        (one, "00\n", "line 2: board 2 of the last pile isn't that piece of the tree"),
+        (one, "3c\n", "line 2: the cuts make 1 board, and the tree has 2 pieces"),
+        ("000001000000280101", "3c\n", "line 2: cut 1 leaves nothing, and says that it leaves something"),
+        ("000001000000290100", "02\n", "line 2: board 1 of the last pile isn't that piece of the tree"),
+    ] {
+        tell(&["draw", "--snapshot"], &lost(list, amounts), what);
+        tell(&["say", "--snapshot", "-o", &kept], &lost(list, amounts), what);
+    }
+    for amounts in ["03\n", "1a00000103e2\n"] {
+        assert!(run(&["say", "--snapshot"], lost(one, amounts).as_bytes()).status.success(), "{amounts}");
+    }
+    tell(&["say", "--snapshot"], "0002010000000000640000003c000100000000000000640000003c00\n", "line 2: no list of saw cuts");
 }
 
 /// Files that can't be read or written.

@@ -1,25 +1,31 @@
-//! The list of saw cuts (document 02, change request 3): on document 01's sheet by hand, and run by a simple saw on every state of the recorded sessions.
+//! The list of saw cuts (document 02, change requests 3 and 4): on document 01's sheet by hand, and run by a simple saw on every state of the recorded sessions.
 
 mod common;
 
 use std::thread;
 
-use common::{insert, line, lines_of, mark, numbers, opened, part, remove, KEEP, OPEN, REPORT, RESTORE};
+use common::{insert, line, lines_of, mark, numbers, opened, opened_by, part, remove};
+use common::{KEEP, OPEN, OPEN_WITH_BLADE, REPORT, RESTORE};
 use nickelgrove_kiosk::{Counter, Cut, Piece, Way};
 
 fn vertical(place: u16, distance: u32, piece: Piece, left: Piece) -> Cut {
-    Cut { place, way: Way::Vertical, distance, piece, left }
+    Cut { place, way: Way::Vertical, distance, piece, left, eaten: 0 }
 }
 
 fn horizontal(place: u16, distance: u32, piece: Piece, left: Piece) -> Cut {
-    Cut { place, way: Way::Horizontal, distance, piece, left }
+    Cut { place, way: Way::Horizontal, distance, piece, left, eaten: 0 }
+}
+
+/// The same cut, with which the blade eats so much.
+fn eats(cut: Cut, eaten: u8) -> Cut {
+    Cut { eaten, ..cut }
 }
 
 #[test]
 fn nothing_is_cut_before_an_opening() {
     let mut counter = Counter::new();
     assert_eq!(counter.cuts(), None);
-    assert_eq!(numbers(counter.answer(line(&[1, 0, 1, 0, 0, 0, 0, 0, 0, 0, 60, 1, 3])))[..2], [1, 2]);
+    assert_eq!(numbers(counter.answer(line(&[1, 0, 1, 0, 0, 0, 0, 0, 0, 0, 60, 1, 3, 0])))[..2], [1, 2]);
     assert_eq!(counter.cuts(), None);
     counter.answer(OPEN);
     assert_eq!(counter.cuts(), Some(vec![]));
@@ -77,6 +83,52 @@ fn several_siblings_and_what_they_leave() {
     assert_eq!(counter.cuts(), Some(vec![vertical(0, 40, Part, Structure), horizontal(1, 20, Part, Free)]));
 }
 
+/// The same with a blade that is 3 wide: what a cut loses is no more than lies behind the piece, an exact fit loses nothing, and a cut that leaves nothing is there,
+/// where it loses something.
+#[test]
+fn a_part_by_each_shape_with_a_blade() {
+    use Piece::{Free, Part, Structure};
+    let shapes = [
+        (part(40, 60), 1, vec![eats(vertical(0, 40, Part, Free), 3)]),
+        (part(100, 20), 2, vec![eats(horizontal(0, 20, Part, Free), 3)]),
+        (part(40, 30), 3, vec![eats(vertical(0, 40, Structure, Free), 3), eats(horizontal(0, 30, Part, Free), 3)]),
+        (part(40, 30), 4, vec![eats(horizontal(0, 30, Structure, Free), 3), eats(vertical(0, 40, Part, Free), 3)]),
+        (part(97, 60), 1, vec![eats(vertical(0, 97, Part, Free), 3)]),
+        (part(98, 60), 1, vec![eats(vertical(0, 98, Part, Free), 2)]),
+        (part(98, 59), 3, vec![eats(vertical(0, 98, Structure, Free), 2), eats(horizontal(0, 59, Part, Free), 1)]),
+        (part(98, 59), 4, vec![eats(horizontal(0, 59, Structure, Free), 1), eats(vertical(0, 98, Part, Free), 2)]),
+        (part(100, 60), 1, vec![]),
+    ];
+    for (part, shape, cuts) in shapes {
+        let (mut counter, free) = opened_by(OPEN_WITH_BLADE);
+        assert_eq!(numbers(counter.answer(insert(&free, &part, shape)))[..2], [3, 0]);
+        assert_eq!(counter.cuts(), Some(cuts), "shape {shape}");
+    }
+}
+
+/// A part and what is eaten behind it are cut again, as several siblings are; and a cut that leaves nothing puts one piece into the pile, so that what comes behind it
+/// lies one place before where it would lie else.
+#[test]
+fn a_cut_that_leaves_nothing() {
+    use Piece::{Free, Part, Several, Structure};
+    let (mut counter, free) = opened_by(OPEN_WITH_BLADE);
+    let rest = booked(&mut counter, &free, &part(40, 60), 1);
+    let one = eats(vertical(0, 40, Part, Several), 3);
+    booked(&mut counter, &rest, &part(55, 60), 1);
+    assert_eq!(counter.cuts(), Some(vec![one, eats(vertical(1, 55, Part, Free), 2)]));
+
+    // in the first strip of 40 x 60 lies 40 x 58, and nothing below it; so the second one has place 1
+    let (mut counter, free) = opened_by(OPEN_WITH_BLADE);
+    let answer = numbers(counter.answer(insert(&free, &part(40, 58), 3)));
+    booked(&mut counter, &answer[24..31], &part(57, 20), 2);
+    let cuts = vec![
+        eats(vertical(0, 40, Structure, Structure), 3),
+        eats(horizontal(0, 58, Part, Free), 2),
+        eats(horizontal(1, 20, Part, Free), 3),
+    ];
+    assert_eq!(counter.cuts(), Some(cuts));
+}
+
 /// Document 01's case k: the part is out again, and a structure stays with one free piece in it.
 #[test]
 fn a_structure_with_one_piece_needs_no_cut() {
@@ -100,31 +152,39 @@ impl Board {
     }
 }
 
-/// The simple saw: the pile that these cuts make of the full sheet. Each cuts a piece that is there and not done, within its edges.
-fn saw(cuts: &[Cut], width: u32, height: u32) -> Vec<Board> {
-    let mut pile = vec![Board { width, height, said: None }];
+/// The simple saw: the pile that these cuts make of the full sheet, and the area that they lose. Each cuts a piece that is there and not done, within its edges, and
+/// puts what it cuts off there, and behind it what the blade leaves, if it leaves something.
+fn saw(cuts: &[Cut], width: u32, height: u32) -> (Vec<Board>, u64) {
+    let (mut pile, mut lost) = (vec![Board { width, height, said: None }], 0);
     for cut in cuts {
         let place = usize::from(cut.place);
         let board = *pile.get(place).expect("a piece that is there");
         assert!(!matches!(board.said, Some(Piece::Free | Piece::Part)), "a piece that is done: {cut:?}");
         let (mut piece, mut left) = (board, board);
-        let (side, one, other) = match cut.way {
-            Way::Horizontal => (board.height, &mut piece.height, &mut left.height),
-            Way::Vertical => (board.width, &mut piece.width, &mut left.width),
+        let (side, breadth, one, other) = match cut.way {
+            Way::Horizontal => (board.height, board.width, &mut piece.height, &mut left.height),
+            Way::Vertical => (board.width, board.height, &mut piece.width, &mut left.width),
         };
         assert!(0 < cut.distance && cut.distance < side, "{cut:?} of {side}");
-        (*one, *other) = (cut.distance, side - cut.distance);
+        let rest = (side - cut.distance).checked_sub(cut.eaten.into()).expect("no more is lost than there is");
+        (*one, *other) = (cut.distance, rest);
         (piece.said, left.said) = (Some(cut.piece), Some(cut.left));
-        pile.splice(place..=place, [piece, left]);
+        lost += u64::from(cut.eaten) * u64::from(breadth);
+        if rest > 0 {
+            pile.splice(place..=place, [piece, left]);
+        } else {
+            assert_eq!(cut.left, Piece::Free, "{cut:?} leaves nothing");
+            pile[place] = piece;
+        }
     }
     assert!(pile.iter().all(|board| board.said != Some(Piece::Several)), "several siblings are cut");
-    pile
+    (pile, lost)
 }
 
 /// The nodes of a tree snapshot: kind, width and height of each.
 fn nodes_of(snapshot: &str) -> Vec<(u8, u32, u32)> {
     let four = |bytes: &[u8]| u32::from_be_bytes(bytes.try_into().expect("four bytes"));
-    numbers(snapshot).chunks(13).map(|node| (node[1], four(&node[5..9]), four(&node[9..]))).collect()
+    numbers(snapshot).chunks(14).map(|node| (node[1], four(&node[5..9]), four(&node[9..13]))).collect()
 }
 
 /// On each state of the short sessions: the pile is the parts and the free pieces with area of the tree snapshot, in its order.
@@ -144,7 +204,7 @@ fn the_saw_makes_what_the_snapshot_shows() {
         let nodes = nodes_of(snapshot);
         let (_, width, height) = nodes[0];
         let cuts = counter.cuts().expect("a sheet is opened");
-        let pile = saw(&cuts, width, height);
+        let (pile, _) = saw(&cuts, width, height);
         let pieces: Vec<_> = nodes.into_iter().filter(|(kind, w, h)| *kind == 1 || *kind == 0 && *w > 0 && *h > 0).collect();
         let sides: Vec<_> = pile.iter().map(|board| (board.width, board.height)).collect();
         assert_eq!(sides, pieces.iter().map(|(_, w, h)| (*w, *h)).collect::<Vec<_>>(), "line {}", place + 1);
@@ -161,8 +221,8 @@ fn the_saw_makes_what_the_snapshot_shows() {
     assert!(cut > frames.len(), "{cut} cuts");
 }
 
-/// On each state of the long sessions, the deepest trees and the longest rows among them: the pile's areas add up to the sheet, and there are no more pieces
-/// than nodes. On a quarter of the stack that a thread has by default.
+/// On each state of the long sessions, the deepest trees and the longest rows among them: the pile's areas and what is lost add up to the sheet, and there are no more
+/// pieces than nodes. On a quarter of the stack that a thread has by default.
 #[test]
 fn the_saw_on_long_sessions() {
     let thread = thread::Builder::new().stack_size(512 << 10).spawn(|| {
@@ -182,9 +242,9 @@ fn the_saw_on_long_sessions() {
             let cuts = counter.cuts();
             assert_eq!(cuts.is_some(), sheet.is_some());
             let (Some(cuts), Some((width, height))) = (cuts, sheet) else { continue };
-            let pile = saw(&cuts, width, height);
-            assert_eq!(pile.len(), cuts.len() + 1);
-            assert_eq!(pile.iter().map(|board| board.area()).sum::<u64>(), u64::from(width) * u64::from(height));
+            let (pile, lost) = saw(&cuts, width, height);
+            assert!(pile.len() <= cuts.len() + 1);
+            assert_eq!(pile.iter().map(|board| board.area()).sum::<u64>() + lost, u64::from(width) * u64::from(height));
             assert!(pile.len() < usize::from(numbers(counter.answer(REPORT))[10]));
             most = most.max(cuts.len());
         }

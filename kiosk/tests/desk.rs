@@ -8,7 +8,7 @@ use nickelgrove_kiosk::{Answer, Counter, Desk, Mark, Offer, Part, Refusal, Reque
 
 /// A line of one of the desk's own ops, however malformed.
 fn is_the_desks(line: &[u8]) -> bool {
-    matches!(line, [b'1', b'1'..=b'8', ..])
+    matches!(line, [b'1', b'1'..=b'9' | b'a', ..])
 }
 
 #[test]
@@ -27,8 +27,15 @@ fn the_counters_lines_at_the_desk() {
 #[test]
 fn a_request_is_its_line() {
     let (mut desk, mut by_line) = (Desk::default(), Desk::new());
-    let questions =
-        [Request::PartNumbers, Request::Figures, Request::Snapshot, Request::Cuts, Request::FreePiece { position: 0 }];
+    let questions = [
+        Request::PartNumbers,
+        Request::Figures,
+        Request::Snapshot,
+        Request::Cuts,
+        Request::EatenArea,
+        Request::CutAmounts,
+        Request::FreePiece { position: 0 },
+    ];
     for frame in lines_of("recorded/sessions.in") {
         let Some(request) = request_of(&frame) else { continue };
         assert_eq!(request.line().as_bytes(), frame);
@@ -46,7 +53,7 @@ fn the_desks_lines_at_the_counter() {
     let (mut desk, mut counter) = (Desk::new(), Counter::new());
     counter.answer(OPEN);
     desk.answer(OPEN);
-    for op in 0x11..=0x18 {
+    for op in 0x11..=0x1a {
         let fields = match op {
             0x11 => [mark(1, 2), part(40, 60)].concat(),
             0x12 => part(40, 60),
@@ -76,7 +83,7 @@ fn random_lines_are_answered() {
         assert!(is_the_desks(digits.as_bytes()) || counter.answer(&digits) == answer);
 
         let (op, fields) = [
-            (1, 12),
+            (1, 13),
             (2, 18),
             (3, 20),
             (4, 7),
@@ -91,7 +98,9 @@ fn random_lines_are_answered() {
             (0x16, 0),
             (0x17, 0),
             (0x18, 0),
-        ][random.below(15) as usize];
+            (0x19, 0),
+            (0x1a, 0),
+        ][random.below(17) as usize];
         let mut frame = vec![op];
         // small numbers mostly, so that fields are often in their ranges
         frame.extend((0..fields).map(|_| if random.below(8) == 0 { random.below(256) as u8 } else { random.below(3) as u8 }));
@@ -183,11 +192,17 @@ fn extreme_openings() {
         for (width, height) in SIDES.iter().flat_map(|width| SIDES.iter().map(move |height| (*width, *height))) {
             for stages in [0, 1, 254, 255] {
                 let inside = [width, height].iter().all(|side| (1..=67_108_863).contains(side)) && (1..=254).contains(&stages);
+                for blade in [0, 100, 101, 255] {
+                    let opened = Sheet::open_with_blade(number, width, height, Way::Horizontal, stages, blade);
+                    let refused = !inside || blade > 100;
+                    assert_eq!(opened.as_ref().err(), refused.then_some(&Refusal::SheetOutsideLimits));
+                    let Ok(sheet) = opened else { continue };
+                    assert_eq!(sheet.free_pieces(), Ok(vec![Mark::from_numbers(number, 1, 2)]));
+                    assert_eq!(sheet.figures().map(|figures| figures.free_area), Ok(u64::from(width) * u64::from(height)));
+                    assert_eq!(sheet.eaten_area(), Ok(0));
+                }
                 let opened = Sheet::open(number, width, height, Way::Horizontal, stages);
-                assert_eq!(opened.as_ref().err(), (!inside).then_some(&Refusal::SheetOutsideLimits));
-                let Ok(sheet) = opened else { continue };
-                assert_eq!(sheet.free_pieces(), Ok(vec![Mark::from_numbers(number, 1, 2)]));
-                assert_eq!(sheet.figures().map(|figures| figures.free_area), Ok(u64::from(width) * u64::from(height)));
+                assert_eq!(opened.err(), (!inside).then_some(Refusal::SheetOutsideLimits));
             }
         }
     }
@@ -216,7 +231,7 @@ fn a_refusal_is_an_error() {
         Ok(())
     }
     let error = book().expect_err("a side of 0");
-    assert_eq!(error.to_string(), "a sheet that we don't take (refusal 2; the counter: look at sides and stages)");
+    assert_eq!(error.to_string(), "a sheet that we don't take (refusal 2; the counter: look at sides, stages and blade)");
     assert_eq!(error.downcast_ref(), Some(&Refusal::SheetOutsideLimits));
     assert_eq!(format!("{:?} {:?}", Desk::new(), Sheet::open(1, 9, 9, Way::Vertical, 3)), "Desk { .. } Ok(Sheet { .. })");
 }

@@ -32,7 +32,7 @@ fn nothing_is_sound_before_an_opening() {
     for (op, line) in (2..).zip(lines) {
         assert_eq!(counter.answer(line), refused(op, 1));
     }
-    assert_eq!(counter.answer(line(&[1, 0, 1, 0, 0, 0, 0, 0, 0, 0, 60, 1, 3])), refused(1, 2));
+    assert_eq!(counter.answer(line(&[1, 0, 1, 0, 0, 0, 0, 0, 0, 0, 60, 1, 3, 0])), refused(1, 2));
     assert_eq!(counter.answer(REPORT), refused(7, 1));
 }
 
@@ -65,7 +65,10 @@ fn refusals_in_document_01s_order() {
     // none of them changed anything
     assert_eq!(counter.answer(insert(&free, &booked, 3)), insertion(&[3, 4], &[5, 6]));
     assert_eq!(counter.answer(KEEP), line(&[5, 0]));
-    assert_eq!(counter.answer(line(&[1, 0, 2, 0, 0, 0, 9, 0, 0, 0, 9, 0, 9])), line(&[&[1, 0, 0, 2], &mark(1, 2)[2..]].concat()));
+    assert_eq!(
+        counter.answer(line(&[1, 0, 2, 0, 0, 0, 9, 0, 0, 0, 9, 0, 9, 0])),
+        line(&[&[1, 0, 0, 2], &mark(1, 2)[2..]].concat())
+    );
     assert_eq!(counter.answer(RESTORE), refused(6, 4), "the snapshot is of another layout");
 }
 
@@ -79,7 +82,7 @@ fn insertion(first_and_part: &[u32], free: &[u32]) -> String {
 #[test]
 fn a_full_table_refuses_a_booking() {
     let mut counter = Counter::new();
-    let opening = counter.answer(line(&[1, 0, 1, 0, 0, 1, 44, 0, 0, 0, 60, 1, 3])).to_string();
+    let opening = counter.answer(line(&[1, 0, 1, 0, 0, 1, 44, 0, 0, 0, 60, 1, 3, 0])).to_string();
     let mut free = numbers(&opening)[2..9].to_vec();
     for held in 2..255 {
         let answer = numbers(counter.answer(insert(&free, &part(1, 60), 1)));
@@ -95,7 +98,7 @@ fn a_full_table_refuses_a_booking() {
 fn the_last_serial_is_refused_and_not_issued_again() {
     let mut counter = Counter::new();
     let side = 67_108_863_u32.to_be_bytes();
-    let opening = [[1, 0, 1].as_slice(), &side, &side, &[1, 254]].concat();
+    let opening = [[1, 0, 1].as_slice(), &side, &side, &[1, 254, 0]].concat();
     assert_eq!(counter.answer(line(&opening)), OPENED);
     assert_eq!(counter.answer(KEEP), line(&[5, 0]));
     let mut last = 2;
@@ -155,7 +158,7 @@ fn lines_that_are_no_frames() {
         "05fb00",
         "0800f8",
         "00",
-        "0100 100000064000000 3c01035a",
+        "0100 100000064000000 3c0103005a",
         "é",
         &long,
     ];
@@ -197,7 +200,7 @@ fn random_lines_are_answered() {
 
         let op = 1 + random.below(7) as u8;
         let mut bytes = vec![op];
-        bytes.resize([0, 13, 19, 21, 8, 1, 1, 1][usize::from(op)], 0);
+        bytes.resize([0, 14, 19, 21, 8, 1, 1, 1][usize::from(op)], 0);
         for byte in &mut bytes[1..] {
             // small numbers mostly, so that fields are often in their ranges
             *byte = if random.below(8) == 0 { random.below(256) as u8 } else { random.below(3) as u8 };

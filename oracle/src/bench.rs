@@ -1,7 +1,8 @@
 //! How long each call takes: ours, through the archive of crates/kiosk, beside the Rust's, in one loop.
 //!
 //! Three sides take the same calls on the same sheets. `ours` answers frames. `frames` is this driver's session, which answers the same frames by the Rust and a
-//! model of marks and refusals that was made to judge by, not to be fast. `bare` is the Rust's own calls, with no frame, mark or refusal around them.
+//! model of marks and refusals that was made to judge by, not to be fast. `bare` is the Rust's own calls, with no frame, mark or refusal around them. All sheets
+//! have blade width 0: the Rust knows no other.
 //! Built in the dev profile, the last two run the Rust's assertions. A sheet is reached by frames and kept; a call that changes it is timed, and the
 //! restore after it is not. Each round goes through all calls and all sides, and the median over the rounds counts. oracle/bench makes a table of it.
 
@@ -217,6 +218,9 @@ impl Row {
     }
 }
 
+/// What makes the rows of a side, of sheets and named sessions.
+type Rows = fn(&[Sheet], &[(&'static str, Vec<String>)]) -> Vec<Row>;
+
 /// The rows of one side.
 fn rows<S: Side + 'static>(sheets: &[Sheet], sessions: &[(&'static str, Vec<String>)]) -> Vec<Row> {
     let calls = sheets.iter().flat_map(|sheet| sheet.ops().iter().map(move |op| Row::of_call::<S>(sheet, op)));
@@ -233,11 +237,10 @@ fn same_answers(lines: &[String]) -> Result<(), String> {
 /// The sides that are named, all where none is, each with its rows in the same order.
 fn sides(named: &[&str]) -> Result<Vec<Vec<Row>>, String> {
     let sheets = NODES.map(Sheet::of);
-    let sessions = SESSIONS.map(|(name, seed, count, kind)| (name, generate::lines(seed, count, kind).expect("a kind")));
+    let sessions = SESSIONS.map(|(name, seed, count, kind)| (name, generate::lines(seed, &[(count, kind)]).expect("a kind")));
     let lines = sheets.iter().map(Sheet::all_lines).chain(sessions.iter().map(|(_, lines)| lines.clone()));
     lines.into_iter().try_for_each(|lines| same_answers(&lines))?;
-    let all: [(&str, fn(&[Sheet], &[(&'static str, Vec<String>)]) -> Vec<Row>); 3] =
-        [(Ours::NAME, rows::<Ours>), (Frames::NAME, rows::<Frames>), (Bare::NAME, rows::<Bare>)];
+    let all: [(&str, Rows); 3] = [(Ours::NAME, rows::<Ours>), (Frames::NAME, rows::<Frames>), (Bare::NAME, rows::<Bare>)];
     if let Some(unknown) = named.iter().find(|word| all.iter().all(|(name, _)| name != *word)) {
         return Err(format!("there is no side {unknown}"));
     }

@@ -1,18 +1,21 @@
 //! Counts what recorded frames reach: each shape, cut and rotation, each kind of removal, each refusal, each answer of the light, each kind of
-//! saw cut.
+//! saw cut, each thing that a blade does.
+
+mod blade;
 
 use std::collections::{BTreeMap, BTreeSet};
 
-use crate::core::entities::node::NodeKey;
 use crate::frame::{cut_number, Mark, Part, Request, MALFORMED};
-use crate::saw;
 use crate::session::Session;
 use crate::sheet::Sheet;
+use crate::tree::Node;
+use blade::Before;
 
 const CUTS: [&str; 2] = ["Horizontal", "Vertical"];
 const ROTATIONS: [&str; 2] = ["Default", "Rotated"];
 const SHAPES: [&str; 4] = ["AlongCurrentCut", "AcrossCurrentCut", "AlongThenAcross", "AcrossThenAlong"];
-const LEFT: [&str; 4] = ["free piece", "part", "structure", "several"];
+/// By their numbers; the last is what a cut says of siblings.
+const KINDS: [&str; 4] = ["free piece", "part", "structure", "several"];
 const LIGHTS: [&str; 5] = ["first free piece", "later free piece", "no", "no, though it fits", "refused"];
 const OPS: [&str; 7] = ["open", "offers", "insert", "remove", "keep", "restore", "report"];
 
@@ -45,7 +48,8 @@ impl Default for Coverage {
         names.extend(LIGHTS.map(light));
         names.extend(["none", "one", "empty offcut left out"].map(saw_cuts));
         names.extend(CUTS.map(cut_of_way));
-        names.extend(LEFT.map(cut_that_leaves));
+        names.extend(KINDS.map(cut_that_leaves));
+        names.extend(blade::names());
         let counts = names.into_iter().map(|name| (name, 0)).collect();
         Coverage { counts, calls: 0, most_nodes: 0, deepest: 0 }
     }
@@ -54,7 +58,9 @@ impl Default for Coverage {
 impl Coverage {
     /// Answers a line and counts what it reached.
     pub fn count(&mut self, session: &mut Session, line: &[u8]) {
-        let before = Request::read(line).map(|request| names_before(session, &request)).unwrap_or_default();
+        let read = Request::read(line);
+        let before = read.map(|request| names_before(session, &request)).unwrap_or_default();
+        let before_blade = read.map(|request| Before::of(session, &request)).unwrap_or_default();
         let reply = session.answer(line);
         self.calls += 1;
         let Some(request) = reply.request else {
@@ -62,13 +68,15 @@ impl Coverage {
             return self.reach("malformed".to_string());
         };
         let op = OPS[usize::from(request.op()) - 1];
-        match u8::from_str_radix(&reply.answer[2..4], 16).expect("an answer has a number") {
+        let number = u8::from_str_radix(&reply.answer[2..4], 16).expect("an answer has a number");
+        match number {
             0 => {
                 self.reach(accepted(op));
                 before.into_iter().for_each(|name| self.reach(name));
             }
             number => self.reach(refused(op, number)),
         }
+        before_blade.reached(session, &request, number).into_iter().for_each(|name| self.reach(name));
         if let Some(part) = request.part() {
             self.reach(light(light_of(session, part)));
         }
@@ -83,8 +91,8 @@ impl Coverage {
     }
 
     fn measure(&mut self, sheet: &Sheet) {
-        self.most_nodes = self.most_nodes.max(sheet.marks().held());
-        let deepest = sheet.marks().by_place().map(|key| sheet.node(key).level()).max();
+        self.most_nodes = self.most_nodes.max(sheet.held());
+        let deepest = sheet.tree().in_order().into_iter().map(|node| node.piece.level).max();
         self.deepest = self.deepest.max(deepest.unwrap_or(0));
     }
 
@@ -105,22 +113,20 @@ fn names_before(session: &Session, request: &Request) -> Vec<String> {
     let Some(sheet) = session.sheet() else {
         return Vec::new();
     };
-    let named = |mark: &Mark| sheet.marks().find(*mark);
     match request {
         Request::Offers { mark, part } => {
-            let free = named(mark).filter(|key| part.in_domain() && sheet.node(*key).is_empty());
-            free.map(|key| offers(sheet.offers(key, &part.parttype()).len())).into_iter().collect()
+            let free = sheet.find(*mark).filter(|piece| part.in_domain() && piece.is_free());
+            free.map(|piece| offers(sheet.offers(piece.mark, part).len())).into_iter().collect()
         }
-        Request::Insert { mark, part, offer } => named(mark).map_or_else(Vec::new, |key| {
-            let cut = cut_number(sheet.node(key).next_cut_orient());
-            let mut names = vec![insertion(offer.shape, cut, offer.rotation)];
+        Request::Insert { mark, part, offer } => sheet.find(*mark).map_or_else(Vec::new, |piece| {
+            let mut names = vec![insertion(offer.shape, cut_number(piece.cut), offer.rotation)];
             let sides = [part.width, part.height].map(u64::from);
-            if sides.iter().product::<u64>() == sheet.node(key).area() {
+            if sides.iter().product::<u64>() == piece.area() {
                 names.push("insertion, exact fit".to_string());
             }
             names
         }),
-        Request::Remove { mark } => named(mark).and_then(|key| removal_of(sheet, key)).into_iter().collect(),
+        Request::Remove { mark } => removal_of(sheet, *mark).into_iter().collect(),
         _ => Vec::new(),
     }
 }
@@ -131,26 +137,32 @@ fn names_of_cuts(sheet: &Sheet) -> BTreeSet<String> {
     let mut names: BTreeSet<String> = BTreeSet::new();
     for cut in &cuts {
         names.insert(cut_of_way(CUTS[usize::from(cut_number(cut.way))]));
-        names.insert(cut_that_leaves(LEFT[usize::from(cut.left)]));
+        names.insert(cut_that_leaves(KINDS[usize::from(cut.left)]));
     }
     match cuts.len() {
         0 => names.insert(saw_cuts("none")),
         1 => names.insert(saw_cuts("one")),
         _ => false,
     };
-    if sheet.marks().by_place().any(|key| saw::is_left_out(sheet.node(key))) {
+    if sheet.tree().in_order().into_iter().any(ends_with_offcut_left_out) {
         names.insert(saw_cuts("empty offcut left out"));
     }
     names
 }
 
+/// Whether the last child is an offcut of area 0 before which no cut is made.
+fn ends_with_offcut_left_out(parent: &Node) -> bool {
+    matches!(parent.children[..], [.., ref piece, ref offcut] if offcut.piece.is_nothing() && piece.piece.eaten == 0)
+}
+
 /// The kind of a removal, none for the top.
-fn removal_of(sheet: &Sheet, key: NodeKey) -> Option<String> {
-    let parent = sheet.node(sheet.node(key).parent()?);
-    let kind = if sheet.node(key).has_children() { "structure" } else { "part" };
-    let last_is_free = parent.last_child().is_some_and(|last| sheet.node(last).is_empty());
+fn removal_of(sheet: &Sheet, mark: Mark) -> Option<String> {
+    let tree = sheet.tree();
+    let parent = tree.parent_of(mark)?;
+    let kind = KINDS[usize::from(sheet.find(mark)?.kind)];
+    let last_is_free = parent.children.last().is_some_and(|last| last.piece.is_free());
     let way = if last_is_free { "merged" } else { "own size" };
-    Some(removal(kind, way, CUTS[usize::from(cut_number(parent.next_cut_orient()))]))
+    Some(removal(kind, way, CUTS[usize::from(cut_number(parent.piece.cut))]))
 }
 
 fn all_insertions() -> impl Iterator<Item = (u8, u8, u8)> {
@@ -185,7 +197,7 @@ fn light_of(session: &Session, part: &Part) -> &'static str {
         Err(_) => LIGHTS[4],
         Ok(None) if sheet.is_some_and(|sheet| sheet.fits_somewhere(part)) => LIGHTS[3],
         Ok(None) => LIGHTS[2],
-        Ok(Some(mark)) if sheet.is_some_and(|sheet| sheet.free_list().first() == sheet.marks().find(mark).as_ref()) => LIGHTS[0],
+        Ok(Some(mark)) if sheet.is_some_and(|sheet| sheet.free_list()[0] == mark) => LIGHTS[0],
         Ok(Some(_)) => LIGHTS[1],
     }
 }

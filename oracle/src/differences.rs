@@ -14,12 +14,12 @@ use crate::core::insertion::insertion_option::InsertionOption;
 use crate::core::layout_index::LayoutIndex;
 use crate::core::orientation::Orientation::{self, Horizontal, Vertical};
 use crate::core::rotation::Rotation;
-use crate::frame::{self, Mark, Offer, Part, Request};
+use crate::frame::{self, Mark, Offer, Opening, Part, Request};
 use crate::marks::tree_order;
 use crate::optimization::problem::Problem;
 use crate::optimization::rr::cache_updates::IOCUpdates;
 use crate::session::Session;
-use crate::sheet::Sheet;
+use crate::sheet::{Judge, RustSheet};
 
 const UNIT: Part = Part { number: 7, width: 1, height: 1, turn: 1 };
 const ALONG: Offer = Offer { rotation: 0, shape: 1 };
@@ -71,24 +71,23 @@ fn restore_revives_keys() {
 fn order_of_equal_areas() {
     println!("\n3. the order of equal areas in the free list");
     let part = Part { width: 2, ..UNIT };
-    let mut sheet = Sheet::open(1, 3, 2, Vertical, 2);
+    let mut sheet = RustSheet::open(&opening(1, 3, 2, Vertical, 2));
     let piece = sheet.free_list()[0];
     sheet.insert(piece, &part, Offer { rotation: 0, shape: 3 });
     let serials = |keys: &[NodeKey]| keys.iter().map(|key| sheet.marks().of(*key).serial).collect::<Vec<_>>();
-    let areas: Vec<u64> = sheet.free_list().iter().map(|key| sheet.node(*key).area()).collect();
+    let areas: Vec<u64> = sheet.free_keys().iter().map(|key| sheet.node(*key).area()).collect();
     println!("both  areas {areas:?}");
     println!("Rust  serials {:?}", serials(sheet.layout().sorted_empty_nodes()));
-    println!("doc01 serials {:?}", serials(&sheet.free_list()));
+    println!("doc01 serials {:?}", serials(&sheet.free_keys()));
 }
 
 fn order_of_part_numbers() {
     println!("\n4. the order of the part numbers held");
-    let mut sheet = Sheet::open(1, 2, 1, Horizontal, 2);
-    let find = |sheet: &Sheet, place, serial| sheet.marks().find(mark(place, serial)).expect("a live mark");
-    sheet.insert(find(&sheet, 1, 2), &UNIT, ACROSS);
-    sheet.remove(find(&sheet, 1, 3));
-    sheet.insert(find(&sheet, 1, 6), &Part { number: 8, ..UNIT }, ACROSS);
-    sheet.insert(find(&sheet, 3, 9), &Part { number: 9, ..UNIT }, ALONG);
+    let mut sheet = RustSheet::open(&opening(1, 2, 1, Horizontal, 2));
+    sheet.insert(mark(1, 2), &UNIT, ACROSS);
+    sheet.remove(mark(1, 3));
+    sheet.insert(mark(1, 6), &Part { number: 8, ..UNIT }, ACROSS);
+    sheet.insert(mark(3, 9), &Part { number: 9, ..UNIT }, ALONG);
     println!("Rust  {:?}", sheet.layout().included_part_ids());
     println!("doc01 {:?}", sheet.part_numbers());
 }
@@ -205,8 +204,13 @@ fn by_document(requests: &[Request]) {
     }
 }
 
+/// The Rust knows no blade: its width is 0.
+fn opening(layout: u16, width: u32, height: u32, cut: Orientation, stages: u8) -> Opening {
+    Opening { layout, width, height, cut, stages, blade: 0 }
+}
+
 fn open(layout: u16, width: u32, height: u32, cut: Orientation, stages: u8) -> Request {
-    Request::Open { layout, width, height, cut, stages }
+    Request::Open(opening(layout, width, height, cut, stages))
 }
 
 fn mark(place: u8, serial: u32) -> Mark {

@@ -1,4 +1,5 @@
-//! Counter frames, as document 01 sets them out: a line read into a request, a request and an answer written as a line.
+//! Counter frames, as document 01 sets them out, with the blade's width at the end of an opening (document 02, change request 4): a line read into
+//! a request, a request and an answer written as a line.
 
 use crate::core::entities::parttype::PartType;
 use crate::core::insertion::insertion_blueprint::InsertionShape;
@@ -10,6 +11,9 @@ pub const MALFORMED: &str = "ff0ef3";
 
 /// The greatest side of a sheet or a part.
 pub const GREATEST_SIDE: u32 = 67_108_863;
+
+/// The widest blade of a saw.
+pub const WIDEST_BLADE: u8 = 100;
 
 const LONGEST_LINE: usize = 64;
 
@@ -88,9 +92,34 @@ pub fn cut_number(cut: Orientation) -> u8 {
     }
 }
 
+/// What a sheet is opened with; its numbers may lie outside the domain.
+#[derive(Clone, Copy, Debug, PartialEq, Eq)]
+pub struct Opening {
+    pub layout: u16,
+    pub width: u32,
+    pub height: u32,
+    pub cut: Orientation,
+    pub stages: u8,
+    pub blade: u8,
+}
+
+impl Opening {
+    pub fn in_domain(&self) -> bool {
+        let sides = [self.width, self.height].iter().all(|side| (1..=GREATEST_SIDE).contains(side));
+        sides && (1..=254).contains(&self.stages) && self.blade <= WIDEST_BLADE
+    }
+
+    fn write(&self, bytes: &mut Vec<u8>) {
+        bytes.extend(self.layout.to_be_bytes());
+        bytes.extend(self.width.to_be_bytes());
+        bytes.extend(self.height.to_be_bytes());
+        bytes.extend([cut_number(self.cut), self.stages, self.blade]);
+    }
+}
+
 #[derive(Clone, Copy, Debug, PartialEq, Eq)]
 pub enum Request {
-    Open { layout: u16, width: u32, height: u32, cut: Orientation, stages: u8 },
+    Open(Opening),
     Offers { mark: Mark, part: Part },
     Insert { mark: Mark, part: Part, offer: Offer },
     Remove { mark: Mark },
@@ -102,7 +131,7 @@ pub enum Request {
 impl Request {
     pub fn op(&self) -> u8 {
         match self {
-            Request::Open { .. } => 1,
+            Request::Open(_) => 1,
             Request::Offers { .. } => 2,
             Request::Insert { .. } => 3,
             Request::Remove { .. } => 4,
@@ -132,13 +161,7 @@ impl Request {
         let (_check, frame) = bytes.split_last()?;
         let mut fields = Fields(frame);
         let request = match fields.u8()? {
-            1 => Request::Open {
-                layout: fields.u16()?,
-                width: fields.u32()?,
-                height: fields.u32()?,
-                cut: fields.cut()?,
-                stages: fields.u8()?,
-            },
+            1 => Request::Open(fields.opening()?),
             2 => Request::Offers { mark: fields.mark()?, part: fields.part()? },
             3 => Request::Insert { mark: fields.mark()?, part: fields.part()?, offer: fields.offer()? },
             4 => Request::Remove { mark: fields.mark()? },
@@ -154,12 +177,7 @@ impl Request {
     pub fn bytes(&self) -> Vec<u8> {
         let mut bytes = vec![self.op()];
         match self {
-            Request::Open { layout, width, height, cut, stages } => {
-                bytes.extend(layout.to_be_bytes());
-                bytes.extend(width.to_be_bytes());
-                bytes.extend(height.to_be_bytes());
-                bytes.extend([cut_number(*cut), *stages]);
-            }
+            Request::Open(opening) => opening.write(&mut bytes),
             Request::Offers { mark, part } => {
                 mark.write(&mut bytes);
                 write_part(part, &mut bytes);
@@ -211,6 +229,11 @@ impl Fields<'_> {
             1 => Some(Orientation::Vertical),
             _ => None,
         }
+    }
+
+    fn opening(&mut self) -> Option<Opening> {
+        let (layout, width, height) = (self.u16()?, self.u32()?, self.u32()?);
+        Some(Opening { layout, width, height, cut: self.cut()?, stages: self.u8()?, blade: self.u8()? })
     }
 
     fn mark(&mut self) -> Option<Mark> {

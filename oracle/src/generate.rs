@@ -1,6 +1,6 @@
 //! Random sessions as frames, the same for a seed on every machine.
 //!
-//! The generator answers its own frames with the Rust as it goes, so that it knows the live marks, those that are gone, and what
+//! The generator answers its own frames as it goes, so that it knows the live marks, those that are gone, and what
 //! is offered. The state goes on from one session to the next: a kept snapshot outlives the opening of another sheet.
 
 mod faulty;
@@ -8,12 +8,12 @@ mod long;
 
 use std::str::FromStr;
 
-use crate::core::entities::node::NodeKey;
 use crate::core::orientation::Orientation;
-use crate::frame::{self, Mark, Offer, Part, Request, GREATEST_SIDE};
+use crate::frame::{self, Mark, Offer, Opening, Part, Request, GREATEST_SIDE, WIDEST_BLADE};
 use crate::rng::Rng;
 use crate::session::Session;
 use crate::sheet::Sheet;
+use crate::tree::Piece;
 
 /// Few numbers, so that a snapshot often belongs to the sheet on the table and often does not.
 const LAYOUTS: [u16; 5] = [1, 1, 2, 0, 65_535];
@@ -42,6 +42,8 @@ enum Kind {
     Faulty,
     /// A short chain of structures, one inside the other, with ordinary calls after it.
     Chain,
+    /// A sheet of a few blade widths.
+    Scraps,
     /// A chain to the deepest level that calls can reach.
     Deep,
     /// A structure with as many parts in it as the table holds.
@@ -55,7 +57,7 @@ enum Kind {
 const MIXED: [Kind; 9] =
     [Kind::Plain, Kind::Tiny, Kind::Thin, Kind::Huge, Kind::Powers, Kind::Exact, Kind::Equal, Kind::Faulty, Kind::Chain];
 const LONG: [Kind; 3] = [Kind::Deep, Kind::Row, Kind::Full];
-const ALONE: [Kind; 1] = [Kind::Serials];
+const ALONE: [Kind; 2] = [Kind::Scraps, Kind::Serials];
 
 impl FromStr for Kind {
     type Err = String;
@@ -66,34 +68,46 @@ impl FromStr for Kind {
     }
 }
 
-/// How often `all` goes through the short kinds before it goes through the long ones, whose sessions have ten times as many lines.
-const ROUNDS: usize = 20;
-
-/// The frames of some sessions of a kind; `mixed` goes through the short kinds in turn, `long` through the long ones, `all` through both.
-pub fn lines(seed: u64, sessions: u32, kind: &str) -> Result<Vec<String>, String> {
-    let kinds = match kind {
-        "mixed" => MIXED.to_vec(),
-        "long" => LONG.to_vec(),
-        "all" => [MIXED.repeat(ROUNDS), LONG.to_vec()].concat(),
-        word => vec![word.parse()?],
-    };
-    let mut generator = Generator::new(seed);
-    generator.before_opening();
-    for (_, kind) in (0..sessions).zip(kinds.iter().cycle()) {
-        generator.session(*kind);
-    }
-    Ok(generator.lines)
+/// A session that is to be made: its kind, and whether its sheets are opened with a blade. Without one their blade width is 0, which the Rust judges.
+#[derive(Clone, Copy)]
+struct Plan {
+    kind: Kind,
+    with_blade: bool,
 }
 
-/// A free piece as the generator sees it.
-#[derive(Clone, Copy)]
-struct Piece {
-    mark: Mark,
-    key: NodeKey,
-    width: u32,
-    height: u32,
-    level: u8,
-    cut: Orientation,
+/// The end of a word for sessions with a blade.
+const BLADE: &str = "+blade";
+
+/// How often `all` goes through the short kinds before it goes through the long ones, whose sessions have ten times as many lines.
+const ROUNDS: usize = 10;
+
+/// The sessions that a word names, in turn: a kind; `mixed`, the short kinds; `long`, the long ones; each with `+blade` behind it for sessions with a
+/// blade. `all` are both, without a blade and with one.
+fn plans(word: &str) -> Result<Vec<Plan>, String> {
+    if word == "all" {
+        let short = [plans("mixed")?, plans("mixed+blade")?].concat();
+        return Ok([short.repeat(ROUNDS), plans("long")?, plans("long+blade")?].concat());
+    }
+    let (kinds, with_blade) = word.strip_suffix(BLADE).map_or((word, false), |kinds| (kinds, true));
+    let kinds = match kinds {
+        "mixed" if with_blade => [MIXED.to_vec(), vec![Kind::Scraps]].concat(),
+        "mixed" => MIXED.to_vec(),
+        "long" => LONG.to_vec(),
+        kind => vec![kind.parse()?],
+    };
+    Ok(kinds.into_iter().map(|kind| Plan { kind, with_blade }).collect())
+}
+
+/// The frames of sessions: so many of the first word, then so many of the next.
+pub fn lines(seed: u64, asked: &[(u32, &str)]) -> Result<Vec<String>, String> {
+    let mut generator = Generator::new(seed);
+    generator.before_opening();
+    for (sessions, word) in asked {
+        for (_, plan) in (0..*sessions).zip(plans(word)?.iter().cycle()) {
+            generator.session(*plan);
+        }
+    }
+    Ok(generator.lines)
 }
 
 struct Generator {
@@ -101,13 +115,16 @@ struct Generator {
     session: Session,
     lines: Vec<String>,
     past: Vec<Mark>,
+    /// Whether sheets are opened with a blade.
+    with_blade: bool,
     /// The part size of an `Equal` session.
     unit: (u32, u32),
 }
 
 impl Generator {
     fn new(seed: u64) -> Self {
-        Generator { rng: Rng::new(seed), session: Session::default(), lines: Vec::new(), past: Vec::new(), unit: (1, 1) }
+        let (rng, session) = (Rng::new(seed), Session::default());
+        Generator { rng, session, lines: Vec::new(), past: Vec::new(), with_blade: false, unit: (1, 1) }
     }
 
     fn sheet(&self) -> &Sheet {
@@ -137,11 +154,12 @@ impl Generator {
         self.send(Request::Offers { mark, part: beyond });
         self.send(Request::Insert { mark, part, offer });
         self.send(Request::Remove { mark });
-        self.send(Request::Open { layout: 1, width: 0, height: 1, cut: Orientation::Vertical, stages: 3 });
+        self.send(Request::Open(Opening { layout: 1, width: 0, height: 1, cut: Orientation::Vertical, stages: 3, blade: 0 }));
         self.send(Request::Offers { mark, part });
     }
 
-    fn session(&mut self, kind: Kind) {
+    fn session(&mut self, Plan { kind, with_blade }: Plan) {
+        self.with_blade = with_blade;
         match kind {
             Kind::Chain => self.chain(),
             Kind::Deep => self.deep(),
@@ -156,19 +174,35 @@ impl Generator {
     }
 
     fn open(&mut self, kind: Kind) {
-        let (width, height) = self.sheet_sides(kind);
+        let blade = self.some_blade();
+        let (width, height) = self.sheet_sides(kind, blade);
         let stages = if self.rng.chance(80) { self.rng.between(1, 5) } else { self.rng.between(1, 254) };
-        self.open_with(width, height, stages as u8);
+        self.open_with(width, height, stages as u8, blade);
     }
 
-    fn open_with(&mut self, width: u32, height: u32, stages: u8) {
+    fn open_with(&mut self, width: u32, height: u32, stages: u8, blade: u8) {
         let layout = self.rng.pick(&LAYOUTS);
         let cut = self.rng.pick(&[Orientation::Horizontal, Orientation::Vertical]);
-        let number = self.send(Request::Open { layout, width, height, cut, stages });
+        let number = self.send(Request::Open(Opening { layout, width, height, cut, stages, blade }));
         assert_eq!(number, 0, "an opening within the domain");
     }
 
-    fn sheet_sides(&mut self, kind: Kind) -> (u32, u32) {
+    /// A blade's width: mostly that of a real saw, now and then the widest, or 0 among the others.
+    fn some_blade(&mut self) -> u8 {
+        if !self.with_blade {
+            return 0;
+        }
+        let blade = match self.rng.between(0, 19) {
+            0..=1 => 0,
+            2..=10 => self.rng.between(1, 4),
+            11..=15 => self.rng.between(5, 20),
+            16..=18 => self.rng.between(21, 100),
+            _ => WIDEST_BLADE.into(),
+        };
+        blade as u8
+    }
+
+    fn sheet_sides(&mut self, kind: Kind, blade: u8) -> (u32, u32) {
         let rng = &mut self.rng;
         match kind {
             Kind::Tiny => (rng.between(1, 6), rng.between(1, 6)),
@@ -185,6 +219,10 @@ impl Generator {
             Kind::Equal => {
                 self.unit = (rng.between(1, 30), rng.between(1, 30));
                 (self.unit.0 * rng.between(2, 9), self.unit.1 * rng.between(2, 9))
+            }
+            Kind::Scraps => {
+                let most = 3 + 8 * u32::from(blade);
+                (rng.between(1, most), rng.between(1, most))
             }
             _ => (rng.between(2, 600), rng.between(2, 600)),
         }
@@ -226,25 +264,12 @@ impl Generator {
     }
 
     fn free_pieces(&self) -> Vec<Piece> {
-        let sheet = self.sheet();
-        let piece = |key: NodeKey| {
-            let node = sheet.node(key);
-            Piece {
-                mark: sheet.marks().of(key),
-                key,
-                width: node.width() as u32,
-                height: node.height() as u32,
-                level: node.level(),
-                cut: node.next_cut_orient(),
-            }
-        };
-        sheet.free_list().into_iter().map(piece).collect()
+        self.sheet().free_pieces()
     }
 
     /// The marks of the removable list, the top's among them.
     fn removable(&self) -> Vec<Mark> {
-        let sheet = self.sheet();
-        sheet.removable_list().iter().map(|key| sheet.marks().of(*key)).collect()
+        self.sheet().removable_list()
     }
 
     /// A free piece: the greatest as often as all others together.
@@ -271,6 +296,10 @@ impl Generator {
 
     /// A side for a part, by the side of the piece that it is meant for.
     fn part_side(&mut self, kind: Kind, side: u32) -> u32 {
+        let blade = self.sheet().blade();
+        if blade > 0 && self.rng.chance(40) {
+            return self.side_by_blade(side, blade);
+        }
         let equal = if kind == Kind::Exact { 60 } else { 30 };
         let side = match self.rng.between(0, 99) {
             chance if chance < equal => side,
@@ -282,8 +311,18 @@ impl Generator {
         side.clamp(1, GREATEST_SIDE)
     }
 
+    /// A side for a part that leaves about what the blade eats, or leaves room for more parts beside it.
+    fn side_by_blade(&mut self, side: u32, blade: u8) -> u32 {
+        let side = match self.rng.between(0, 2) {
+            0 => side.saturating_sub(self.rng.between(0, 1 + u32::from(blade))),
+            1 => side.saturating_sub(blade.into()),
+            _ => side / self.rng.between(2, 4),
+        };
+        side.max(1)
+    }
+
     fn offers(&self, piece: &Piece, part: &Part) -> Vec<Offer> {
-        self.sheet().offers(piece.key, &part.parttype()).into_iter().map(|(offer, _)| offer).collect()
+        self.sheet().offers(piece.mark, part)
     }
 
     fn some_offer(&mut self) -> Offer {
@@ -326,7 +365,7 @@ impl Generator {
     }
 
     fn top(&self) -> Mark {
-        self.sheet().marks().of(*self.sheet().layout().top_node_index())
+        self.sheet().tree().piece.mark
     }
 
     /// A part that leaves most of a great piece free, often along or across its cut, often turned.

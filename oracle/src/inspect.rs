@@ -1,16 +1,15 @@
 //! The lines of the program `inspect`: the answer to a frame, and then what frames don't show.
 //!
-//! Eight fields, one space apart: answer, tree snapshot, free list, removable list, figures, part numbers by place, room light, saw cuts.
-//! An empty or missing field is '-'; all but the answer and the light are missing until a layout was opened.
+//! Nine fields, one space apart: answer, tree snapshot, free list, removable list, figures, part numbers by place, room light, saw cuts, amounts
+//! of the cuts. An empty or missing field is '-'; all but the answer and the light are missing until a layout was opened.
 
-use crate::core::entities::node::NodeKey;
 use crate::frame::{hexadecimal, Mark, Part};
 use crate::session::{bytes_of, Reply, Session};
 use crate::sheet::Sheet;
 
 /// The names of the fields, in their order.
-pub const FIELDS: [&str; 8] =
-    ["answer", "snapshot", "free list", "removable list", "figures", "part numbers", "light", "saw cuts"];
+pub const FIELDS: [&str; 9] =
+    ["answer", "snapshot", "free list", "removable list", "figures", "part numbers", "light", "saw cuts", "amounts"];
 
 /// The line for a reply, in the state that the session has after it.
 pub fn line(session: &Session, reply: &Reply) -> String {
@@ -19,7 +18,8 @@ pub fn line(session: &Session, reply: &Reply) -> String {
     let mut fields = vec![reply.answer.clone()];
     fields.extend(state.iter().map(|bytes| hexadecimal(bytes)));
     fields.push(hexadecimal(&light.unwrap_or_default()));
-    fields.push(hexadecimal(&session.sheet().map_or_else(Vec::new, cuts_field)));
+    let cuts = session.sheet().map_or_else(Default::default, cuts_fields);
+    fields.extend(cuts.iter().map(|bytes| hexadecimal(bytes)));
     for field in &mut fields {
         if field.is_empty() {
             field.push('-');
@@ -30,19 +30,14 @@ pub fn line(session: &Session, reply: &Reply) -> String {
 
 fn state_fields(sheet: &Sheet) -> [Vec<u8>; 5] {
     let figures = sheet.figures();
-    let figures = [figures.used_area, figures.free_area, figures.sheet_usage, figures.tree_usage];
+    let figures = [figures.used_area, figures.free_area, figures.sheet_usage, figures.tree_usage, figures.eaten_area];
     [
         sheet.snapshot(),
-        marks_field(sheet, &sheet.free_list()),
-        marks_field(sheet, sheet.removable_list()),
+        bytes_of(&sheet.free_list()),
+        bytes_of(&sheet.removable_list()),
         figures.iter().flat_map(|figure| figure.to_be_bytes()).collect(),
         sheet.part_numbers().into_iter().flat_map(u16::to_be_bytes).collect(),
     ]
-}
-
-fn marks_field(sheet: &Sheet, keys: &[NodeKey]) -> Vec<u8> {
-    let marks: Vec<_> = keys.iter().map(|key| sheet.marks().of(*key)).collect();
-    bytes_of(&marks)
 }
 
 fn light_field(session: &Session, part: &Part) -> Vec<u8> {
@@ -53,10 +48,12 @@ fn light_field(session: &Session, part: &Part) -> Vec<u8> {
     }
 }
 
-fn cuts_field(sheet: &Sheet) -> Vec<u8> {
-    let mut bytes = Vec::new();
-    for cut in sheet.cuts() {
-        cut.write(&mut bytes);
+/// The list of cuts, and beside it what the blade eats with each.
+fn cuts_fields(sheet: &Sheet) -> [Vec<u8>; 2] {
+    let cuts = sheet.cuts();
+    let mut list = Vec::new();
+    for cut in &cuts {
+        cut.write(&mut list);
     }
-    bytes
+    [list, cuts.iter().map(|cut| cut.amount).collect()]
 }

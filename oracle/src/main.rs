@@ -1,4 +1,5 @@
-//! The Rust as judge: its own layout code, compiled unchanged, answering counter frames as our programs will.
+//! The Rust as judge: its own layout code, compiled unchanged, answering counter frames as our programs do; and beside it a model, which is the
+//! judge where a blade eats something.
 
 #[cfg(feature = "bench")]
 mod bench;
@@ -15,6 +16,7 @@ mod session;
 mod sheet;
 #[cfg(test)]
 mod tests;
+mod tree;
 
 // The Rust's own modules `core`, `optimization` and `util`, with our stubs among them.
 include!(concat!(env!("OUT_DIR"), "/rust.rs"));
@@ -26,21 +28,24 @@ use std::process::ExitCode;
 
 use coverage::Coverage;
 use session::Session;
+use sheet::Sheet;
 
 const USAGE: &str = "usage:
   oracle run [--counter]                     answer the frames on standard input as inspect (or counter) does
+  oracle run --judges                        say who judges each of them: rust (with the model beside it), model, or none before an opening
   oracle check [--counter] FRAMES ANSWERS    replay recorded frames and report every answer that differs
-  oracle gen SEED SESSIONS [KIND]            write the frames of random sessions
+  oracle gen SEED SESSIONS [KIND]            write the frames of random sessions; more SESSIONS KIND may follow
   oracle offers SEED COUNT                   write records of what a free piece offers
   oracle blocks SEED COUNT                   write records of the nodes that a shape makes
   oracle coverage FRAMES...                  count what recorded frames reach; fails if something is never reached
   oracle differences                         show by running where the Rust and document 01 differ";
 
-/// What is printed for a line: as `inspect` does, or the answer alone, as `counter` does.
+/// What is printed for a line: as `inspect` does; or the answer alone, as `counter` does; or who judges the sheet that is there after it.
 #[derive(Clone, Copy)]
 enum View {
     Inspect,
     Counter,
+    Judges,
 }
 
 impl View {
@@ -50,6 +55,7 @@ impl View {
         match self {
             View::Inspect => inspect::line(session, &reply),
             View::Counter => reply.answer,
+            View::Judges => session.sheet().map_or("none", Sheet::judge).to_string(),
         }
     }
 }
@@ -72,10 +78,11 @@ fn command(words: &[&str]) -> Result<bool, String> {
     match words {
         ["run"] => run(View::Inspect),
         ["run", "--counter"] => run(View::Counter),
+        ["run", "--judges"] => run(View::Judges),
         ["check", frames, answers] => check(View::Inspect, frames, answers),
         ["check", "--counter", frames, answers] => check(View::Counter, frames, answers),
-        ["gen", seed, sessions] => gen(seed, sessions, "mixed"),
-        ["gen", seed, sessions, kind] => gen(seed, sessions, kind),
+        ["gen", seed, sessions] => gen(seed, &[sessions, "mixed"]),
+        ["gen", seed, asked @ ..] if !asked.is_empty() && asked.len() % 2 == 0 => gen(seed, asked),
         ["offers", seed, count] => {
             records::offers(number(seed)?, number(count)?);
             Ok(true)
@@ -135,8 +142,10 @@ fn run(view: View) -> Result<bool, String> {
     Ok(true)
 }
 
-fn gen(seed: &str, sessions: &str, kind: &str) -> Result<bool, String> {
-    let lines = generate::lines(number(seed)?, number(sessions)?, kind)?;
+/// Writes the frames of what is asked for: numbers of sessions, each with its kind behind it.
+fn gen(seed: &str, asked: &[&str]) -> Result<bool, String> {
+    let asked: Result<Vec<_>, String> = asked.chunks(2).map(|pair| Ok((number(pair[0])?, pair[1]))).collect();
+    let lines = generate::lines(number(seed)?, &asked?)?;
     let mut out = BufWriter::new(io::stdout().lock());
     for line in lines {
         writeln!(out, "{line}").map_err(words_of)?;
@@ -174,7 +183,7 @@ fn first_difference(ours: &str, theirs: &str) -> String {
     for name in inspect::FIELDS {
         let (mine, other) = (ours.next(), theirs.next());
         if mine != other {
-            return format!("{name}: the Rust gives {}, recorded {}", mine.unwrap_or("nothing"), other.unwrap_or("nothing"));
+            return format!("{name}: the judge gives {}, recorded {}", mine.unwrap_or("nothing"), other.unwrap_or("nothing"));
         }
     }
     "more fields than there are, or no newline".to_string()

@@ -55,9 +55,9 @@ impl Marks {
         self.marks.insert(key, Mark { layout: self.layout, place: place as u8, serial: self.last });
     }
 
-    /// The marks after a restore of `snapshot`: its own, but the last serial is the greater of the two.
-    pub fn restored(&self, snapshot: &Self) -> Self {
-        Marks { last: self.last.max(snapshot.last), ..snapshot.clone() }
+    /// The marks of a snapshot once it is restored: serials go on from the last that was issued, there or since.
+    pub fn restored(&self, last: u32) -> Self {
+        Marks { last, ..self.clone() }
     }
 
     pub fn of(&self, key: NodeKey) -> Mark {

@@ -1,13 +1,11 @@
-//! The list of saw cuts and the simple saw that it is for (document 02, change request 3), over the Rust's own nodes. The Rust has neither.
+//! The list of saw cuts and the simple saw that it is for (document 02, change requests 3 and 4). The Rust has neither.
 //!
 //! Ours go down the tree call by call. Here the boards that are to be cut wait on a stack, the first of the pile on top, and the place of
 //! the next cut is the number of boards that are done: they all lie before it.
 
-use crate::core::entities::layout::Layout;
-use crate::core::entities::node::{Node, NodeKey};
 use crate::core::orientation::Orientation;
 use crate::frame::cut_number;
-use crate::marks::tree_order;
+use crate::tree::{Node, Piece};
 
 /// What a cut says of siblings that are left together.
 pub const SEVERAL: u8 = 3;
@@ -20,8 +18,10 @@ pub struct Cut {
     pub distance: u32,
     /// The kind of what is cut off, as in snapshots.
     pub piece: u8,
-    /// The kind of what is left, or `SEVERAL`.
+    /// The kind of what is left, or `SEVERAL` if that is cut again.
     pub left: u8,
+    /// How much the blade eats behind the piece that is cut off. It stands beside the list, not in it.
+    pub amount: u8,
 }
 
 impl Cut {
@@ -35,21 +35,21 @@ impl Cut {
 
 #[derive(Clone, Copy, Debug, PartialEq, Eq)]
 pub struct Rectangle {
-    pub width: u64,
-    pub height: u64,
+    pub width: u32,
+    pub height: u32,
 }
 
 impl Rectangle {
-    fn of(node: &Node) -> Self {
-        Rectangle { width: node.width(), height: node.height() }
+    pub fn of(piece: &Piece) -> Self {
+        Rectangle { width: piece.width, height: piece.height }
     }
 
-    fn area(self) -> u64 {
-        self.width * self.height
+    fn has_area(self) -> bool {
+        self.width > 0 && self.height > 0
     }
 
     /// The side that a cut of this way divides.
-    fn side(self, way: Orientation) -> u64 {
+    fn side(self, way: Orientation) -> u32 {
         match way {
             Orientation::Horizontal => self.height,
             Orientation::Vertical => self.width,
@@ -57,7 +57,7 @@ impl Rectangle {
     }
 
     /// As much of it as has this side.
-    fn slice(self, way: Orientation, side: u64) -> Self {
+    fn slice(self, way: Orientation, side: u32) -> Self {
         match way {
             Orientation::Horizontal => Rectangle { height: side, ..self },
             Orientation::Vertical => Rectangle { width: side, ..self },
@@ -66,72 +66,68 @@ impl Rectangle {
 }
 
 /// A board that is to be cut: neighbours that hang together still, under a cut of this way.
-struct Board {
+struct Board<'a> {
     way: Orientation,
-    pieces: Vec<NodeKey>,
+    pieces: &'a [Node],
 }
 
-/// The cuts of a layout, in order.
-pub fn cuts(layout: &Layout) -> Vec<Cut> {
-    let node = |key: NodeKey| &layout.nodes()[key];
-    let kind = |key: NodeKey| match (node(key).parttype(), node(key).has_children()) {
-        (Some(_), _) => 1,
-        (None, true) => 2,
-        (None, false) => 0,
-    };
-    let inside = |key: NodeKey| Board {
-        way: node(key).next_cut_orient(),
-        pieces: node(key).children(layout.nodes()).filter(|child| !is_left_out(node(*child))).collect(),
-    };
+impl<'a> Board<'a> {
+    fn inside(node: &'a Node) -> Self {
+        Board { way: node.piece.cut, pieces: &node.children }
+    }
+}
 
+/// The cuts of a sheet, in order.
+pub fn cuts(top: &Node) -> Vec<Cut> {
     let mut cuts = Vec::new();
     let mut done = 0;
-    let mut ahead = vec![inside(*layout.top_node_index())];
+    let mut ahead = vec![Board::inside(top)];
     while let Some(Board { way, pieces }) = ahead.pop() {
-        match pieces[..] {
-            [] => panic!("a structure has a piece with area"),
-            [piece] if node(piece).has_children() => ahead.push(inside(piece)),
-            [_] => done += 1,
-            [piece, ref rest @ ..] => {
-                let distance = Rectangle::of(node(piece)).side(way);
-                cuts.push(Cut {
-                    place: done,
-                    way,
-                    distance: u32::try_from(distance).expect("sides come from frames"),
-                    piece: kind(piece),
-                    left: if let [only] = *rest { kind(only) } else { SEVERAL },
-                });
-                ahead.push(Board { way, pieces: rest.to_vec() });
-                ahead.push(Board { way, pieces: vec![piece] });
-            }
+        let Some((first, rest)) = pieces.split_first() else {
+            panic!("a structure has a piece");
+        };
+        if is_cut(pieces) {
+            let distance = first.piece.side(way);
+            let left = if is_cut(rest) { SEVERAL } else { rest[0].piece.kind };
+            cuts.push(Cut { place: done, way, distance, piece: first.piece.kind, left, amount: first.piece.eaten });
+            ahead.push(Board { way, pieces: rest });
+            ahead.push(Board { way, pieces: &pieces[..1] });
+        } else if !first.children.is_empty() {
+            ahead.push(Board::inside(first));
+        } else if !first.piece.is_nothing() {
+            done += 1;
         }
     }
     cuts
 }
 
-/// Whether no cut is made for a node: it is a free piece of area 0.
-pub fn is_left_out(node: &Node) -> bool {
-    node.is_empty() && node.area() == 0
+/// Whether the first of these neighbours is cut off. It is whole already where nothing is behind it, and nothing was eaten there.
+fn is_cut(pieces: &[Node]) -> bool {
+    match pieces {
+        [] | [_] => false,
+        [first, offcut] if offcut.piece.is_nothing() => first.piece.eaten > 0,
+        [..] => true,
+    }
 }
 
 /// What the saw has to make: the parts and the free pieces with area, in tree order.
-pub fn boards(layout: &Layout) -> Vec<Rectangle> {
-    let nodes = tree_order(layout).into_iter().map(|key| &layout.nodes()[key]);
-    nodes.filter(|node| !node.has_children() && !is_left_out(node)).map(Rectangle::of).collect()
+pub fn boards(top: &Node) -> Vec<Rectangle> {
+    let nodes = top.in_order().into_iter().filter(|node| node.children.is_empty() && !node.piece.is_nothing());
+    nodes.map(|node| Rectangle::of(&node.piece)).collect()
 }
 
 /// The simple saw: the pile after these cuts of a sheet, or what it can't do.
 pub fn saw(sheet: Rectangle, cuts: &[Cut]) -> Result<Vec<Rectangle>, String> {
     let mut pile = vec![sheet];
     for cut in cuts {
-        let (place, distance) = (usize::from(cut.place), u64::from(cut.distance));
+        let (place, amount) = (usize::from(cut.place), u32::from(cut.amount));
         let piece = *pile.get(place).ok_or_else(|| format!("no piece there: {cut:?}"))?;
-        let side = piece.side(cut.way);
-        if !(1..=side).contains(&distance) {
+        let left = piece.side(cut.way).checked_sub(cut.distance).and_then(|rest| rest.checked_sub(amount));
+        let Some(left) = left.filter(|_| cut.distance > 0) else {
             return Err(format!("not within {piece:?}: {cut:?}"));
-        }
-        let halves = [distance, side - distance].map(|side| piece.slice(cut.way, side));
-        pile.splice(place..=place, halves.into_iter().filter(|half| half.area() > 0));
+        };
+        let halves = [cut.distance, left].map(|side| piece.slice(cut.way, side));
+        pile.splice(place..=place, halves.into_iter().filter(|half| half.has_area()));
     }
     Ok(pile)
 }

@@ -2,11 +2,10 @@
 //!
 //! The refusals, which the Rust does not have, are tested in document 01's order ("What a call says no with"), each op's as far as they concern it.
 
-use crate::core::entities::node::NodeKey;
-use crate::core::orientation::Orientation;
-use crate::frame::{self, Mark, Offer, Part, Request, GREATEST_SIDE};
+use crate::frame::{self, Mark, Offer, Opening, Part, Request};
 use crate::marks::{LAST_SERIAL, PLACES};
 use crate::sheet::Sheet;
+use crate::tree::Piece;
 
 /// The numbers of document 01's refusals.
 pub mod refusal {
@@ -55,7 +54,7 @@ impl Session {
 
     fn call(&mut self, request: &Request) -> Outcome {
         match *request {
-            Request::Open { layout, width, height, cut, stages } => self.open(layout, width, height, cut, stages),
+            Request::Open(opening) => self.open(opening),
             Request::Offers { mark, part } => self.offers(mark, &part),
             Request::Insert { mark, part, offer } => self.insert(mark, &part, offer),
             Request::Remove { mark } => self.remove(mark),
@@ -69,37 +68,35 @@ impl Session {
         self.sheet.as_ref().ok_or(refusal::NOT_SOUND)
     }
 
-    fn open(&mut self, layout: u16, width: u32, height: u32, cut: Orientation, stages: u8) -> Outcome {
-        let sides_in_domain = [width, height].iter().all(|side| (1..=GREATEST_SIDE).contains(side));
-        if !sides_in_domain || !(1..=254).contains(&stages) {
+    fn open(&mut self, opening: Opening) -> Outcome {
+        if !opening.in_domain() {
             return Err(refusal::OPENING);
         }
-        let sheet = Sheet::open(layout, width, height, cut, stages);
-        let free = sheet.marks().of(sheet.free_list()[0]);
+        let sheet = Sheet::open(opening);
+        let free = sheet.free_list()[0];
         self.sheet = Some(sheet);
         Ok(bytes_of(&[free]))
     }
 
     fn offers(&self, mark: Mark, part: &Part) -> Outcome {
         let sheet = self.opened()?;
-        let piece = free_piece(sheet, mark, part)?;
-        let part = part.parttype();
-        let offers = sheet.offers(piece, &part);
+        free_piece(sheet, mark, part)?;
+        let offers = sheet.offers(mark, part);
         let mut given = vec![offers.len() as u8];
-        given.extend(offers.iter().flat_map(|(offer, _)| [offer.rotation, offer.shape]));
+        given.extend(offers.iter().flat_map(|offer| [offer.rotation, offer.shape]));
         Ok(given)
     }
 
     fn insert(&mut self, mark: Mark, part: &Part, offer: Offer) -> Outcome {
         let sheet = self.opened()?;
-        let piece = free_piece(sheet, mark, part)?;
-        let new = nodes_of_offer(sheet, piece, part, offer).ok_or(refusal::NOT_OFFERED)?;
-        if sheet.marks().held() - 1 + new > PLACES {
+        free_piece(sheet, mark, part)?;
+        let new = sheet.nodes_made(mark, part, offer).ok_or(refusal::NOT_OFFERED)?;
+        if sheet.held() - 1 + new > PLACES {
             return Err(refusal::TABLE_FULL);
         }
         serials_left(sheet, new)?;
 
-        let inserted = self.sheet_mut().insert(piece, part, offer);
+        let inserted = self.sheet_mut().insert(mark, part, offer);
         let mut given = bytes_of(&[inserted.first, inserted.part]);
         given.push(inserted.free.len() as u8);
         given.extend(bytes_of(&inserted.free));
@@ -108,16 +105,16 @@ impl Session {
 
     fn remove(&mut self, mark: Mark) -> Outcome {
         let sheet = self.opened()?;
-        let key = find(sheet, mark)?;
-        if key == *sheet.layout().top_node_index() {
+        let piece = find(sheet, mark)?;
+        if piece.level == 0 {
             return Err(refusal::TOP);
         }
-        if sheet.node(key).is_empty() {
+        if piece.is_free() {
             return Err(refusal::FREE_PIECE);
         }
         serials_left(sheet, 1)?;
 
-        let (free, numbers) = self.sheet_mut().remove(key);
+        let (free, numbers) = self.sheet_mut().remove(mark);
         let mut given = bytes_of(&[free]);
         given.push(numbers.len() as u8);
         given.extend(numbers.into_iter().flat_map(u16::to_be_bytes));
@@ -143,7 +140,7 @@ impl Session {
         let sheet = self.opened()?;
         let figures = sheet.figures();
         let mut given = figures.used_area.to_be_bytes().to_vec();
-        given.push(sheet.marks().held() as u8);
+        given.push(sheet.held() as u8);
         given.extend(figures.sheet_usage.to_be_bytes());
         Ok(given)
     }
@@ -163,35 +160,26 @@ impl Session {
 }
 
 /// The node that a mark names: refusals 4 and 5.
-fn find(sheet: &Sheet, mark: Mark) -> Result<NodeKey, u8> {
+fn find(sheet: &Sheet, mark: Mark) -> Result<Piece, u8> {
     if mark.layout != sheet.number() {
         return Err(refusal::OTHER_LAYOUT);
     }
-    sheet.marks().find(mark).ok_or(refusal::GONE)
+    sheet.find(mark).ok_or(refusal::GONE)
 }
 
-/// The free piece that a mark names for a part: refusals 3 to 6.
-fn free_piece(sheet: &Sheet, mark: Mark, part: &Part) -> Result<NodeKey, u8> {
+/// Whether a mark names a free piece for a part: refusals 3 to 6.
+fn free_piece(sheet: &Sheet, mark: Mark, part: &Part) -> Result<(), u8> {
     if !part.in_domain() {
         return Err(refusal::PART_SIDE);
     }
-    let key = find(sheet, mark)?;
-    if !sheet.node(key).is_empty() {
+    if !find(sheet, mark)?.is_free() {
         return Err(refusal::NOT_FREE);
     }
-    Ok(key)
-}
-
-/// How many nodes an offer creates; none if it isn't made.
-fn nodes_of_offer(sheet: &Sheet, piece: NodeKey, part: &Part, offer: Offer) -> Option<usize> {
-    let part = part.parttype();
-    let offers = sheet.offers(piece, &part);
-    let (_, blueprint) = offers.iter().find(|(listed, _)| *listed == offer)?;
-    Some(sheet.nodes_made(blueprint))
+    Ok(())
 }
 
 fn serials_left(sheet: &Sheet, new: usize) -> Result<(), u8> {
-    if sheet.marks().last() as usize + new > LAST_SERIAL as usize {
+    if sheet.last_serial() as usize + new > LAST_SERIAL as usize {
         return Err(refusal::SERIALS_SPENT);
     }
     Ok(())

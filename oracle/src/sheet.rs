@@ -1,36 +1,25 @@
-//! One open sheet: a layout of the Rust, with the marks that our model gives its nodes.
-//!
-//! All content comes from the Rust's own calls. Where a fact can be had from the Rust in two ways, both are asked and must agree.
+//! One open sheet, as a session sees it, and who judges it: at blade width 0 the Rust and the model, at other widths, which the Rust doesn't know, the
+//! model alone. Every question is put to all judges of the sheet, and the driver stops where they differ.
 
-use crate::core::entities::layout::Layout;
-use crate::core::entities::node::{Node, NodeKey};
-use crate::core::entities::parttype::PartType;
-use crate::core::entities::sheettype::SheetType;
-use crate::core::insertion::insertion_blueprint::{InsertionBlueprint, InsertionShape};
-use crate::core::insertion::insertion_option::InsertionOption;
-use crate::core::insertion::node_blueprint::NodeBlueprint;
-use crate::core::orientation::Orientation;
-use crate::core::rotation::Rotation;
-use crate::frame::{cut_number, Mark, Offer, Part};
-use crate::marks::{tree_order, Marks};
-use crate::optimization::problem::Problem;
-use crate::optimization::rr::cache_updates::IOCUpdates;
+mod model;
+mod rust;
+
+use std::fmt::Debug;
+
+use crate::frame::{Mark, Offer, Opening, Part};
 use crate::saw::{self, Cut, Rectangle};
+use crate::tree::{Node, Piece};
+use model::Model;
+#[cfg(feature = "bench")]
+pub use rust::LEFTOVER_POWER;
+pub use rust::{offers_of_node, RustSheet};
 
-/// Costs are not compared: any power does.
-pub const LEFTOVER_POWER: f32 = 1.0;
-
-/// Whether blueprints are compared with what they have to be. The benchmark leaves that out: it takes longer than the call.
+/// Whether the model judges beside the Rust, and blueprints are compared with what they have to be. The benchmark leaves that out: it takes longer
+/// than the call.
 const JUDGED: bool = !cfg!(feature = "bench");
 
-#[derive(Clone)]
-pub struct Sheet {
-    number: u16,
-    problem: Problem<'static>,
-    marks: Marks,
-}
-
 /// What an insertion made: its nodes, all in the order of creation.
+#[derive(Debug, PartialEq, Eq)]
 pub struct Inserted {
     pub first: Mark,
     pub part: Mark,
@@ -38,220 +27,202 @@ pub struct Inserted {
 }
 
 /// The figures of a sheet; the usages as the bits of their f64.
+#[derive(Debug, PartialEq, Eq)]
 pub struct Figures {
     pub used_area: u64,
     pub free_area: u64,
+    pub eaten_area: u64,
     pub sheet_usage: u64,
     pub tree_usage: u64,
 }
 
+/// Who keeps a sheet and answers for it. All is said in marks.
+pub trait Judge {
+    /// How many nodes there are.
+    fn held(&self) -> usize;
+
+    fn last_serial(&self) -> u32;
+
+    /// The node that bears exactly this mark.
+    fn find(&self, mark: Mark) -> Option<Piece>;
+
+    fn tree(&self) -> Node;
+
+    /// The free pieces, greatest area first, equal areas by rising serial.
+    fn free_list(&self) -> Vec<Mark>;
+
+    /// The parts and structures.
+    fn removable_list(&self) -> Vec<Mark>;
+
+    fn figures(&self) -> Figures;
+
+    /// The numbers of the parts held, by place.
+    fn part_numbers(&self) -> Vec<u16>;
+
+    /// The tree snapshot: 14 bytes a node, in tree order.
+    fn snapshot(&self) -> Vec<u8>;
+
+    /// What a free piece offers a part.
+    fn offers(&self, piece: Mark, part: &Part) -> Vec<Offer>;
+
+    /// How many nodes an offer creates; none if it isn't made.
+    fn nodes_made(&self, piece: Mark, part: &Part, offer: Offer) -> Option<usize>;
+
+    /// Whether a part lies within the sides of a free piece, in a rotation that it allows.
+    fn fits(&self, piece: Mark, part: &Part) -> bool;
+
+    /// Carries an offer out.
+    fn insert(&mut self, piece: Mark, part: &Part, offer: Offer) -> Inserted;
+
+    /// Removes a part or a structure; gives the new free piece and the part numbers that came out.
+    fn remove(&mut self, mark: Mark) -> (Mark, Vec<u16>);
+}
+
+#[derive(Clone)]
+pub struct Sheet {
+    opening: Opening,
+    /// At blade width 0.
+    rust: Option<RustSheet>,
+    /// Always, but in the benchmark only where there is no Rust.
+    model: Option<Model>,
+}
+
 impl Sheet {
-    /// Opens a sheet. The Rust borrows its sheet types; this one stays for as long as the program runs.
-    pub fn open(number: u16, width: u32, height: u32, cut: Orientation, stages: u8) -> Self {
-        let kind = SheetType::new(0, width.into(), height.into(), 0, None, stages);
-        let layout = Layout::new(number.into(), Box::leak(Box::new(kind)), cut, LEFTOVER_POWER);
-        let marks = Marks::of_opening(number, &layout);
-        Sheet { number, problem: Problem::of(layout), marks }
+    pub fn open(opening: Opening) -> Self {
+        let rust = (opening.blade == 0).then(|| RustSheet::open(&opening));
+        let model = (JUDGED || rust.is_none()).then(|| Model::open(opening));
+        Sheet { opening, rust, model }
+    }
+
+    /// The kept sheet's state, its blade's width with it, except that the last serial issued is the greater of the two.
+    pub fn restore(&mut self, kept: &Self) {
+        let last = self.last_serial().max(kept.last_serial());
+        let own = self.rust.take();
+        self.rust = kept.rust.as_ref().map(|kept| {
+            let mut sheet = own.unwrap_or_else(|| kept.clone());
+            sheet.restore(kept, last);
+            sheet
+        });
+        self.model = kept.model.as_ref().map(|kept| kept.restored(last));
+        self.opening = kept.opening;
     }
 
     pub fn number(&self) -> u16 {
-        self.number
+        self.opening.layout
     }
 
-    pub fn layout(&self) -> &Layout<'static> {
-        self.problem.only()
+    pub fn blade(&self) -> u8 {
+        self.opening.blade
     }
 
-    pub fn marks(&self) -> &Marks {
-        &self.marks
+    /// The name of the judge: the Rust where it has a say.
+    pub fn judge(&self) -> &'static str {
+        self.rust.as_ref().map_or("model", |_| "rust")
     }
 
-    pub fn node(&self, key: NodeKey) -> &Node<'static> {
-        &self.layout().nodes()[key]
+    /// The layout of the Rust, where it judges this sheet.
+    #[cfg(feature = "bench")]
+    pub fn rust(&self) -> Option<&RustSheet> {
+        self.rust.as_ref()
     }
 
-    /// The blueprints that the Rust offers for a part in a free piece, with what each stands for.
-    ///
-    /// The Rust tests whether a part fits only where both rotations are open, so a fixed one is tested here first.
-    pub fn offers<'p>(&self, piece: NodeKey, part: &'p PartType) -> Vec<(Offer, InsertionBlueprint<'p>)> {
-        let offers = offers_of_node(self.node(piece), part, self.layout().sheettype().max_stages);
-        let mut blueprints = Vec::new();
-        if !offers.is_empty() {
-            let option = InsertionOption::new(self.problem.index(), piece, part, part.fixed_rotation());
-            option.append_blueprints(&self.problem, &mut blueprints);
-        }
-        assert_eq!(offers.len(), blueprints.len(), "as many blueprints as shapes");
-        for ((rotation, shape), blueprint) in offers.iter().zip(&blueprints).filter(|_| JUDGED) {
-            let expected = self.blueprint(piece, part, *rotation, *shape);
-            assert_eq!(format!("{blueprint:?}"), format!("{expected:?}"), "a blueprint is for its rotation and shape");
-        }
-        let offers = offers.into_iter().map(|(rotation, shape)| Offer::of(rotation, shape));
-        offers.zip(blueprints).collect()
+    /// Puts a question to every judge, the Rust first. They have to agree.
+    fn ask<T: Debug + PartialEq>(&self, question: impl Fn(&dyn Judge) -> T) -> T {
+        let rust = self.rust.as_ref().map(|rust| question(rust));
+        let model = self.model.as_ref().map(|model| question(model));
+        agreed(rust, model)
     }
 
-    fn blueprint<'p>(
-        &self,
-        piece: NodeKey,
-        part: &'p PartType,
-        rotation: Rotation,
-        shape: InsertionShape,
-    ) -> InsertionBlueprint<'p> {
-        InsertionBlueprint::new(self.problem.index(), piece, shape, rotation, part, self.node(piece), LEFTOVER_POWER)
+    /// Has every judge carry out a call. They have to agree on what came out.
+    fn tell<T: Debug + PartialEq>(&mut self, call: impl Fn(&mut dyn Judge) -> T) -> T {
+        let rust = self.rust.as_mut().map(|rust| call(rust));
+        let model = self.model.as_mut().map(|model| call(model));
+        agreed(rust, model)
     }
 
-    /// How many nodes the insertion of this blueprint creates.
-    pub fn nodes_made(&self, blueprint: &InsertionBlueprint) -> usize {
-        blueprint.nodes(self.node(*blueprint.original_node_index())).iter().flatten().count()
+    pub fn held(&self) -> usize {
+        self.ask(|judge| judge.held())
     }
 
-    /// Carries an offer out. The Rust borrows its part types; this one stays for as long as the program runs.
-    pub fn insert(&mut self, piece: NodeKey, part: &Part, offer: Offer) -> Inserted {
-        let part: &'static PartType = Box::leak(Box::new(part.parttype()));
-        let offers = self.offers(piece, part);
-        let (_, blueprint) = offers.into_iter().find(|(listed, _)| *listed == offer).expect("an offer that is listed");
-
-        let mut updates = IOCUpdates::new(self.problem.index(), piece);
-        self.problem.only_mut().implement_insertion_blueprint(&blueprint, &mut updates);
-
-        let new = self.marks.follow(self.problem.only());
-        let free: Vec<NodeKey> = new.iter().copied().filter(|key| self.node(*key).is_empty()).collect();
-        assert!(updates.new_empty_nodes().eq(&free), "the Rust lists the new free pieces in this order");
-        let part = new.iter().copied().find(|key| self.node(*key).parttype().is_some()).expect("a part was inserted");
-        Inserted {
-            first: self.marks.of(new[0]),
-            part: self.marks.of(part),
-            free: free.into_iter().map(|key| self.marks.of(key)).collect(),
-        }
+    pub fn last_serial(&self) -> u32 {
+        self.ask(|judge| judge.last_serial())
     }
 
-    /// Removes a part or a structure; gives the new free piece and the part numbers that came out.
-    pub fn remove(&mut self, key: NodeKey) -> (Mark, Vec<u16>) {
-        let numbers = self.problem.only_mut().remove_node(key);
-        let new = self.marks.follow(self.problem.only());
-        assert_eq!(new.len(), 1, "a removal creates one node");
-        (self.marks.of(new[0]), numbers.into_iter().map(number_of).collect())
+    pub fn find(&self, mark: Mark) -> Option<Piece> {
+        self.ask(|judge| judge.find(mark))
     }
 
-    pub fn restore(&mut self, snapshot: &Self) {
-        self.problem.only_mut().restore_from(snapshot.layout());
-        self.marks = self.marks.restored(&snapshot.marks);
+    pub fn tree(&self) -> Node {
+        self.ask(|judge| judge.tree())
     }
 
-    /// The free pieces, greatest area first, equal areas by rising serial. The Rust leaves the order of equal areas open.
-    pub fn free_list(&self) -> Vec<NodeKey> {
-        let area = |key: &NodeKey| self.node(*key).area();
-        let rust = self.layout().sorted_empty_nodes();
-        let mut list: Vec<NodeKey> = self.marks.by_place().filter(|key| self.node(*key).is_empty()).collect();
-        list.sort_by_key(|key| (std::cmp::Reverse(area(key)), self.marks.of(*key).serial));
-        assert!(list.iter().map(area).eq(rust.iter().map(area)), "the Rust's list has the same areas in order");
-        assert!(list.iter().all(|key| rust.contains(key)), "the Rust's list has the same pieces");
-        list
+    pub fn free_list(&self) -> Vec<Mark> {
+        self.ask(|judge| judge.free_list())
     }
 
-    /// The parts and structures, in the Rust's order.
-    pub fn removable_list(&self) -> &[NodeKey] {
-        self.layout().removable_nodes()
+    pub fn removable_list(&self) -> Vec<Mark> {
+        self.ask(|judge| judge.removable_list())
     }
 
     pub fn figures(&self) -> Figures {
-        let used_area = self.parts().map(PartType::area).sum::<u64>();
-        let sheet_usage = self.layout().usage();
-        let sheet_area = self.layout().sheettype().area();
-        assert_eq!(used_area as f64 / sheet_area as f64, sheet_usage, "the Rust's own used area is this one");
-        Figures {
-            used_area,
-            free_area: self.layout().sorted_empty_nodes().iter().map(|key| self.node(*key).area()).sum(),
-            sheet_usage: sheet_usage.to_bits(),
-            tree_usage: self.blueprint_of_tree().calculate_usage().to_bits(),
-        }
+        self.ask(|judge| judge.figures())
     }
 
-    /// The numbers of the parts held, by place. The Rust gives them in an order of its own.
     pub fn part_numbers(&self) -> Vec<u16> {
-        let numbers: Vec<u16> = self.parts().map(|part| number_of(part.id())).collect();
-        let mut rust: Vec<u16> = self.layout().included_part_ids().into_iter().map(number_of).collect();
-        let mut ours = numbers.clone();
-        rust.sort_unstable();
-        ours.sort_unstable();
-        assert_eq!(ours, rust, "the Rust holds the same part numbers");
-        numbers
+        self.ask(|judge| judge.part_numbers())
     }
 
-    fn parts(&self) -> impl Iterator<Item = &PartType> {
-        self.marks.by_place().filter_map(|key| *self.node(key).parttype())
-    }
-
-    /// The tree snapshot: 13 bytes a node, in tree order. The Rust's own snapshot has no levels: the nodes give them.
     pub fn snapshot(&self) -> Vec<u8> {
-        let mut bytes = Vec::new();
-        let mut levels = tree_order(self.layout()).into_iter().map(|key| self.node(key).level());
-        write_tree(&self.blueprint_of_tree(), &mut levels, &mut bytes);
-        assert_eq!(levels.next(), None, "the Rust's snapshot has every node");
-        bytes
+        self.ask(|judge| judge.snapshot())
     }
 
-    fn blueprint_of_tree(&self) -> NodeBlueprint {
-        NodeBlueprint::from_node(*self.layout().top_node_index(), self.layout().nodes())
+    pub fn offers(&self, piece: Mark, part: &Part) -> Vec<Offer> {
+        self.ask(|judge| judge.offers(piece, part))
+    }
+
+    pub fn nodes_made(&self, piece: Mark, part: &Part, offer: Offer) -> Option<usize> {
+        self.ask(|judge| judge.nodes_made(piece, part, offer))
+    }
+
+    pub fn insert(&mut self, piece: Mark, part: &Part, offer: Offer) -> Inserted {
+        self.tell(|judge| judge.insert(piece, part, offer))
+    }
+
+    pub fn remove(&mut self, mark: Mark) -> (Mark, Vec<u16>) {
+        self.tell(|judge| judge.remove(mark))
+    }
+
+    /// The free pieces themselves, in the order of their list.
+    pub fn free_pieces(&self) -> Vec<Piece> {
+        self.free_list().into_iter().map(|mark| self.find(mark).expect("a piece of the list")).collect()
     }
 
     /// The list of saw cuts. The simple saw has run it on the full sheet.
     pub fn cuts(&self) -> Vec<Cut> {
-        let kind = self.layout().sheettype();
-        let sheet = Rectangle { width: kind.width, height: kind.height };
-        let cuts = saw::cuts(self.layout());
-        let expected = saw::boards(self.layout());
-        assert_eq!(saw::saw(sheet, &cuts), Ok(expected), "the saw makes the parts and free pieces of the Rust's tree");
+        let tree = self.tree();
+        let cuts = saw::cuts(&tree);
+        let pile = saw::saw(Rectangle::of(&tree.piece), &cuts);
+        assert_eq!(pile, Ok(saw::boards(&tree)), "the saw makes the parts and free pieces of the tree");
         cuts
     }
 
-    /// The first piece of the free list for which the Rust has an offer; every free piece is asked.
+    /// The first piece of the free list that has an offer; every free piece is asked.
     pub fn room_for(&self, part: &Part) -> Option<Mark> {
-        let part = part.parttype();
-        let asked = self.free_list().into_iter().map(|piece| (piece, self.offers(piece, &part).len()));
-        let offering: Vec<NodeKey> = asked.filter(|(_, offers)| *offers > 0).map(|(piece, _)| piece).collect();
-        offering.first().map(|piece| self.marks.of(*piece))
+        let asked = self.free_list().into_iter().map(|piece| (piece, self.offers(piece, part).len()));
+        let offering: Vec<Mark> = asked.filter(|(_, offers)| *offers > 0).map(|(piece, _)| piece).collect();
+        offering.first().copied()
     }
 
     /// Whether a part fits within the sides of some free piece, in a rotation that it allows, whatever the stages are.
     pub fn fits_somewhere(&self, part: &Part) -> bool {
-        let part = part.parttype();
-        let fits = |piece: &NodeKey| rotations(&part).any(|rotation| self.node(*piece).insertion_possible(&part, rotation));
-        self.free_list().iter().any(fits)
+        self.free_list().into_iter().any(|piece| self.ask(|judge| judge.fits(piece, part)))
     }
 }
 
-/// The rotations that a part allows, Default first.
-fn rotations(part: &PartType) -> impl Iterator<Item = Rotation> {
-    let fixed = part.fixed_rotation();
-    [Rotation::Default, Rotation::Rotated].into_iter().filter(move |rotation| fixed.is_none() || fixed == Some(*rotation))
-}
-
-/// What a free piece offers a part, in the rotations that fit, by the Rust's rules on one node.
-pub fn offers_of_node(piece: &Node, part: &PartType, stages: u8) -> Vec<(Rotation, InsertionShape)> {
-    let mut offers = Vec::new();
-    for rotation in rotations(part).filter(|rotation| piece.insertion_possible(part, *rotation)) {
-        piece.for_each_insertion_shape(part, rotation, stages, &mut |shape| offers.push((rotation, shape)));
+/// The answer that the judges agree on.
+pub fn agreed<T: Debug + PartialEq>(rust: Option<T>, model: Option<T>) -> T {
+    if let (Some(rust), Some(model)) = (&rust, &model) {
+        assert_eq!(rust, model, "the Rust, on the left, and the model agree");
     }
-    offers
-}
-
-fn number_of(id: usize) -> u16 {
-    u16::try_from(id).expect("part numbers come from frames")
-}
-
-/// Writes a subtree of the Rust's snapshot, taking the levels as they come in tree order.
-fn write_tree(node: &NodeBlueprint, levels: &mut impl Iterator<Item = u8>, bytes: &mut Vec<u8>) {
-    let kind = match (node.parttype_id, node.children.is_empty()) {
-        (Some(_), _) => 1,
-        (None, true) => 0,
-        (None, false) => 2,
-    };
-    bytes.extend([levels.next().expect("a level for each node"), kind, cut_number(node.next_cut_orient)]);
-    bytes.extend(node.parttype_id.map_or(0, number_of).to_be_bytes());
-    for side in [node.width, node.height] {
-        bytes.extend(u32::try_from(side).expect("sides come from frames").to_be_bytes());
-    }
-    for child in &node.children {
-        write_tree(child, levels, bytes);
-    }
+    rust.or(model).expect("a sheet has a judge")
 }

@@ -1,26 +1,25 @@
 //! What document 01 prints and states, asked of the Rust: its whole session, its table a to k, its rules for marks and refusals. And lists of
 //! saw cuts (document 02, change request 3), by hand.
 
+mod blade;
+
 use crate::core::orientation::Orientation::{Horizontal, Vertical};
-use crate::frame::{self, hexadecimal, Mark, Offer, Part, Request};
+use crate::frame::{self, hexadecimal, Mark, Offer, Opening, Part, Request};
 use crate::inspect;
 use crate::saw::{self, Cut, Rectangle, SEVERAL};
 use crate::session::{bytes_of, Session};
+use crate::tree::{FREE_PIECE, PART, STRUCTURE};
 
 const ALONG: Offer = Offer { rotation: 0, shape: 1 };
 const ACROSS: Offer = Offer { rotation: 0, shape: 2 };
 const ALONG_THEN_ACROSS: Offer = Offer { rotation: 0, shape: 3 };
 const ACROSS_THEN_ALONG: Offer = Offer { rotation: 0, shape: 4 };
+const SHEET: Opening = Opening { layout: 1, width: 100, height: 60, cut: Vertical, stages: 3, blade: 0 };
 const FREE: Mark = Mark { layout: 1, place: 1, serial: 2 };
 const TOP: Mark = Mark { layout: 1, place: 0, serial: 1 };
 
 /// What the light says where there is no room: no, and a mark of zeros.
 const DARK: &str = "000000000000000000";
-
-/// Kinds, as in snapshots.
-const FREE_PIECE: u8 = 0;
-const PART: u8 = 1;
-const STRUCTURE: u8 = 2;
 
 /// A session whose lines are looked at field by field, as `inspect` prints them.
 struct Counter(Session);
@@ -56,15 +55,27 @@ impl Line {
     fn cuts(&self) -> &str {
         &self.0[7]
     }
+
+    fn amounts(&self) -> &str {
+        &self.0[8]
+    }
 }
 
 impl Counter {
+    fn with(opening: Opening) -> Self {
+        let mut counter = Counter(Session::default());
+        counter.open(opening);
+        counter
+    }
+
     /// Document 01's sheet: 100 x 60, first cut Vertical.
     fn with_stages(stages: u8) -> Self {
-        let mut counter = Counter(Session::default());
-        let opening = counter.send(Request::Open { layout: 1, width: 100, height: 60, cut: Vertical, stages });
-        assert_eq!(opening.answer(), success(1, &bytes_of(&[FREE])));
-        counter
+        Counter::with(Opening { stages, ..SHEET })
+    }
+
+    fn open(&mut self, opening: Opening) {
+        let line = self.send(Request::Open(opening));
+        assert_eq!(line.answer(), success(1, &bytes_of(&[FREE])));
     }
 
     fn send_line(&mut self, line: &str) -> Line {
@@ -125,9 +136,9 @@ fn refused(op: u8, number: u8) -> String {
     frame::answer(op, &Err(number))
 }
 
-/// One node of a tree snapshot: level, kind, cut, part number, width, height.
+/// One node of a tree snapshot, with nothing eaten behind it: level, kind, cut, part number, width, height.
 fn node(level: u8, kind: u8, cut: u8, number: u16, width: u32, height: u32) -> String {
-    format!("{level:02x}{kind:02x}{cut:02x}{number:04x}{width:08x}{height:08x}")
+    format!("{level:02x}{kind:02x}{cut:02x}{number:04x}{width:08x}{height:08x}00")
 }
 
 /// One saw cut: place, way (0 Horizontal, 1 Vertical), distance, kinds of what is cut off and of what is left.
@@ -138,7 +149,7 @@ fn cut(place: u16, way: u8, distance: u32, piece: u8, left: u8) -> String {
 #[test]
 fn document_01_session() {
     let session = [
-        ("010001000000640000003c01035a", "010000010100000002fb"),
+        ("010001000000640000003c0103005a", "010000010100000002fb"),
         ("03000101000000020007000000280000003c0000018d", "030000010100000003000101000000030100010200000004eb"),
         ("03000101000000020007000000280000003c0000018d", "0305f8"),
     ];
@@ -176,7 +187,7 @@ fn table_g_exact_fit() {
     let tree = [node(0, 2, 1, 0, 100, 60), node(1, 1, 0, 7, 100, 60), node(1, 0, 0, 0, 0, 60)];
     assert_eq!(line.snapshot(), tree.concat());
     let one = 1.0_f64.to_bits();
-    assert_eq!(line.figures(), format!("{:016x}{:016x}{one:016x}{one:016x}", 6000, 0));
+    assert_eq!(line.figures(), format!("{:016x}{:016x}{one:016x}{one:016x}{:016x}", 6000, 0, 0));
 }
 
 #[test]
@@ -251,13 +262,13 @@ fn refusals_in_order() {
 #[test]
 fn nothing_is_sound_before_an_opening() {
     let mut counter = Counter(Session::default());
-    let refused_opening = Request::Open { layout: 1, width: 67_108_864, height: 1, cut: Horizontal, stages: 1 };
-    assert_eq!(counter.send(refused_opening).answer(), refused(1, 2));
+    let refused_opening = Opening { layout: 1, width: 67_108_864, height: 1, cut: Horizontal, stages: 1, blade: 0 };
+    assert_eq!(counter.send(Request::Open(refused_opening)).answer(), refused(1, 2));
     for request in [Request::Keep, Request::Restore, Request::Report, Request::Remove { mark: FREE }] {
         assert_eq!(counter.send(request).answer(), refused(request.op(), 1));
     }
     let line = counter.insert(FREE, part(0, 0), ALONG);
-    assert_eq!(line.0, [refused(3, 1).as_str(), "-", "-", "-", "-", "-", "01", "-"]);
+    assert_eq!(line.0, [refused(3, 1).as_str(), "-", "-", "-", "-", "-", "01", "-", "-"]);
 }
 
 #[test]
@@ -332,7 +343,7 @@ fn saw_cuts_leave_an_empty_offcut_out() {
 #[test]
 fn the_saw_stops_at_what_it_cannot_cut() {
     let sheet = Rectangle { width: 100, height: 60 };
-    let cut = Cut { place: 0, way: Vertical, distance: 40, piece: PART, left: FREE_PIECE };
+    let cut = Cut { place: 0, way: Vertical, distance: 40, piece: PART, left: FREE_PIECE, amount: 0 };
     let (left, right) = (Rectangle { width: 40, ..sheet }, Rectangle { width: 60, ..sheet });
     assert_eq!(saw::saw(sheet, &[]), Ok(vec![sheet]));
     assert_eq!(saw::saw(sheet, &[cut]), Ok(vec![left, right]));
@@ -349,7 +360,7 @@ fn the_saw_stops_at_what_it_cannot_cut() {
 fn malformed_lines() {
     let mut counter = Counter::with_stages(3);
     let long = "0".repeat(65);
-    let lines = ["", "0", "05", "05fc", "05FB", "05fb\r", "05fb00", "0800f8", "00", "01000100000064000000 3c01035a", &long];
+    let lines = ["", "0", "05", "05fc", "05FB", "05fb\r", "05fb00", "0800f8", "00", "01000100000064000000 3c0103005a", &long];
     for line in lines {
         assert_eq!(counter.send_line(line).answer(), "ff0ef3", "{line:?}");
     }
@@ -362,7 +373,7 @@ fn a_frame_reads_back() {
     let part = Part { number: 65_535, width: u32::MAX, height: 0, turn: 2 };
     let mark = Mark { layout: 513, place: 255, serial: u32::MAX };
     let requests = [
-        Request::Open { layout: 513, width: 1, height: 67_108_863, cut: Horizontal, stages: 255 },
+        Request::Open(Opening { layout: 513, width: 1, height: 67_108_863, cut: Horizontal, stages: 255, blade: 254 }),
         Request::Offers { mark, part },
         Request::Insert { mark, part, offer },
         Request::Remove { mark },

@@ -98,7 +98,7 @@ every k = true
 -- a block has a first node and a part
 module _ (number : ℕ) (b : Booking) (level : ℕ) (c : Orientation) (piece part : Size) where
   abbrev row : InsertionShape → Tree
-  row s = planted b level c (blockOf s c piece part)
+  row s = planted b level c (blockOf s (b .blade) c piece part)
 
   first-is : (s : InsertionShape) → headMark (marksIn number every (row s)) ≡ record { layout = number; place = b .place 0; serial = b .serial + 0 }
   unfolding blockOf table

@@ -168,7 +168,7 @@ enrolled-once (grow p d k r) h u q n none =
 some : (p : ℕ) (d : Datum) (k r : Tree) → grow p d k r ≡ nil → ⊥
 some p d k r e = let z : count (grow p d k r) ≡ 0 = ap count e in omega arith
 
-table-built : (b : Booking) (l : ℕ) (c : Orientation) (piece part : Size) (s : InsertionShape) → Built (planted b l c (blockOf s c piece part))
+table-built : (b : Booking) (l : ℕ) (c : Orientation) (piece part : Size) (s : InsertionShape) → Built (planted b l c (blockOf s (b .blade) c piece part))
 unfolding blockOf table
 table-built b l c piece part AlongCurrentCut = (refl, tt, (refl, tt, tt))
 table-built b l c piece part AcrossCurrentCut = (some _ _ _ _, (refl, tt, (refl, tt, tt)), tt)

@@ -99,9 +99,9 @@ module _ (b : Booking) where
   pub block-counted : (d : Datum) (q : ℕ) (none : Bool) → Counted (b .serial) (leaves q none (block b d))
   unfolding block
   block-counted d q none =
-      subst (λ (z : ℕ). Counted z (leaves q none (planted b (d .level) (d .cut) (blockOf (b .shape) (d .cut) (d .size) (b .size))))) (omega arith)
-      (planted-counted (d .level) (d .cut) (blockOf (b .shape) (d .cut) (d .size) (b .size)) 0
-      (block-numbered (b .shape) (d .cut) (d .size) (b .size)) q none)
+      subst (λ (z : ℕ). Counted z (leaves q none (planted b (d .level) (d .cut) (blockOf (b .shape) (b .blade) (d .cut) (d .size) (b .size))))) (omega arith)
+      (planted-counted (d .level) (d .cut) (blockOf (b .shape) (b .blade) (d .cut) (d .size) (b .size)) 0
+      (block-numbered (b .shape) (b .blade) (d .cut) (d .size) (b .size)) q none)
 
 -- ---- one free piece after the other
 

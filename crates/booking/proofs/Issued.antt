@@ -22,19 +22,19 @@ use Rattle.tree.proofs.Numbered.{Numbered, numbered-in}
 use Rattle.tree.proofs.BookPieces.{less-was, book-pieces}
 
 -- the nodes of a block are numbered in the order of creation
-pub block-numbered : (s : InsertionShape) (c : Orientation) (piece part : Size) → Numbered 0 (blockOf s c piece part)
+pub block-numbered : (s : InsertionShape) (blade : ℕ) (c : Orientation) (piece part : Size) → Numbered 0 (blockOf s blade c piece part)
 unfolding blockOf table
-block-numbered AlongCurrentCut c piece part = omega arith
-block-numbered AcrossCurrentCut c piece part = omega arith
-block-numbered AlongThenAcross c piece part = omega arith
-block-numbered AcrossThenAlong c piece part = omega arith
+block-numbered AlongCurrentCut blade c piece part = omega arith
+block-numbered AcrossCurrentCut blade c piece part = omega arith
+block-numbered AlongThenAcross blade c piece part = omega arith
+block-numbered AcrossThenAlong blade c piece part = omega arith
 
-block-nodes : (s : InsertionShape) (c : Orientation) (piece part : Size) → count (blockOf s c piece part) ≡ newNodes s
+block-nodes : (s : InsertionShape) (blade : ℕ) (c : Orientation) (piece part : Size) → count (blockOf s blade c piece part) ≡ newNodes s
 unfolding blockOf table
-block-nodes AlongCurrentCut c piece part = refl
-block-nodes AcrossCurrentCut c piece part = refl
-block-nodes AlongThenAcross c piece part = refl
-block-nodes AcrossThenAlong c piece part = refl
+block-nodes AlongCurrentCut blade c piece part = refl
+block-nodes AcrossCurrentCut blade c piece part = refl
+block-nodes AlongThenAcross blade c piece part = refl
+block-nodes AcrossThenAlong blade c piece part = refl
 
 -- the piece e at i is the j-th new node
 abbrev pub Nth : Booking → ℕ → ℕ → Datum → Type 0
@@ -51,10 +51,10 @@ planted-marks b l c i e (grow j m k r) (inr (inr h)) = let z = planted-marks b l
 pub block-marks : (b : Booking) (d : Datum) (i : ℕ) (e : Datum) → At i e (block b d) → (j : ℕ) × (j < newNodes (b .shape)) × Nth b j i e
 unfolding block
 block-marks b d i e h =
-    let s = blockOf (b .shape) (d .cut) (d .size) (b .size) in
+    let s = blockOf (b .shape) (b .blade) (d .cut) (d .size) (b .size) in
     let z = planted-marks b (d .level) (d .cut) i e s h in
-    let y = numbered-in 0 (z .0) s (block-numbered (b .shape) (d .cut) (d .size) (b .size)) (z .1) in
-    (z .0, omega (arith, block-nodes (b .shape) (d .cut) (d .size) (b .size)), z .2)
+    let y = numbered-in 0 (z .0) s (block-numbered (b .shape) (b .blade) (d .cut) (d .size) (b .size)) (z .1) in
+    (z .0, omega (arith, block-nodes (b .shape) (b .blade) (d .cut) (d .size) (b .size)), z .2)
 
 -- the new serials come after all others, "they rise by one per node in creation order"
 module _ (limit : ℕ) (settings : Settings) (w : Tree) (sound : Sound limit settings w) (x : ℕ) (d : Datum) (there : At x d w)

@@ -57,17 +57,17 @@ use Rattle.booking.proofs.Rooms.{free-room, booked-room}
 -- ---- a block goes by the places that it uses
 
 -- two bookings that differ in their places alone, and not in those of the nodes that are made
-module _ (shape : InsertionShape) (size : Size) (number serial : ℕ) (f g : ℕ → ℕ) (d : Datum) where
+module _ (shape : InsertionShape) (size : Size) (number blade serial : ℕ) (f g : ℕ → ℕ) (d : Datum) where
   abbrev with : (ℕ → ℕ) → Booking
-  with place = record { shape = shape; size = size; number = number; place = place; serial = serial }
+  with place = record { shape = shape; size = size; number = number; blade = blade; place = place; serial = serial }
 
   pub block-places : f 0 ≡ g 0 → f 1 ≡ g 1 → f 2 ≡ g 2 → f 3 ≡ g 3 → f 4 ≡ g 4 → block (with f) d ≡ block (with g) d
   unfolding block blockOf table
   block-places e0 e1 e2 e3 e4 = go shape
     where
       go : (s : InsertionShape)
-          → block (record { shape = s; size = size; number = number; place = f; serial = serial }) d
-          ≡ block (record { shape = s; size = size; number = number; place = g; serial = serial }) d
+          → block (record { shape = s; size = size; number = number; blade = blade; place = f; serial = serial }) d
+          ≡ block (record { shape = s; size = size; number = number; blade = blade; place = g; serial = serial }) d
       go AlongCurrentCut = rw (e0, e1) refl
       go AcrossCurrentCut = rw (e0, e1, e2) refl
       go AlongThenAcross = rw (e0, e1, e2, e3) refl
@@ -119,10 +119,10 @@ held-at l h i = padded-at noNew 5 5 l h i
 -- ---- the booking
 
 module _ (settings : Settings) (last : ℕ) (w : Tree) (n : LayoutNodes) (stands : Stands settings last w n)
-    (x : ℕ) (d : Datum) (there : At x d w) (free : d .kind ≡ Free) (shape : InsertionShape) (size : Size) (number : ℕ) where
+    (x : ℕ) (d : Datum) (there : At x d w) (free : d .kind ≡ Free) (shape : InsertionShape) (size : Size) (number blade : ℕ) where
   -- what is booked
   abbrev pub wanted : Booking
-  wanted = record { shape = shape; size = size; number = number; place = newPlace limit (less x w); serial = last + 1 }
+  wanted = record { shape = shape; size = size; number = number; blade = blade; place = newPlace limit (less x w); serial = last + 1 }
 
   abbrev q : ℕ
   q = parentOf limit x w
@@ -171,16 +171,17 @@ module _ (settings : Settings) (last : ℕ) (w : Tree) (n : LayoutNodes) (stands
         places = newPlaces left;
         serial = last + 1;
         number = number;
+        blade = blade;
       }
 
-  site-is : siteOf (n .nodes) left x number last ≡ site
+  site-is : siteOf (n .nodes) left x number blade last ≡ site
   unfolding siteOf
   site-is = rw (parent, datum, alone) refl
 
   block-is : block (bookingAt site shape size) d ≡ block wanted d
   unfolding newPlaces
   block-is =
-      block-places shape size number (last + 1) (λ (i : ℕ). getD (newPlaces left) i 0) (newPlace limit (less x w)) d (place-is 0) (place-is 1)
+      block-places shape size number blade (last + 1) (λ (i : ℕ). getD (newPlaces left) i 0) (newPlace limit (less x w)) d (place-is 0) (place-is 1)
       (place-is 2) (place-is 3) (place-is 4)
 
   abbrev new : List NewNode
@@ -191,11 +192,11 @@ module _ (settings : Settings) (last : ℕ) (w : Tree) (n : LayoutNodes) (stands
 
   module _ (fitting : Fitting settings d wanted) (shallow : d .level + deepest shape ≤ 255) where
     -- the nodes that the code makes are the block's
-    new-is : newNodesAt (n .nodes) left x shape size number last ≡ heldNew new
+    new-is : newNodesAt (n .nodes) left x shape size number blade last ≡ heldNew new
     unfolding newNodesAt
     new-is = rw (site-is, datum) (made-is d site shape size refl shallow ∙ rw block-is refl)
 
-    those-new : those (newNodesAt (n .nodes) left x shape size number last) ≡ new
+    those-new : those (newNodesAt (n .nodes) left x shape size number blade last) ≡ new
     those-new = rw new-is (held-those new new-few)
 
     module _ (room : count w + newNodes shape ≤ limit + 1) (spent : last + newNodes shape ≤ maxSerial) where
@@ -220,7 +221,7 @@ module _ (settings : Settings) (last : ℕ) (w : Tree) (n : LayoutNodes) (stands
 
       -- the removable list is the one that the rule gives
       list-is : lessParent left (at (n .nodes) x .parent) (entriesOf (n .removable))
-          ++ enrolments (those (newNodesAt (n .nodes) left x shape size number last))
+          ++ enrolments (those (newNodesAt (n .nodes) left x shape size number blade last))
           ≡ bookedList limit x d wanted w (entriesOf (n .removable))
       unfolding bookedList
       list-is = rw (parent, those-new, alone, enrolments-leaves (block wanted d) q (childless q (less x w))) refl
@@ -234,7 +235,7 @@ module _ (settings : Settings) (last : ℕ) (w : Tree) (n : LayoutNodes) (stands
       rooms = booked-room limit settings w (stands .sound) x d there free wanted room
 
       -- no index is out of bounds, and nothing overflows
-      pub book-bookable : Bookable n x shape size number last
+      pub book-bookable : Bookable n x shape size number blade last
       book-bookable =
           record {
             placed = stands .sound .placed x (at-in x d w there);
@@ -254,12 +255,12 @@ module _ (settings : Settings) (last : ℕ) (w : Tree) (n : LayoutNodes) (stands
               (λ j y. let g = block-in wanted d j y in rw (g .2) (fresh .placed (g .0) (g .1)))
 
           sited : (i : ℕ) → i < newNodes shape
-              → let m = getD (newNodesAt (n .nodes) left x shape size number last .list) i noNew in (m .under < limit) × (m .place < limit)
+              → let m = getD (newNodesAt (n .nodes) left x shape size number blade last .list) i noNew in (m .under < limit) × (m .place < limit)
           sited i h =
               rw (new-is, held-at new new-few i) (low-at limit new low i (rw (leaves-count wanted d q (childless q (less x w))) h))
 
       -- all stands again
-      pub book-stands : Stands settings (last + newNodes shape) (book x wanted w) (bookedNodes n x shape size number last .nodes)
+      pub book-stands : Stands settings (last + newNodes shape) (book x wanted w) (bookedNodes n x shape size number blade last .nodes)
       unfolding bookedNodes bookedWith
       book-stands =
           rw (list-is, those-new)
@@ -273,10 +274,10 @@ module _ (settings : Settings) (last : ℕ) (w : Tree) (n : LayoutNodes) (stands
             serials = book-serials limit settings w (stands .sound) x d there free wanted last (stands .serials) refl spent;
           })
 
-      pub book-list : entriesOf (bookedNodes n x shape size number last .nodes .removable) ≡ bookedList limit x d wanted w (entriesOf (n .removable))
+      pub book-list : entriesOf (bookedNodes n x shape size number blade last .nodes .removable) ≡ bookedList limit x d wanted w (entriesOf (n .removable))
       unfolding bookedNodes bookedWith
       book-list = rw list-is (entries-listing (bookedList limit x d wanted w (entriesOf (n .removable))))
 
-      pub book-new : bookedNodes n x shape size number last .new ≡ heldNew new
+      pub book-new : bookedNodes n x shape size number blade last .new ≡ heldNew new
       unfolding bookedNodes bookedWith
       book-new = new-is

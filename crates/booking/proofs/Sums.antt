@@ -106,7 +106,7 @@ module _ (c : Orientation) (piece part : Size) where
   part-side AlongThenAcross e = laid-twice c part
   part-side AcrossThenAlong e = laid-twice c part
 
-  table-part : (b : Booking) (l : ℕ) (s : InsertionShape) → partArea (planted b l c (blockOf s c piece part)) ≡ area (laid c (partSide s))
+  table-part : (b : Booking) (l : ℕ) (s : InsertionShape) → partArea (planted b l c (blockOf s (b .blade) c piece part)) ≡ area (laid c (partSide s))
   unfolding blockOf table
   table-part b l AlongCurrentCut = omega arith
   table-part b l AcrossCurrentCut = omega arith

@@ -32,35 +32,35 @@ each-length [] t = refl
 each-length (n ∷ ns) t =
     each-length ns (append limit t (n .under) (n .place) (n .datum)) ∙ append-length limit t (n .under) (n .place) (n .datum)
 
-module _ (n : LayoutNodes) (x : ℕ) (shape : InsertionShape) (size : Size) (number last : ℕ) where
+module _ (n : LayoutNodes) (x : ℕ) (shape : InsertionShape) (size : Size) (number blade last : ℕ) where
   abbrev gone : List Node
   gone = unlink limit (n .nodes) x
 
   abbrev made : NewNodes
-  made = newNodesAt (n .nodes) gone x shape size number last
+  made = newNodesAt (n .nodes) gone x shape size number blade last
 
   abbrev parent : ℕ
   parent = at (n .nodes) x .parent
 
   -- the nodes that the steps make
   pub new-by : (left : List Node) {places : List ℕ} {site : Site} {new : NewNodes} → places ≡ newPlaces left
-      → site ≡ siteLeft (at (n .nodes) x) (at left parent) places number last → new ≡ newOf (at (n .nodes) x) site shape size
-      → new ≡ newNodesAt (n .nodes) left x shape size number last
+      → site ≡ siteLeft (at (n .nodes) x) (at left parent) places number blade last → new ≡ newOf (at (n .nodes) x) site shape size
+      → new ≡ newNodesAt (n .nodes) left x shape size number blade last
   unfolding newNodesAt siteOf
   new-by left p s e = rw (e, s, p) refl
 
-  module _ (b : Bookable n x shape size number last) {left : List Node} {new : NewNodes} (l : left ≡ gone)
-      (e : new ≡ newNodesAt (n .nodes) left x shape size number last) where
+  module _ (b : Bookable n x shape size number blade last) {left : List Node} {new : NewNodes} (l : left ≡ gone)
+      (e : new ≡ newNodesAt (n .nodes) left x shape size number blade last) where
     new-is : new ≡ made
     new-is = rw l at e
 
     new-few : new .count ≤ 5
-    new-few = rw (new-is, new-at-count (n .nodes) gone x shape size number last) (new-nodes-few shape)
+    new-few = rw (new-is, new-at-count (n .nodes) gone x shape size number blade last) (new-nodes-few shape)
 
     -- the new nodes come into the table
     pub plant-needs : (new .count ≤ 5)
         × ((i : ℕ) → i < new .count → (getD (new .list) i noNew .under < limit) × (getD (new .list) i noNew .place < limit))
-    plant-needs = (new-few, rw (new-is, new-at-count (n .nodes) gone x shape size number last) (b .sited))
+    plant-needs = (new-few, rw (new-is, new-at-count (n .nodes) gone x shape size number blade last) (b .sited))
 
     -- the free ones come into the free list that the piece has left
     pub put-needs : {less : Listing} → less ≡ listing (omit (entriesOf (n .free)) x) →
@@ -68,7 +68,7 @@ module _ (n : LayoutNodes) (x : ℕ) (shape : InsertionShape) (size : Size) (num
     put-needs c = (
       kept-as (omit (entriesOf (n .free)) x) c (omega (arith, b .freeRoom)),
       new-few,
-      rw (c, new-is, new-at-count (n .nodes) gone x shape size number last) (b .freeRoom),
+      rw (c, new-is, new-at-count (n .nodes) gone x shape size number blade last) (b .freeRoom),
     )
 
     -- the new ones come into the removable list that the parent has left if it lost its last child
@@ -82,7 +82,7 @@ module _ (n : LayoutNodes) (x : ℕ) (shape : InsertionShape) (size : Size) (num
 
   module _ (len : length (n .nodes) ≡ limit) {left table : List Node} {areas : List ℕ} {new : NewNodes} {less free fewer removable : Listing}
       (l : left ≡ gone)
-      (e : new ≡ newNodesAt (n .nodes) left x shape size number last)
+      (e : new ≡ newNodesAt (n .nodes) left x shape size number blade last)
       (t : table ≡ appendEach limit left (those new))
       (a : areas ≡ areasOf table)
       (c : less ≡ listing (omit (entriesOf (n .free)) x))
@@ -96,7 +96,7 @@ module _ (n : LayoutNodes) (x : ℕ) (shape : InsertionShape) (size : Size) (num
     column = ap areaAt a ∙ areas-are table table-length
 
     pub booked-by : record { nodes = record { nodes = table; free = free; removable = removable }; new = new }
-        ≡ bookedNodes n x shape size number last
+        ≡ bookedNodes n x shape size number blade last
     unfolding bookedNodes bookedWith
     booked-by =
         rw (

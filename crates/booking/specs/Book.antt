@@ -37,8 +37,8 @@ abbrev pub noChild : List Node → ℕ → Bool
 noChild t q = nodeBare (at t q)
 
 -- the site that the node old leaves, where up is its parent when it has gone, and these are the places
-abbrev pub siteLeft : (old up : Node) → List ℕ → (number last : ℕ) → Site
-siteLeft old up places number last =
+abbrev pub siteLeft : (old up : Node) → List ℕ → (number blade last : ℕ) → Site
+siteLeft old up places number blade last =
     record {
       under = old .parent;
       alone = nodeBare up;
@@ -46,21 +46,22 @@ siteLeft old up places number last =
       places = places;
       serial = last + 1;
       number = number;
+      blade = blade;
     }
 
 -- the site that the piece at x leaves, in the table t, when it has gone, which is the table left
-unfoldable pub siteOf : (t left : List Node) → (x number last : ℕ) → Site
-siteOf t left x number last = siteLeft (at t x) (at left (at t x .parent)) (newPlaces left) number last
+unfoldable pub siteOf : (t left : List Node) → (x number blade last : ℕ) → Site
+siteOf t left x number blade last = siteLeft (at t x) (at left (at t x .parent)) (newPlaces left) number blade last
 
 -- the nodes that a shape makes of the node old at a site
 abbrev pub newOf : Node → Site → InsertionShape → Size → NewNodes
 newOf old site shape size =
     addAll site (record { list = replicate 5 noNew; count = 0 })
-    (nodesInOrder outside (old .datum .cut) (blockOf shape (old .datum .cut) (old .datum .size) size))
+    (nodesInOrder outside (old .datum .cut) (blockOf shape (site .blade) (old .datum .cut) (old .datum .size) size))
 
 -- and at the site that the piece at x leaves
-unfoldable pub newNodesAt : (t left : List Node) → ℕ → InsertionShape → Size → (number last : ℕ) → NewNodes
-newNodesAt t left x shape size number last = newOf (at t x) (siteOf t left x number last) shape size
+unfoldable pub newNodesAt : (t left : List Node) → ℕ → InsertionShape → Size → (number blade last : ℕ) → NewNodes
+newNodesAt t left x shape size number blade last = newOf (at t x) (siteOf t left x number blade last) shape size
 
 -- "a parent that loses its last child is taken out": the parent is at q, and up is what it is then
 abbrev pub lessUp : Node → ℕ → List ℕ → List ℕ
@@ -81,6 +82,6 @@ bookedWith n left x new =
       new = new;
     }
 
-unfoldable pub bookedNodes : LayoutNodes → ℕ → InsertionShape → Size → (number last : ℕ) → Booked
-bookedNodes n x shape size number last =
-    let left = unlink limit (n .nodes) x in bookedWith n left x (newNodesAt (n .nodes) left x shape size number last)
+unfoldable pub bookedNodes : LayoutNodes → ℕ → InsertionShape → Size → (number blade last : ℕ) → Booked
+bookedNodes n x shape size number blade last =
+    let left = unlink limit (n .nodes) x in bookedWith n left x (newNodesAt (n .nodes) left x shape size number blade last)

@@ -14,16 +14,16 @@ use Rattle.booking.specs.NewNodes.{enrolments, noNew, those}
 use Rattle.booking.specs.Book.{lessParent, newNodesAt}
 
 -- `book`: that no index is out of bounds and no number overflows
-pub record Bookable (n : LayoutNodes) (x : ℕ) (shape : InsertionShape) (size : Size) (number last : ℕ) : Type 0 where
+pub record Bookable (n : LayoutNodes) (x : ℕ) (shape : InsertionShape) (size : Size) (number blade last : ℕ) : Type 0 where
   pub placed : x < limit
   pub hung : at (n .nodes) x .parent < limit
   pub freeKept : Kept (n .free)
   pub removableKept : Kept (n .removable)
   pub sited : (i : ℕ) → i < newNodes shape
-      → let m = getD (newNodesAt (n .nodes) (unlink limit (n .nodes) x) x shape size number last .list) i noNew in (m .under < limit) × (m .place < limit)
+      → let m = getD (newNodesAt (n .nodes) (unlink limit (n .nodes) x) x shape size number blade last .list) i noNew in (m .under < limit) × (m .place < limit)
   pub freeRoom : length (omit (entriesOf (n .free)) x) + newNodes shape ≤ limit
   pub removableRoom : length
       (lessParent (unlink limit (n .nodes) x) (at (n .nodes) x .parent) (entriesOf (n .removable))
-      ++ enrolments (those (newNodesAt (n .nodes) (unlink limit (n .nodes) x) x shape size number last)))
+      ++ enrolments (those (newNodesAt (n .nodes) (unlink limit (n .nodes) x) x shape size number blade last)))
       ≤ limit
   pub spent : last ≤ 1000000

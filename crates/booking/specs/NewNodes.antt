@@ -46,7 +46,7 @@ those n = take (n .count) (n .list)
 -- what is booked at a site
 abbrev pub bookingAt : Site → InsertionShape → Size → Booking
 bookingAt s shape size =
-    record { shape = shape; size = size; number = s .number; place = λ (i : ℕ). getD (s .places) i 0; serial = s .serial }
+    record { shape = shape; size = size; number = s .number; blade = s .blade; place = λ (i : ℕ). getD (s .places) i 0; serial = s .serial }
 
 -- one level deeper, as far as a level goes
 abbrev pub deeper : ℕ → ℕ

@@ -38,9 +38,9 @@ fn no_child(up: Node) -> bool
 }
 
 // The site that a node leaves, where `up` is its parent when it has gone, and these are the places.
-fn site_of(old: Node, up: Node, places: [u16; 5], number: u16, last: u32) -> Site
+fn site_of(old: Node, up: Node, places: [u16; 5], number: u16, blade: u8, last: u32) -> Site
     requires { ⌜ last ≤ 1000000 ⌝ }
-    ensures { λ r. ⌜ r ≡ siteLeft old up places number last ⌝ }
+    ensures { λ r. ⌜ r ≡ siteLeft old up places number blade last ⌝ }
 {
     let d = old.datum;
     Site {
@@ -50,6 +50,7 @@ fn site_of(old: Node, up: Node, places: [u16; 5], number: u16, last: u32) -> Sit
         places,
         serial: last + 1,
         number,
+        blade,
     }
 }
 
@@ -61,7 +62,7 @@ fn new_at(old: Node, site: Site, shape: InsertionShape, size: Size) -> NewNodes
     let d = old.datum;
     let cut = d.cut;
     let piece = d.size;
-    let blueprint = blueprint_of(shape, cut, piece, size);
+    let blueprint = blueprint_of(shape, site.blade, cut, piece, size);
     new_nodes(blueprint, site)
 }
 
@@ -77,7 +78,8 @@ fn less_parent(up: Node, q: u16, removable: Listing) -> Listing
     }
 }
 
-// The part, of this size in its rotation and of this number, is cut in that shape from the free piece at x; last is the last serial that was given.
+// The part, of this size in its rotation and of this number, is cut in that shape, by a blade of this width, from the free piece at x; last is the last serial
+// that was given.
 // The new nodes come into the table one after the other: each is appended in place, as `append` of `table` does it, since a call would copy the table.
 pub fn book(
     nodes: LayoutNodes,
@@ -85,10 +87,11 @@ pub fn book(
     shape: InsertionShape,
     size: Size,
     number: u16,
+    blade: u8,
     last: u32,
 ) -> Booked
-    requires { ⌜ Bookable nodes x shape size number last ⌝ }
-    ensures { λ r. ⌜ r ≡ bookedNodes nodes x shape size number last ⌝ }
+    requires { ⌜ Bookable nodes x shape size number blade last ⌝ }
+    ensures { λ r. ⌜ r ≡ bookedNodes nodes x shape size number blade last ⌝ }
 {
     let was = nodes.nodes;
     let i = x as usize;
@@ -97,7 +100,7 @@ pub fn book(
     let q = old.parent as usize;
     let up = t[q];
     let places = new_places(t);
-    let site = site_of(old, up, places, number, last);
+    let site = site_of(old, up, places, number, blade, last);
     let new = new_at(old, site, shape, size);
     let count = new.count;
     let list = new.list;

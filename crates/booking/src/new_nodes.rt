@@ -36,7 +36,7 @@ pub struct NewNodes {
 }
 
 // Where they come: under which piece and at what level, whether that piece has no child then, at what places, and with which serial the first;
-// and the part's number.
+// and the part's number and the width of the blade.
 pub struct Site {
     pub under: u16,
     pub alone: bool,
@@ -44,6 +44,7 @@ pub struct Site {
     pub places: [u16; 5],
     pub serial: u32,
     pub number: u16,
+    pub blade: u8,
 }
 
 impl NewNode {
@@ -118,6 +119,7 @@ fn site_node(site: Site, i: usize, under: u16, eldest: bool, level: u8, n: Inser
         level,
         kind,
         cut,
+        eaten: n.eaten,
     };
     NewNode {
         under,

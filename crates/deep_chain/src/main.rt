@@ -57,6 +57,7 @@ fn node_at(level: usize) -> Node
             level: level as u8,
             kind: kind_at(level),
             cut: cut_at(level),
+            eaten: 0,
         },
         parent: above,
         first: below,
@@ -88,6 +89,7 @@ fn node_in_row(place: usize) -> Node
                 level: 0,
                 kind: Kind::Structure,
                 cut: Orientation::Vertical,
+                eaten: 0,
             },
             parent: NONE,
             first: 1,
@@ -113,6 +115,7 @@ fn node_in_row(place: usize) -> Node
             level: 1,
             kind: Kind::Part,
             cut: Orientation::Horizontal,
+            eaten: 0,
         },
         parent: 0,
         first: NONE,
@@ -142,6 +145,7 @@ fn chain() -> Layout {
     l.used = 35;
     let settings = Settings {
         stages: 254,
+        blade: 0,
         sheet: sheet(),
     };
     l.settings = settings;
@@ -153,6 +157,7 @@ fn row() -> Layout {
     l.used = 1270;
     let settings = Settings {
         stages: 1,
+        blade: 0,
         sheet: strip(),
     };
     l.settings = settings;
@@ -210,7 +215,7 @@ fn nodes_without(l: Layout, place: u16, out: &mut [u16]) -> u64 {
 
 fn main() {
     let l = chain();
-    let mut out = [0u8; 3400];
+    let mut out = [0u8; 3600];
     if l.sound() {
         io::write_all(libc::STDOUT_FILENO, b"sound\n");
     }
@@ -226,10 +231,10 @@ fn main() {
         b"snapshot ",
         count_in(questions::written::snapshot(l, &mut out)),
     );
-    say(b"its last node's level ", wide(out[3302]));
-    say(b"its last node's kind ", wide(out[3303]));
-    say(b"its last node's number ", wide(out[3306]));
-    say(b"its last node's height ", wide(out[3314]));
+    say(b"its last node's level ", wide(out[3556]));
+    say(b"its last node's kind ", wide(out[3557]));
+    say(b"its last node's number ", wide(out[3560]));
+    say(b"its last node's height ", wide(out[3568]));
     say(b"saw cuts ", count_in(saw::cuts::cuts(l, &mut out)));
     let r = row();
     if r.sound() {

@@ -1,4 +1,4 @@
--- Demand 3: "Part area plus free area is the sheet, throughout." On every sound layout; and so after an opening, after every `insert` and `remove` on
+-- Demand 3: "Part area plus free area is the sheet, throughout", and with a blade part area, free area and eaten area. On every sound layout; and so after an opening, after every `insert` and `remove` on
 -- a sound layout, accepted or refused, and after a `restore`. It rests on tree's law `area-conserved`, by looks' FiguresSay, and on
 -- what a call has done (Outcomes).
 use mathlib.Core.Path.{_≡_, refl, sym, ap, _∙_, subst}
@@ -13,7 +13,7 @@ use Rattle.piece.specs.declared.insertion_blueprint.InsertionShape.{InsertionSh
 use Rattle.piece.specs.declared.settings.Opening.{Opening}
 use Rattle.piece.specs.declared.settings.Settings.{Settings}
 use Rattle.tree.specs.Tree.{Tree}
-use Rattle.tree.specs.Figures.{partArea, freeArea}
+use Rattle.tree.specs.Figures.{partArea, freeArea, eatenArea}
 use Rattle.marks.specs.declared.Mark.{Mark}
 use Rattle.layout.specs.declared.layout.Layout.{Layout}
 use Rattle.layout.specs.declared.open.Opened.{Opened}
@@ -32,25 +32,29 @@ use Rattle.layout.proofs.Exactly.{sound-says, sound-shown}
 use Rattle.layout.proofs.Opened.{fresh-sized, fresh-sound}
 use Rattle.layout.proofs.Restored.{restored-sound}
 use Rattle.questions.specs.declared.replies.AreaAnswer.the-variants.{Area}
-use Rattle.questions.specs.Answers.{usedAreaOf, freeAreaOf}
+use Rattle.questions.specs.Answers.{usedAreaOf, freeAreaOf, eatenAreaOf}
 use Rattle.questions.proofs.FiguresSay.{areas-cover}
 use Rattle.demands.specs.Calls.{AreasCover, OpenAccepted, RestoreAccepted}
 use Rattle.demands.proofs.Outcomes.{opened-so, inserted-so, removed-so, PutBack, restored-so}
 
 -- on every sound layout
 pub areas-cover-sound : (l : Layout) → Sized l → soundB l ≡ true → AreasCover l (l .settings .sheet)
-unfolding usedAreaOf freeAreaOf
+unfolding usedAreaOf freeAreaOf eatenAreaOf
 areas-cover-sound l sized sound =
     let u : usedAreaOf l ≡ Area (partArea (tree l)) = rw sound refl in
     let f : freeAreaOf l ≡ Area (freeArea (tree l)) = rw sound refl in
+    let e : eatenAreaOf l ≡ Area (eatenArea (tree l)) = rw sound refl in
     record {
       used = partArea (tree l);
       free = freeArea (tree l);
+      eaten = eatenArea (tree l);
       usedAnswer = u;
       freeAnswer = f;
-      cover = areas-cover l sized (sound-says l sized sound) (partArea (tree l)) (freeArea (tree l)) u f;
+      eatenAnswer = e;
+      cover = areas-cover l sized (sound-says l sized sound) (partArea (tree l)) (freeArea (tree l)) (eatenArea (tree l)) u f e;
       parts = refl;
       frees = refl;
+      strips = refl;
     }
 
 -- on a layout that is sound by the rule, and has this sheet

@@ -7,6 +7,7 @@ use Prim.Native.Nat.{ℕ, _+_, _-_, _≤_, _<_}
 use native.Mathlib.Omega.{arith}
 use native.Mathlib.Decide.{decLt}
 use Rattle.piece.specs.declared.rotation.Rotation.{Rotation}
+use Rattle.piece.specs.declared.settings.Settings.{Settings}
 use Rattle.piece.specs.declared.parttype.PartType.{PartType}
 use Rattle.piece.specs.declared.node.Datum.{Datum}
 use Rattle.piece.specs.declared.insertion_blueprint.InsertionShape.{InsertionShape}
@@ -94,6 +95,9 @@ same-insertable l k x p r s can sized sound there piece settings room spent =
 
 -- ---- the two orders
 
+abbrev bladeOf : Settings → ℕ
+bladeOf settings = settings .blade
+
 module _ (l : Layout) (sized : Sized l)
     -- the two bookings: a part each, in its rotation and shape, in the pieces that the marks m and m′ name
     (m : Mark) (p : PartType) (r : Rotation) (s : InsertionShape)
@@ -169,8 +173,8 @@ module _ (l : Layout) (sized : Sized l)
         (bookingFor l y p′ r′ s′) apart
         (place-kept l x p r s (i .insertable) a (i .done) y (pieceAt l y) second-left)
         (place-kept l y p′ r′ s′ (k .insertable) c (k .done) x (pieceAt l x) first-left)
-        (record { shape = refl; size = refl; number = refl })
-        (record { shape = refl; size = refl; number = refl }))
+        (record { shape = refl; size = refl; number = refl; blade = sym (ap bladeOf (k .done .next .settings)) })
+        (record { shape = refl; size = refl; number = refl; blade = ap bladeOf (i .done .next .settings) }))
 
   pub inserts-commute : InsertSays l m′ p′ r′ s′ c → InsertSays (c .layout) m p r s d
       → InsertAccepted l m′ p′ r′ s′ c × InsertAccepted (c .layout) m p r s d × SameTree (b .layout) (d .layout)

@@ -145,7 +145,7 @@ pub a-refused-opening : (o : Opening) (e : Refusal)
     → openOf o .outcome ≡ opening.Refused e → openOf o .layout ≡ zeroLayout
 a-refused-opening = refusals.refused-open
 
--- the calls that write into a lent buffer and hand no layout back, by what each writes: `snapshotBytes l`, `heldNumbers l` and `sawBytes l`
+-- the calls that write into a lent buffer and hand no layout back, by what each writes: `snapshotBytes l`, `heldNumbers l`, `sawBytes l` and `amountBytes l`
 pub a-refused-writing : (l : Layout) (what out : List ℕ) (e : Refusal) → answerTo l what (length out) ≡ counts.Refused e → leftInBuffer l what out ≡ out
 a-refused-writing = looking.refused-writing
 
@@ -176,7 +176,7 @@ pub removals-commute : (l : Layout) → Sized l → (m m′ : Mark) → NamesPie
     → RemoveAccepted l m′ room′ c × RemoveAccepted (c .layout) m room d × SameTree (b .layout) (d .layout)
 removals-commute = removals.removes-commute
 
--- "Part area plus free area is the sheet, throughout." On every sound layout:
+-- "Part area plus free area is the sheet, throughout", and with a blade "part area, free area and eaten area make the sheet". On every sound layout:
 pub areas-add-up : (l : Layout) → Sized l → soundB l ≡ true → AreasCover l (l .settings .sheet)
 areas-add-up = areas.areas-cover-sound
 

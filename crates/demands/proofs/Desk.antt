@@ -26,7 +26,7 @@ use Rattle.frames.specs.Answers.{Answer}
 use Rattle.session.specs.declared.Session.{Session}
 use Rattle.session.specs.Session.{started}
 use Rattle.desk_frames.specs.declared.Question.{Question}
-use Rattle.desk_frames.specs.declared.Question.the-variants.{WhyNot, RoomLight, FreePiece, RemovablePiece, PartNumbers, Figures, Snapshot, Cuts}
+use Rattle.desk_frames.specs.declared.Question.the-variants.{WhyNot, RoomLight, FreePiece, RemovablePiece, PartNumbers, Figures, Snapshot, Cuts, EatenArea, Amounts}
 use Rattle.desk_frames.specs.declared.DeskRequest.{DeskRequest}
 use Rattle.desk_frames.specs.Desk.{DeskAnswer, counters, told, DeskAnswers, at-counter, question}
 use Rattle.desk_frames.specs.Listener.{DeskRuns, counterAnswers}
@@ -72,6 +72,8 @@ question-gives l sized s sound PartNumbers k h = absurd (List·Memᴰ·not-nil h
 question-gives l sized s sound Figures k h = absurd (List·Memᴰ·not-nil h)
 question-gives l sized s sound Snapshot k h = absurd (List·Memᴰ·not-nil h)
 question-gives l sized s sound Cuts k h = absurd (List·Memᴰ·not-nil h)
+question-gives l sized s sound EatenArea k h = absurd (List·Memᴰ·not-nil h)
+question-gives l sized s sound Amounts k h = absurd (List·Memᴰ·not-nil h)
 
 -- and of a layout that isn't sound nothing is written
 unsound-writes-none : (l : Layout) → soundB l ≡ false → (q : Question) → marksTold l q ≡ []
@@ -83,6 +85,8 @@ unsound-writes-none l e PartNumbers = refl
 unsound-writes-none l e Figures = refl
 unsound-writes-none l e Snapshot = refl
 unsound-writes-none l e Cuts = refl
+unsound-writes-none l e EatenArea = refl
+unsound-writes-none l e Amounts = refl
 
 question-sound : (l : Layout) (q : Question) (k : Mark) → List·Memᴰ k (marksTold l q) → soundB l ≡ true
 question-sound l q k h = go (test (soundB l))

@@ -50,7 +50,7 @@ module _ (l : Layout) (m : Mark) (p : PartType) (r : Rotation) (s : InsertionSha
 
   -- what the steps of a booking make
   made : Booked
-  made = bookedNodes (nodesOf l) (m .place) s size (p .number) (l .serial)
+  made = bookedNodes (nodesOf l) (m .place) s size (p .number) (l .settings .blade) (l .serial)
 
   answer : Inserted
   answer =

@@ -8,7 +8,7 @@ use Rattle.piece.specs.declared.parttype.PartType.{PartType}
 use Rattle.piece.specs.declared.insertion_blueprint.InsertionShape.{InsertionShape}
 use Rattle.piece.specs.declared.settings.Opening.{Opening}
 use Rattle.piece.specs.Sides.{area}
-use Rattle.tree.specs.Figures.{partArea, freeArea}
+use Rattle.tree.specs.Figures.{partArea, freeArea, eatenArea}
 use Rattle.marks.specs.declared.Mark.{Mark}
 use Rattle.layout.specs.declared.layout.Layout.{Layout}
 use Rattle.layout.specs.declared.open.Opened.{Opened}
@@ -23,7 +23,7 @@ use Rattle.layout.specs.Insert.{InsertSays}
 use Rattle.layout.specs.Remove.{RemoveSays}
 use Rattle.layout.specs.Restore.{restoreOf}
 use Rattle.questions.specs.declared.replies.AreaAnswer.the-variants.{Area}
-use Rattle.questions.specs.Answers.{usedAreaOf, freeAreaOf}
+use Rattle.questions.specs.Answers.{usedAreaOf, freeAreaOf, eatenAreaOf}
 use Rattle.questions.specs.Written.{snapshotBytes}
 
 -- `insert` of the part p, in rotation r and shape s, into the piece that m names, on the layout l, answers a and is not refused
@@ -50,12 +50,16 @@ pub record OpenAccepted (o : Opening) (m : Mark) (a : Opened) : Type 0 where
 abbrev pub SameTree : Layout → Layout → Type 0
 SameTree l k = snapshotBytes l ≡ snapshotBytes k
 
--- "Part area plus free area is the sheet": neither call refuses, what they answer adds up, and each is the sum over its pieces of the tree
+-- "Part area plus free area is the sheet", and with a blade (document 02, No. 4) "part area, free area and eaten area make the sheet": no call refuses, what
+-- they answer adds up, and each is the sum over its pieces of the tree
 pub record AreasCover (l : Layout) (sheet : Size) : Type 0 where
   pub used : ℕ
   pub free : ℕ
+  pub eaten : ℕ
   pub usedAnswer : usedAreaOf l ≡ Area used
   pub freeAnswer : freeAreaOf l ≡ Area free
-  pub cover : used + free ≡ area sheet
+  pub eatenAnswer : eatenAreaOf l ≡ Area eaten
+  pub cover : used + free + eaten ≡ area sheet
   pub parts : used ≡ partArea (tree l)
   pub frees : free ≡ freeArea (tree l)
+  pub strips : eaten ≡ eatenArea (tree l)

@@ -13,7 +13,7 @@ use Rattle.frames.specs.declared.Request.{Request}
 use Rattle.frames.specs.Answers.{Answer}
 use Rattle.session.specs.declared.Session.{Session}
 use Rattle.desk_frames.specs.declared.Question.{Question}
-use Rattle.desk_frames.specs.declared.Question.the-variants.{WhyNot, RoomLight, FreePiece, RemovablePiece, PartNumbers, Figures, Snapshot, Cuts}
+use Rattle.desk_frames.specs.declared.Question.the-variants.{WhyNot, RoomLight, FreePiece, RemovablePiece, PartNumbers, Figures, Snapshot, Cuts, EatenArea, Amounts}
 use Rattle.desk_frames.specs.declared.DeskRequest.{DeskRequest}
 use Rattle.desk_frames.specs.declared.DeskRequest.the-variants.{Asks, AtCounter}
 use Rattle.desk_frames.specs.Desk.{DeskAnswer, counters}
@@ -39,6 +39,8 @@ marksTold l PartNumbers = []
 marksTold l Figures = []
 marksTold l Snapshot = []
 marksTold l Cuts = []
+marksTold l EatenArea = []
+marksTold l Amounts = []
 
 -- the answer a to the request, in the state s, writes the mark k
 pub data WritesMark (k : Mark) (s : Session) : DeskRequest → DeskAnswer → Type 0 where

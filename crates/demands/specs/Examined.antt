@@ -24,11 +24,11 @@ use Rattle.questions.specs.declared.replies.UsageAnswer.the-variants as usages
 use Rattle.questions.specs.declared.replies.EmptyAnswer.the-variants as empties
 use Rattle.questions.specs.declared.replies.LightAnswer.the-variants as lights
 use Rattle.questions.specs.declared.replies.MarkAnswer.the-variants as marks
-use Rattle.questions.specs.Answers.{usedAreaOf, freeAreaOf, nodesHeldOf, sheetUsageOf, treeUsageOf, isEmptyOf, freeMarkOf, removableMarkOf}
+use Rattle.questions.specs.Answers.{usedAreaOf, freeAreaOf, eatenAreaOf, nodesHeldOf, sheetUsageOf, treeUsageOf, isEmptyOf, freeMarkOf, removableMarkOf}
 use Rattle.questions.specs.Answers.{offersCall, refusedOffers}
 use Rattle.questions.specs.Light.{lightOf}
 use Rattle.questions.specs.Written.{answerTo, heldNumbers, leftInBuffer, snapshotBytes}
-use Rattle.saw.specs.Written.{sawBytes}
+use Rattle.saw.specs.Written.{amountBytes, sawBytes}
 use Rattle.questions.specs.WhyNot.{refusedWhy, whyCall}
 use Rattle.frames.specs.declared.Request.{Request}
 use Rattle.frames.specs.declared.Request.the-variants.{Restore}
@@ -55,6 +55,7 @@ pub record Examined (l : Layout) : Type 0 where
   -- crate questions
   pub usedArea : usedAreaOf l ≡ areas.Refused NotSound
   pub freeArea : freeAreaOf l ≡ areas.Refused NotSound
+  pub eatenArea : eatenAreaOf l ≡ areas.Refused NotSound
   pub nodesHeld : nodesHeldOf l ≡ counts.Refused NotSound
   pub sheetUsage : sheetUsageOf l ≡ usages.Refused NotSound
   pub treeUsage : treeUsageOf l ≡ usages.Refused NotSound
@@ -68,6 +69,7 @@ pub record Examined (l : Layout) : Type 0 where
   pub whyNot : (m : Mark) (p : PartType) → whyCall l m p ≡ refusedWhy NotSound
   -- crate saw
   pub cuts : NothingWritten l (sawBytes l)
+  pub amounts : NothingWritten l (amountBytes l)
   -- crate session: the counter's state stays, and the answer is the op's refusal; `restore` examines the kept layout too
   pub counter : (kept : Layout) (q : Request) (op : ℕ) → opOf q ≡ some op → (t : Session) (a : Answer) → Answers (both l kept) q t a
       → reply t a ≡ reply (both l kept) (refused op NotSound)

@@ -2,11 +2,11 @@
 -- its field. So nothing is cut where an answer is written, and its line reads back. Rests on the sound layout, on `session` for the counter's answers,
 -- and on `frames` for what is made of bytes.
 use mathlib.Core.Path.{_≡_, refl, ap}
-use mathlib.Core.Bool.{Bool, true, false, cond}
+use mathlib.Core.Bool.{Bool, true, false, cond, _&&_}
 use mathlib.Core.List.{List, [], _∷_, _++_}
 use Prim.Native.Nat.{ℕ, _+_, _^_, _<_, _≤_}
 use native.Mathlib.Omega.{arith}
-use lib.Dec.{T, ltb}
+use lib.Dec.{T, eqb, ltb}
 use lib.Ieee.{binary64, fits}
 use lib.Ieee.Bits.{toBits-lt, ofBits-fits}
 use lib.Ieee.Fits.{div-fits}
@@ -24,9 +24,9 @@ use Rattle.piece.specs.Kinds.{isPart}
 use Rattle.piece.specs.Numbers.{kindNo}
 use Rattle.piece.proofs.Numbers.{cut-small}
 use Rattle.tree.specs.Tree.{Tree, At, count}
-use Rattle.tree.specs.Sound.{Children, Topped}
+use Rattle.tree.specs.Sound.{Domain, Children, Topped}
 use Rattle.tree.specs.Snapshot.{twoThen, fourThen, nodeBytes, snapshot}
-use Rattle.tree.specs.Figures.{sheetUsage, usageOf, added, nought, treeUsage}
+use Rattle.tree.specs.Figures.{eatenArea, sheetUsage, usageOf, added, nought, treeUsage}
 use Rattle.table.specs.declared.Node.{Node}
 use Rattle.table.specs.Table.{at}
 use Rattle.walks.specs.Along.{numbersAlong, below}
@@ -43,20 +43,22 @@ use Rattle.layout.proofs.Exactly.{sound-says}
 use Rattle.layout.proofs.Listed.{piece-low, piece-is}
 use Rattle.questions.specs.declared.reason.Reason.{Reason}
 use Rattle.questions.specs.declared.reason.Reason.the-variants.{Forbidden, TooWide, TooTall, TooWideAndTall, StagesUsedUp, Offered}
+use Rattle.questions.specs.declared.replies.AreaAnswer.the-variants as areas
 use Rattle.questions.specs.declared.replies.LightAnswer.the-variants as lights
 use Rattle.questions.specs.declared.replies.MarkAnswer.the-variants as marks
-use Rattle.questions.specs.Answers.{allFree, markOf, markAtPosition, freeMarkOf, removableMarkOf}
+use Rattle.questions.specs.Answers.{allFree, eatenAreaOf, markOf, markAtPosition, freeMarkOf, removableMarkOf}
 use Rattle.questions.specs.Light.{firstOffering, lightAt, lightOf}
 use Rattle.questions.specs.Reasons.{reasonNo}
 use Rattle.questions.specs.WhyNot.{whyCall}
 use Rattle.questions.specs.Written.{snapshotBytes, heldNumbers}
 use Rattle.questions.proofs.Entries.{free-entry, removable-entry}
 use Rattle.questions.proofs.Figured.{free-small, each-place}
+use Rattle.questions.proofs.EatenSum.{strips-are, strips-small}
 use Rattle.questions.proofs.Lent.{numbers-room}
 use Rattle.saw.specs.declared.cut.Cut.{Cut}
-use Rattle.saw.specs.Cuts.{withoutEmpty, leftNo, cutOff, rowCuts, cuts, cutBytes, bytesOfCuts}
+use Rattle.saw.specs.Cuts.{isEmpty, keptAfter, withoutEmpty, leftNo, cutOff, pilesOf, rowCuts, cuts, cutBytes, bytesOfCuts, amounts}
 use Rattle.saw.specs.Read.{EachOf}
-use Rattle.saw.specs.Written.{sawBytes}
+use Rattle.saw.specs.Written.{amountBytes, sawBytes}
 use Rattle.saw.proofs.Sawn.{cuts-most}
 use Rattle.saw.proofs.Told.{each-append}
 use Rattle.frames.specs.Bytes.{pairs, charsOf, framed, two}
@@ -67,10 +69,10 @@ use Rattle.frames.proofs.AnswerLaws.{refusal-small, are-each, begun, content-ba
 use Rattle.session.specs.declared.Session.{Session}
 use Rattle.session.proofs.Fits.{answer-read}
 use Rattle.desk_frames.specs.declared.Question.{Question}
-use Rattle.desk_frames.specs.declared.Question.the-variants.{WhyNot, RoomLight, FreePiece, RemovablePiece, PartNumbers, Figures, Snapshot, Cuts}
+use Rattle.desk_frames.specs.declared.Question.the-variants.{WhyNot, RoomLight, FreePiece, RemovablePiece, PartNumbers, Figures, Snapshot, Cuts, EatenArea, Amounts}
 use Rattle.desk_frames.specs.declared.DeskRequest.{DeskRequest}
-use Rattle.desk_frames.specs.Answers.{Found, found, refusedWith, ifSound, whyBy, lightFound, markFound, numbersBytes, figuresBytes, figuresOf, yesNo}
-use Rattle.desk_frames.specs.Answers.{snapshotFound, cutsFound, foundIn, questionOp, contentFor}
+use Rattle.desk_frames.specs.Answers.{Found, found, refusedWith, ifSound, whyBy, lightFound, markFound, areaFound, numbersBytes, figuresBytes, figuresOf, yesNo}
+use Rattle.desk_frames.specs.Answers.{snapshotFound, cutsFound, amountsFound, foundIn, questionOp, contentFor}
 use Rattle.desk_frames.specs.Ranges.{DeskRequestFits}
 use Rattle.desk_frames.specs.Desk.{DeskAnswer, deskContent, DeskAnswers, at-counter, question}
 
@@ -97,52 +99,72 @@ reason-small Offered = omega arith
 
 -- ---- the snapshot: a level is at most the stages
 
-node-bytes : (d : Datum) (r : List ℕ) → d .level < 256 → AreBytes r → AreBytes (nodeBytes d r)
+node-bytes : (d : Datum) (r : List ℕ) → d .level < 256 → d .eaten < 256 → AreBytes r → AreBytes (nodeBytes d r)
 unfolding nodeBytes
-node-bytes d r h e =
+node-bytes d r h a e =
     then h
     (then (kind-small (d .kind))
-    (then (cut-small (d .cut)) (are-two-then (d .number) (are-four-then (d .size .width) (are-four-then (d .size .height) e)))))
+    (then (cut-small (d .cut)) (are-two-then (d .number) (are-four-then (d .size .width) (are-four-then (d .size .height) (then a e))))))
 
-row-bytes : (settings : Settings) (q : Datum) (w : Tree) → settings .stages ≤ 254 → Children settings q w → AreBytes (snapshot w)
+row-bytes : (settings : Settings) (q : Datum) (w : Tree) → Domain settings → Children settings q w → AreBytes (snapshot w)
 unfolding snapshot
 row-bytes settings q nil m h = no-bytes
 row-bytes settings q (grow p d k r) m h =
-    node-bytes d (snapshot k ++ snapshot r) (omega (arith, h .child .stage))
+    node-bytes d (snapshot k ++ snapshot r) (omega (arith, h .child .stage, m .most)) (omega (arith, h .child .eaten, m .blade))
     (join (row-bytes settings d k m (h .below)) (row-bytes settings q r m (h .beside)))
 
-tree-bytes : (settings : Settings) (w : Tree) → settings .stages ≤ 254 → Topped settings w → AreBytes (snapshot w)
+tree-bytes : (settings : Settings) (w : Tree) → Domain settings → Topped settings w → AreBytes (snapshot w)
 unfolding snapshot
 tree-bytes settings nil m h = absurd h
 tree-bytes settings (grow p d k r) m h =
     let rest : AreBytes (snapshot r) = rw (h .0 .alone) no-bytes in
-    node-bytes d (snapshot k ++ snapshot r) (omega (arith, h .0 .level)) (join (row-bytes settings d k m (h .1)) rest)
+    node-bytes d (snapshot k ++ snapshot r) (omega (arith, h .0 .level)) (omega (arith, h .0 .eaten)) (join (row-bytes settings d k m (h .1)) rest)
 
--- ---- the cuts: what is said of the two pieces is a kind, or 3
+-- ---- the cuts: what is said of the two pieces is a kind, or 3; and what a cut loses is within the blade's width
 
 abbrev Named : Cut → Type 0
-Named c = (c .piece < 256) × (c .remainder < 256)
+Named c = (c .piece < 256) × (c .remainder < 256) × (c .eaten < 256)
 
 left-small : (e : Datum) (r : Tree) → leftNo e r < 256
 left-small e nil = kind-small (e .kind)
 left-small e (grow p d k r) = omega arith
 
-off-named : (way : Orientation) (i : ℕ) (d : Datum) (r : Tree) → EachOf Named (cutOff way i d r)
-off-named way i d nil = tt
-off-named way i d (grow p e k r) = ((kind-small (d .kind), left-small e r), tt)
+-- each amount of a row, and below it, is a byte; and so of what is cut of it
+abbrev Lossy : Tree → Type 0
+Lossy nil = Unit {0}
+Lossy (grow p d k r) = (d .eaten < 256) × Lossy k × Lossy r
 
-row-named : (way : Orientation) (i : ℕ) (w : Tree) → EachOf Named (rowCuts way i w)
+row-lossy : (settings : Settings) (q : Datum) (w : Tree) → Domain settings → Children settings q w → Lossy w
+row-lossy settings q nil m h = tt
+row-lossy settings q (grow p d k r) m h =
+    (omega (arith, h .child .eaten, m .blade), row-lossy settings d k m (h .below), row-lossy settings q r m (h .beside))
+
+kept-lossy : (eaten : ℕ) (w : Tree) → Lossy w → Lossy (keptAfter eaten w)
+kept-lossy eaten nil h = tt
+kept-lossy eaten (grow p d k r) h =
+    go (isEmpty d && eqb eaten 0) (kept-lossy 0 r (h .2)) (h .0, kept-lossy 0 k (h .1), kept-lossy (d .eaten) r (h .2))
+  where
+    go : (b : Bool) → Lossy (keptAfter 0 r) → Lossy (grow p d (keptAfter 0 k) (keptAfter (d .eaten) r))
+        → Lossy (cond b (keptAfter 0 r) (grow p d (keptAfter 0 k) (keptAfter (d .eaten) r)))
+    go true a b = a
+    go false a b = b
+
+off-named : (way : Orientation) (i : ℕ) (d : Datum) (r : Tree) → d .eaten < 256 → EachOf Named (cutOff way i d r)
+off-named way i d nil h = tt
+off-named way i d (grow p e k r) h = ((kind-small (d .kind), left-small e r, h), tt)
+
+row-named : (way : Orientation) (i : ℕ) (w : Tree) → Lossy w → EachOf Named (rowCuts way i w)
 unfolding rowCuts
-row-named way i nil = tt
-row-named way i (grow p d k r) =
+row-named way i nil h = tt
+row-named way i (grow p d k r) h =
     let below = rowCuts (other way) i k in
-    let j = i + (1 + length below) in
-    each-append Named (cutOff way i d r) (below ++ rowCuts way j r) (off-named way i d r)
-    (each-append Named below (rowCuts way j r) (row-named (other way) i k) (row-named way j r))
+    let j = i + pilesOf d k in
+    each-append Named (cutOff way i d r) (below ++ rowCuts way j r) (off-named way i d r (h .0))
+    (each-append Named below (rowCuts way j r) (row-named (other way) i k (h .1)) (row-named way j r (h .2)))
 
-cuts-named : (w : Tree) → EachOf Named (cuts w)
-cuts-named nil = tt
-cuts-named (grow p d k r) = row-named (d .cut) 0 (withoutEmpty k)
+cuts-named : (settings : Settings) (w : Tree) → Domain settings → Topped settings w → EachOf Named (cuts w)
+cuts-named settings nil m h = tt
+cuts-named settings (grow p d k r) m h = row-named (d .cut) 0 (withoutEmpty k) (kept-lossy 0 k (row-lossy settings d k m (h .1)))
 
 cuts-bytes : (cs : List Cut) → EachOf Named cs → AreBytes (bytesOfCuts cs)
 unfolding bytesOfCuts cutBytes
@@ -150,6 +172,10 @@ cuts-bytes [] h = no-bytes
 cuts-bytes (c ∷ cs) h =
     are-two-then (c .place)
     (then (cut-small (c .way)) (are-four-then (c .distance) (then (h .0 .0) (then (h .0 .1) (cuts-bytes cs (h .1))))))
+
+amounts-bytes : (cs : List Cut) → EachOf Named cs → AreBytes (amounts cs)
+amounts-bytes [] h = no-bytes
+amounts-bytes (c ∷ cs) h = then (h .0 .2) (amounts-bytes cs (h .1))
 
 -- ---- the part numbers: a place of a sound layout's table has a number of two bytes
 
@@ -208,6 +234,8 @@ question-small PartNumbers = omega arith
 question-small Figures = omega arith
 question-small Snapshot = omega arith
 question-small Cuts = omega arith
+question-small EatenArea = omega arith
+question-small Amounts = omega arith
 
 -- at a layout that is as its type says
 module _ (l : Layout) (sized : Sized l) (number : l .number < 2 ^ 16) where
@@ -276,13 +304,27 @@ module _ (l : Layout) (sized : Sized l) (number : l .number < 2 ^ 16) where
   snapshot-bytes : SoundLayout l → AreBytes (snapshotFound l)
   unfolding snapshotBytes
   snapshot-bytes s =
-      join (are-two (count (tree l)) (omega (arith, s .sound .room))) (tree-bytes (l .settings) (tree l) (s .sound .domain .most) (s .sound .topped))
+      join (are-two (count (tree l)) (omega (arith, s .sound .room))) (tree-bytes (l .settings) (tree l) (s .sound .domain) (s .sound .topped))
 
   cuts-found : SoundLayout l → AreBytes (cutsFound l)
   unfolding sawBytes
   cuts-found s =
       join (are-two (length (cuts (tree l))) (omega (arith, cuts-most (tree l) (s .sound), s .sound .room)))
-      (cuts-bytes (cuts (tree l)) (cuts-named (tree l)))
+      (cuts-bytes (cuts (tree l)) (cuts-named (l .settings) (tree l) (s .sound .domain) (s .sound .topped)))
+
+  amounts-found : SoundLayout l → AreBytes (amountsFound l)
+  unfolding amountBytes
+  amounts-found s =
+      join (are-two (length (cuts (tree l))) (omega (arith, cuts-most (tree l) (s .sound), s .sound .room)))
+      (amounts-bytes (cuts (tree l)) (cuts-named (l .settings) (tree l) (s .sound .domain) (s .sound .topped)))
+
+  eaten-bytes : BytesIn (areaFound (eatenAreaOf l))
+  unfolding eatenAreaOf
+  eaten-bytes = go (soundB l) refl
+    where
+      go : (b : Bool) → soundB l ≡ b → BytesIn (areaFound (cond b (areas.Area (eatenArea (tree l))) (areas.Refused refusals.NotSound)))
+      go true ok = let s = sound-says l sized ok in are-eight (eatenArea (tree l)) (omega (arith, strips-are l s, strips-small l s))
+      go false ok = tt
 
   found-bytes : (q : Question) → BytesIn (foundIn l q)
   unfolding foundIn freeMarkOf removableMarkOf
@@ -295,6 +337,8 @@ module _ (l : Layout) (sized : Sized l) (number : l .number < 2 ^ 16) where
   found-bytes Figures = sound-bytes (figuresBytes (figuresOf l)) figures-bytes
   found-bytes Snapshot = sound-bytes (snapshotFound l) snapshot-bytes
   found-bytes Cuts = sound-bytes (cutsFound l) cuts-found
+  found-bytes EatenArea = eaten-bytes
+  found-bytes Amounts = sound-bytes (amountsFound l) amounts-found
 
   -- THE LAW: the answer to every question is made of bytes, so that its line reads back
   pub question-fits : (q : Question) → AreBytes (contentFor (questionOp q) (foundIn l q))

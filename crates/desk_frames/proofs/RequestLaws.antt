@@ -16,7 +16,7 @@ use Rattle.frames.specs.Ranges.{RequestFits}
 use Rattle.frames.proofs.Laws.{by-test, pairs-chars, then, are-framed}
 use Rattle.frames.proofs.Forms.{Fits, none, more, mark-fits, part-fits, are-written}
 use Rattle.frames.proofs.RequestLaws.{table-asks, request-back}
-use Rattle.desk_frames.specs.declared.Question.the-variants.{WhyNot, RoomLight, FreePiece, RemovablePiece, PartNumbers, Figures, Snapshot, Cuts}
+use Rattle.desk_frames.specs.declared.Question.the-variants.{WhyNot, RoomLight, FreePiece, RemovablePiece, PartNumbers, Figures, Snapshot, Cuts, EatenArea, Amounts}
 use Rattle.desk_frames.specs.declared.DeskRequest.{DeskRequest}
 use Rattle.desk_frames.specs.declared.DeskRequest.the-variants.{Asks, AtCounter}
 use Rattle.desk_frames.specs.Requests.{isOwn, malformedLine, whyNotForm, lightForm, positionForm, questionForm, deskRequestOf, deskCarriedBy, deskFrameOf}
@@ -60,4 +60,6 @@ desk-request-back (Asks PartNumbers) f = asks 21 (bareForm (Asks PartNumbers)) [
 desk-request-back (Asks Figures) f = asks 22 (bareForm (Asks Figures)) [] refl refl (omega arith) none (omega arith)
 desk-request-back (Asks Snapshot) f = asks 23 (bareForm (Asks Snapshot)) [] refl refl (omega arith) none (omega arith)
 desk-request-back (Asks Cuts) f = asks 24 (bareForm (Asks Cuts)) [] refl refl (omega arith) none (omega arith)
+desk-request-back (Asks EatenArea) f = asks 25 (bareForm (Asks EatenArea)) [] refl refl (omega arith) none (omega arith)
+desk-request-back (Asks Amounts) f = asks 26 (bareForm (Asks Amounts)) [] refl refl (omega arith) none (omega arith)
 desk-request-back (AtCounter q) f = not-own (frameOf q) (counters-op q f) ∙ ap AtCounter (request-back q f)

@@ -45,7 +45,7 @@ not-own line e = rw e refl
 pub own-at-counter : (line : List ℕ) → isOwn (opIn line) ≡ true → requestOf line ≡ Malformed
 unfolding requestOf
 own-at-counter line e =
-    let h : 17 ≤ opIn line = leb-true 17 (opIn line) (first-true (leb 17 (opIn line)) (leb (opIn line) 24) e) in
+    let h : 17 ≤ opIn line = leb-true 17 (opIn line) (first-true (leb 17 (opIn line)) (leb (opIn line) 26) e) in
     ap (λ (g : Form Request). cond (isFrame line && eqb (length (pairs line)) (formLength g)) (readBy Malformed g (pairs line)) Malformed)
     (form-none (opIn line) (omega arith))
     ∙ either-way (isFrame line && eqb (length (pairs line)) 2)
@@ -70,7 +70,9 @@ reads-question op b =
     (λ e21. by-test (eqb op 22) (λ e. rw (eqb-true op 22 e) refl)
     (λ e22. by-test (eqb op 23) (λ e. rw (eqb-true op 23 e) refl)
     (λ e23. by-test (eqb op 24) (λ e. rw (eqb-true op 24 e) refl)
-    (λ e24. rw (e17, e18, e19, e20, e21, e22, e23, e24) refl))))))))
+    (λ e24. by-test (eqb op 25) (λ e. rw (eqb-true op 25 e) refl)
+    (λ e25. by-test (eqb op 26) (λ e. rw (eqb-true op 26 e) refl)
+    (λ e26. rw (e17, e18, e19, e20, e21, e22, e23, e24, e25, e26) refl))))))))))
 
 line-question : (line : List ℕ) → atCounter (lineAsks malformedLine questionForm line) ≡ Malformed
 line-question line = by-test (fitsForms questionForm line) (λ e. rw e (reads-question (opIn line) (pairs line))) (λ e. rw e refl)

@@ -25,9 +25,9 @@ use Rattle.questions.specs.declared.replies.CountAnswer.the-variants.{Count, Re
 use Rattle.questions.specs.Written.{answerTo, leftInBuffer, snapshotBytes, heldNumbers}
 use Rattle.questions.proofs.Lent.{numbers-room}
 use Rattle.questions.proofs.Snapshots.{snapshot-length}
-use Rattle.saw.specs.Written.{sawBytes}
+use Rattle.saw.specs.Written.{amountBytes, sawBytes}
 use Rattle.saw.proofs.Copied.{take-stored}
-use Rattle.saw.proofs.Layouts.{counted, list-room}
+use Rattle.saw.proofs.Layouts.{counted, list-room, amounts-room}
 use Rattle.frames.specs.Answers.{contentOf, refused}
 use Rattle.frames.specs.Bytes.{two}
 use Rattle.frames.specs.Writing.{lineFor, LinePut}
@@ -97,13 +97,16 @@ module _ (l : Layout) (what : List ℕ) (room : ℕ) (after : List ℕ) {r : Cou
           absurd (omega arith)
       go false fits f = (refl, cc)
 
--- the three buffers have room for all that a sound layout can have
+-- the four buffers have room for all that a sound layout can have
 module _ (l : Layout) (sized : Sized l) (ok : soundB l ≡ true) where
   pub numbers-fit : length (heldNumbers l) ≤ limit
   numbers-fit = numbers-room l (sound-says l sized ok)
 
-  pub snapshot-count : (length (snapshotBytes l) ≡ 13 * count (tree l)) × (count (tree l) ≤ limit)
+  pub snapshot-count : (length (snapshotBytes l) ≡ 14 * count (tree l)) × (count (tree l) ≤ limit)
   snapshot-count = let s = sound-says l sized ok in (snapshot-length l s, s .sound .room)
 
   pub cuts-fit : length (sawBytes l) ≤ 9 * limit
   cuts-fit = list-room l (sound-says l sized ok)
+
+  pub amounts-fit : length (amountBytes l) ≤ limit
+  amounts-fit = amounts-room l (sound-says l sized ok)

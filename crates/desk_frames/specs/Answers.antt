@@ -16,24 +16,26 @@ use Rattle.layout.specs.declared.layout.Layout.{Layout}
 use Rattle.layout.specs.declared.replies.Outcome.{Outcome}
 use Rattle.layout.specs.declared.replies.Outcome.the-variants as outcomes
 use Rattle.layout.specs.Check.{tree, soundB}
+use Rattle.questions.specs.declared.replies.AreaAnswer.{AreaAnswer}
+use Rattle.questions.specs.declared.replies.AreaAnswer.the-variants as areas
 use Rattle.questions.specs.declared.replies.LightAnswer.{LightAnswer}
 use Rattle.questions.specs.declared.replies.LightAnswer.the-variants as lights
 use Rattle.questions.specs.declared.replies.MarkAnswer.{MarkAnswer}
 use Rattle.questions.specs.declared.replies.MarkAnswer.the-variants as marks
 use Rattle.questions.specs.declared.why_not.WhyAnswer.{WhyAnswer}
-use Rattle.questions.specs.Answers.{allFree, freeMarkOf, removableMarkOf}
+use Rattle.questions.specs.Answers.{allFree, eatenAreaOf, freeMarkOf, removableMarkOf}
 use Rattle.questions.specs.Light.{lightOf}
 use Rattle.questions.specs.Reasons.{reasonNo}
 use Rattle.questions.specs.WhyNot.{whyCall}
 use Rattle.questions.specs.Written.{snapshotBytes, heldNumbers}
 use Rattle.saw.specs.Cuts.{cuts}
-use Rattle.saw.specs.Written.{sawBytes}
+use Rattle.saw.specs.Written.{amountBytes, sawBytes}
 use Rattle.frames.specs.Bytes.{two, eight}
 use Rattle.frames.specs.Fields.{markBytes}
 use Rattle.frames.specs.Answers.{each}
 use Rattle.frames.specs.Writing.{LinePut}
 use Rattle.desk_frames.specs.declared.Question.{Question}
-use Rattle.desk_frames.specs.declared.Question.the-variants.{WhyNot, RoomLight, FreePiece, RemovablePiece, PartNumbers, Figures, Snapshot, Cuts}
+use Rattle.desk_frames.specs.declared.Question.the-variants.{WhyNot, RoomLight, FreePiece, RemovablePiece, PartNumbers, Figures, Snapshot, Cuts, EatenArea, Amounts}
 use Rattle.desk_frames.specs.declared.write.FigureList.{FigureList}
 
 -- the bytes that are answered behind the op and 00; or a refusal
@@ -64,6 +66,11 @@ abbrev pub markFound : MarkAnswer → Found
 markFound (marks.Found m) = found (markBytes m)
 markFound (marks.Refused e) = refusedWith e
 
+-- "area 8": refusal 1
+abbrev pub areaFound : AreaAnswer → Found
+areaFound (areas.Area a) = found (eight a)
+areaFound (areas.Refused e) = refusedWith e
+
 -- "how many 2; part number 2 each"
 abbrev pub numbersBytes : List ℕ → List ℕ
 numbersBytes ns = two (length ns) ++ each two ns
@@ -92,12 +99,15 @@ figuresOf l =
       tree = toBits binary64 (treeUsage (tree l));
     }
 
--- "how many nodes 2; each 13 bytes"; "how many cuts 2; each 9 bytes"
+-- "how many nodes 2; each 14 bytes"; "how many cuts 2; each 9 bytes"; "how many cuts 2; what each eats 1"
 abbrev pub snapshotFound : Layout → List ℕ
 snapshotFound l = two (count (tree l)) ++ snapshotBytes l
 
 abbrev pub cutsFound : Layout → List ℕ
 cutsFound l = two (length (cuts (tree l))) ++ sawBytes l
+
+abbrev pub amountsFound : Layout → List ℕ
+amountsFound l = two (length (cuts (tree l))) ++ amountBytes l
 
 -- THE RULE: what each question finds in a layout
 unfoldable pub foundIn : Layout → Question → Found
@@ -109,6 +119,8 @@ foundIn l PartNumbers = ifSound l (numbersBytes (heldNumbers l))
 foundIn l Figures = ifSound l (figuresBytes (figuresOf l))
 foundIn l Snapshot = ifSound l (snapshotFound l)
 foundIn l Cuts = ifSound l (cutsFound l)
+foundIn l EatenArea = areaFound (eatenAreaOf l)
+foundIn l Amounts = ifSound l (amountsFound l)
 
 -- its op
 abbrev pub questionOp : Question → ℕ
@@ -120,6 +132,8 @@ questionOp PartNumbers = 21
 questionOp Figures = 22
 questionOp Snapshot = 23
 questionOp Cuts = 24
+questionOp EatenArea = 25
+questionOp Amounts = 26
 
 -- the bytes of the answer, before their check: "A refusal is op, number, check"
 abbrev pub contentFor : ℕ → Found → List ℕ

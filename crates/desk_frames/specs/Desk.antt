@@ -30,7 +30,7 @@ pub data DeskAnswers : Session → DeskRequest → Session → DeskAnswer → Ty
 
 -- the characters of the longest answer, with its newline: op, 00, how many nodes, all nodes, and the check
 abbrev pub deskLongest : ℕ
-deskLongest = 2 * (2 + 2 + 13 * limit + 1) + 1
+deskLongest = 2 * (2 + 2 + 14 * limit + 1) + 1
 
 -- what the request q, in the state s, gives: a state, and the answer's line in the line that was lent
 pub record DeskSteps (s : Session) (q : DeskRequest) (before after : List ℕ) (r : DeskStepped) : Type 0 where

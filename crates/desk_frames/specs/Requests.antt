@@ -8,13 +8,13 @@ use Rattle.frames.specs.Bytes.{charsOf, framed}
 use Rattle.frames.specs.Fields.{twoBytes, markFields, partFields, aMark, aPart, markNos, partNos}
 use Rattle.frames.specs.Requests.{Form, bareForm, formLength, readBy, opIn, lineAsks, requestOf, carried, carriedBy}
 use Rattle.desk_frames.specs.declared.Question.{Question}
-use Rattle.desk_frames.specs.declared.Question.the-variants.{WhyNot, RoomLight, FreePiece, RemovablePiece, PartNumbers, Figures, Snapshot, Cuts}
+use Rattle.desk_frames.specs.declared.Question.the-variants.{WhyNot, RoomLight, FreePiece, RemovablePiece, PartNumbers, Figures, Snapshot, Cuts, EatenArea, Amounts}
 use Rattle.desk_frames.specs.declared.DeskRequest.{DeskRequest}
 use Rattle.desk_frames.specs.declared.DeskRequest.the-variants.{Asks, AtCounter}
 
--- the ops of the desk's own, 11 to 18 in hexadecimal
+-- the ops of the desk's own, 11 to 1a in hexadecimal
 abbrev pub isOwn : ℕ → Bool
-isOwn op = leb 17 op && leb op 24
+isOwn op = leb 17 op && leb op 26
 
 -- what is malformed at the desk is malformed at the counter
 abbrev pub malformedLine : DeskRequest
@@ -37,7 +37,9 @@ bareQuestion op =
     (cond (eqb op 22) (Asks Figures)
     (cond (eqb op 23) (Asks Snapshot)
     (cond (eqb op 24) (Asks Cuts)
-    malformedLine)))
+    (cond (eqb op 25) (Asks EatenArea)
+    (cond (eqb op 26) (Asks Amounts)
+    malformedLine)))))
 
 unfoldable pub questionForm : ℕ → Form DeskRequest
 questionForm op =
@@ -74,6 +76,8 @@ deskCarriedBy (Asks PartNumbers) = carried 21 (bareForm (Asks PartNumbers)) []
 deskCarriedBy (Asks Figures) = carried 22 (bareForm (Asks Figures)) []
 deskCarriedBy (Asks Snapshot) = carried 23 (bareForm (Asks Snapshot)) []
 deskCarriedBy (Asks Cuts) = carried 24 (bareForm (Asks Cuts)) []
+deskCarriedBy (Asks EatenArea) = carried 25 (bareForm (Asks EatenArea)) []
+deskCarriedBy (Asks Amounts) = carried 26 (bareForm (Asks Amounts)) []
 deskCarriedBy (AtCounter q) = carriedBy q
 
 abbrev pub deskFrameOf : DeskRequest → List ℕ

@@ -17,6 +17,7 @@ use saw::cuts::copy_first;
 use session::Session;
 use session::Stepped;
 use table::LIMIT;
+use walks::snapshot::NODE;
 
 pub mod listener; // listener.rt: the lines of a text that arrives in chunks, each answered
 pub mod read; // read.rt: what a line asks
@@ -33,6 +34,8 @@ pub enum Question {
     Figures,
     Snapshot,
     Cuts,
+    EatenArea,
+    Amounts,
 }
 
 // What a line asks at the desk: a question, or what it asks at the counter; a malformed line is malformed there.
@@ -42,7 +45,7 @@ pub enum DeskRequest {
 }
 
 // The characters of the longest answer, a snapshot of all nodes, with its newline: `deskLongest` of specs/Desk.antt.
-pub const LONGEST_ANSWER: usize = 2 * (2 + 2 + 13 * LIMIT + 1) + 1;
+pub const LONGEST_ANSWER: usize = 2 * (2 + 2 + NODE * LIMIT + 1) + 1;
 
 // The next state, and how many characters of the lent line are the answer, its newline among them.
 pub struct DeskStepped {

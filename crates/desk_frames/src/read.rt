@@ -33,6 +33,10 @@ pub const SNAPSHOT: u8 = 23;
 
 pub const CUTS: u8 = 24;
 
+pub const EATEN_AREA: u8 = 25;
+
+pub const AMOUNTS: u8 = 26;
+
 // Where the fields of an op stand behind it, and how many bytes its frame has.
 const WHY_PART: usize = FIRST + MARK;
 
@@ -52,7 +56,7 @@ fn no() -> DeskRequest
 fn own(op: u8) -> bool
     ensures { λ r. ⌜ r ≡ isOwn op ⌝ }
 {
-    WHY_NOT <= op && op <= CUTS
+    WHY_NOT <= op && op <= AMOUNTS
 }
 
 // One function for each op that carries something; it tests that a turn is listed.
@@ -111,6 +115,8 @@ fn asked_by(op: u8, b: &[u8; 32]) -> DeskRequest
         22 => DeskRequest::Asks(Question::Figures),
         23 => DeskRequest::Asks(Question::Snapshot),
         24 => DeskRequest::Asks(Question::Cuts),
+        25 => DeskRequest::Asks(Question::EatenArea),
+        26 => DeskRequest::Asks(Question::Amounts),
         _ => no(),
     }
 }

@@ -9,7 +9,9 @@ ghost use Rattle.frames.specs.Writing.{LinePut};
 ghost use Rattle.desk_frames.specs.Answers.{Tells, contentFor, refusedWith, yesNo};
 ghost use Rattle.desk_frames.specs.Desk.{deskLongest};
 use crate::Question;
+use crate::read::AMOUNTS;
 use crate::read::CUTS;
+use crate::read::EATEN_AREA;
 use crate::read::FIGURES;
 use crate::read::FREE_PIECE;
 use crate::read::PART_NUMBERS;
@@ -34,7 +36,7 @@ use questions::replies::UsageAnswer;
 use table::LIMIT;
 
 // The bytes of a node of a snapshot, and of a cut.
-const NODE: u16 = 13;
+const NODE: u16 = 14;
 
 const CUT: u16 = 9;
 
@@ -150,7 +152,7 @@ fn snapshot(layout: Layout, out: &mut [u8]) -> usize
     requires { ⌜ deskLongest ≤ length (now out) ⌝ }
     ensures { λ r. ⌜ Tells layout questions.Snapshot (now (out .entry)) (now (out .exit)) r ⌝ }
 {
-    let mut bytes = [0u8; 13 * LIMIT];
+    let mut bytes = [0u8; 14 * LIMIT];
     match questions::written::snapshot(layout, &mut bytes) {
         CountAnswer::Count(n) => write::entries(out, SNAPSHOT, n / NODE, &bytes, n as usize),
         CountAnswer::Refused(refusal) => refused(out, SNAPSHOT, refusal),
@@ -169,6 +171,28 @@ fn cuts(layout: Layout, out: &mut [u8]) -> usize
     }
 }
 
+fn eaten_area(layout: Layout, out: &mut [u8]) -> usize
+    requires { ⌜ deskLongest ≤ length (now out) ⌝ }
+    ensures { λ r. ⌜ Tells layout questions.EatenArea (now (out .entry)) (now (out .exit)) r ⌝ }
+{
+    match questions::figures::eaten_area(layout) {
+        AreaAnswer::Area(area) => write::area(out, EATEN_AREA, area),
+        AreaAnswer::Refused(refusal) => refused(out, EATEN_AREA, refusal),
+    }
+}
+
+// The buffer has room for as many amounts as there are places.
+fn amounts(layout: Layout, out: &mut [u8]) -> usize
+    requires { ⌜ deskLongest ≤ length (now out) ⌝ }
+    ensures { λ r. ⌜ Tells layout questions.Amounts (now (out .entry)) (now (out .exit)) r ⌝ }
+{
+    let mut bytes = [0u8; saw::cuts::AMOUNTS];
+    match saw::cuts::amounts(layout, &mut bytes) {
+        CountAnswer::Count(n) => write::entries(out, AMOUNTS, n, &bytes, n as usize),
+        CountAnswer::Refused(refusal) => refused(out, AMOUNTS, refusal),
+    }
+}
+
 // The answer to a question, in the lent line; and how many characters it has, its newline among them.
 pub fn answer(layout: Layout, question: Question, out: &mut [u8]) -> usize
     requires { ⌜ deskLongest ≤ length (now out) ⌝ }
@@ -183,5 +207,7 @@ pub fn answer(layout: Layout, question: Question, out: &mut [u8]) -> usize
         Question::Figures => figures(layout, out),
         Question::Snapshot => snapshot(layout, out),
         Question::Cuts => cuts(layout, out),
+        Question::EatenArea => eaten_area(layout, out),
+        Question::Amounts => amounts(layout, out),
     }
 }

@@ -73,6 +73,16 @@ pub fn figures(out: &mut [u8], op: u8, f: FigureList) -> usize
     end(out, tree)
 }
 
+// An area.
+pub fn area(out: &mut [u8], op: u8, area: u64) -> usize
+    requires { ⌜ 23 ≤ length (now out) ⌝ }
+    ensures { λ r. ⌜ LinePut (now (out .entry)) (op ∷ 0 ∷ eight area) (now (out .exit)) r ⌝ }
+{
+    let pen = begin(out, op, 0);
+    let next = put_eight(out, pen, area);
+    end(out, next)
+}
+
 // How many entries, and the first n bytes of a list, which are theirs.
 pub fn entries(out: &mut [u8], op: u8, count: u16, bytes: &[u8], n: usize) -> usize
     requires { ⌜ (n ≤ length (now bytes)) × (11 + 2 * n ≤ length (now out)) ⌝ }

@@ -193,9 +193,9 @@ Meant op f = Meaning Malformed carriedBy RequestFits op f
 
 open-meant : Meant 1 openForm
 unfolding carriedBy
-open-meant vs (more a (more b (more c (more {v = n} d (more e none))))) h =
+open-meant vs (more a (more b (more c (more {v = n} d (more e (more f none)))))) h =
     let k = cut-stays n (first-true (cutListed n) true h) in
-    record { carries = inr (rw k refl); fits = record { number = a; sheet = record { width = b; height = c }; stages = e } }
+    record { carries = inr (rw k refl); fits = record { number = a; sheet = record { width = b; height = c }; stages = e; blade = f } }
 
 offers-meant : Meant 2 offersForm
 unfolding carriedBy

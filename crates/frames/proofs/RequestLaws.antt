@@ -73,7 +73,7 @@ pub request-back : (q : Request) → RequestFits q → requestOf (frameOf q) ≡
 unfolding carriedBy formOf
 request-back (OfLayout (Open o)) f =
     asks 1 openForm _ refl (omega arith)
-    (more (f .number) (more (f .sheet .width) (more (f .sheet .height) (more (cut-small (o .cut)) (more (f .stages) none))))) (omega arith)
+    (more (f .number) (more (f .sheet .width) (more (f .sheet .height) (more (cut-small (o .cut)) (more (f .stages) (more (f .blade) none)))))) (omega arith)
     ∙ rw (cut-listed (o .cut), cut-back (o .cut)) refl
 request-back (OfLayout (Offers m p)) f =
     asks 2 offersForm _ refl (omega arith) (mark-fits (part-fits none p (f .1)) m (f .0)) (omega arith) ∙ rw (turn-listed (p .turn), turn-back (p .turn)) refl

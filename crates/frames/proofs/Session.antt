@@ -26,8 +26,8 @@ abbrev pub mark : ℕ → ℕ → Mark
 mark place serial = record { layout = 1; place = place; serial = serial }
 
 pub asks-opening :
-    requestOf (codes "010001000000640000003c01035a")
-    ≡ OfLayout (Open (record { number = 1; settings = record { stages = 3; sheet = record { width = 100; height = 60 } }; cut = Vertical }))
+    requestOf (codes "010001000000640000003c0103005a")
+    ≡ OfLayout (Open (record { number = 1; settings = record { stages = 3; blade = 0; sheet = record { width = 100; height = 60 } }; cut = Vertical }))
 unfolding codes requestOf isFrame pairs allBytes total formOf digitOf pairOf
 asks-opening = refl
 
@@ -40,9 +40,9 @@ asks-insertion = refl
 -- an empty line, an upper-case digit, a character too many, a wrong check
 pub malformed-lines :
     (requestOf none ≡ Malformed)
-    × (requestOf (codes "010001000000640000003C01035a") ≡ Malformed)
-    × (requestOf (codes "010001000000640000003c01035a0") ≡ Malformed)
-    × (requestOf (codes "010001000000640000003c01035b") ≡ Malformed)
+    × (requestOf (codes "010001000000640000003C0103005a") ≡ Malformed)
+    × (requestOf (codes "010001000000640000003c0103005a0") ≡ Malformed)
+    × (requestOf (codes "010001000000640000003c0103005b") ≡ Malformed)
 unfolding codes requestOf isFrame pairs allBytes total formOf digitOf pairOf
 malformed-lines = (refl, refl, refl, refl)
 

@@ -97,8 +97,8 @@ appliedTo (f ∷ fs) k (v ∷ vs) = appliedTo fs (k v) vs
 abbrev pub aSize : ℕ → ℕ → Size
 aSize w h = record { width = w; height = h }
 
-abbrev pub anOpening : ℕ → ℕ → ℕ → ℕ → ℕ → Opening
-anOpening n w h c t = record { number = n; settings = record { stages = t; sheet = aSize w h }; cut = cutOf c }
+abbrev pub anOpening : ℕ → ℕ → ℕ → ℕ → ℕ → ℕ → Opening
+anOpening n w h c t b = record { number = n; settings = record { stages = t; blade = b; sheet = aSize w h }; cut = cutOf c }
 
 abbrev pub aMark : ℕ → ℕ → ℕ → Mark
 aMark layout place serial = record { layout = layout; place = place; serial = serial }
@@ -107,7 +107,7 @@ abbrev pub aPart : ℕ → ℕ → ℕ → ℕ → PartType
 aPart n w h t = record { number = n; size = aSize w h; turn = turnOf t }
 
 abbrev pub openingNos : Opening → List ℕ
-openingNos o = o .number ∷ o .settings .sheet .width ∷ o .settings .sheet .height ∷ cutNo (o .cut) ∷ o .settings .stages ∷ []
+openingNos o = o .number ∷ o .settings .sheet .width ∷ o .settings .sheet .height ∷ cutNo (o .cut) ∷ o .settings .stages ∷ o .settings .blade ∷ []
 
 abbrev pub markNos : Mark → List ℕ
 markNos m = m .layout ∷ m .place ∷ m .serial ∷ []

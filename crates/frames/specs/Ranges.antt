@@ -29,6 +29,7 @@ pub record OpeningFits (o : Opening) : Type 0 where
   pub number : o .number < 2 ^ 16
   pub sheet : SizeFits (o .settings .sheet)
   pub stages : o .settings .stages < 2 ^ 8
+  pub blade : o .settings .blade < 2 ^ 8
 
 abbrev pub RequestFits : Request → Type 0
 RequestFits (OfLayout (Open opening)) = OpeningFits opening

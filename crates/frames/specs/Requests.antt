@@ -11,14 +11,17 @@ use Rattle.frames.specs.declared.Request.the-variants.{OfLayout, Keep, R
 use Rattle.frames.specs.Bytes.{pairs, allBytes, charsOf, total, framed}
 use Rattle.frames.specs.Fields.{Field, byte, twoBytes, fourBytes, cutByte, rotationByte, shapeByte, markFields, partFields, widths, values, allListed, written, Taking, appliedTo, anOpening, aMark, aPart, openingNos, markNos, partNos}
 
--- ---- the table "op | carries": the fields of each op, said once, and the request that their numbers make; A is what can be asked
+-- ---- the table "op | carries" (to op 01 document 02, No. 4, adds the blade's width at the end): the fields of each op, said once, and the request that their numbers make; A is what can be asked
 pub record Form (A : Type 0) : Type 0 where
   pub fields : List Field
   pub asks : Taking A fields
 
 abbrev pub openForm : Form Request
 openForm =
-    record { fields = twoBytes ∷ fourBytes ∷ fourBytes ∷ cutByte ∷ byte ∷ []; asks = λ n w h c t. OfLayout (Open (anOpening n w h c t)) }
+    record {
+      fields = twoBytes ∷ fourBytes ∷ fourBytes ∷ cutByte ∷ byte ∷ byte ∷ [];
+      asks = λ n w h c t b. OfLayout (Open (anOpening n w h c t b));
+    }
 
 abbrev pub offersForm : Form Request
 offersForm = record { fields = markFields ++ partFields; asks = λ l p s n w h t. OfLayout (Offers (aMark l p s) (aPart n w h t)) }

@@ -56,7 +56,9 @@ const OPEN_CUT: usize = OPEN_SIZE + SIZE;
 
 const OPEN_STAGES: usize = OPEN_CUT + BYTE;
 
-const OPEN: usize = OPEN_STAGES + BYTE + CHECK;
+const OPEN_BLADE: usize = OPEN_STAGES + BYTE;
+
+const OPEN: usize = OPEN_BLADE + BYTE + CHECK;
 
 const OFFERS_PART: usize = FIRST + MARK;
 
@@ -181,6 +183,7 @@ fn open(b: &[u8; 32]) -> Request
             number: two_at(b, FIRST),
             settings: Settings {
                 stages: b[OPEN_STAGES],
+                blade: b[OPEN_BLADE],
                 sheet: size_at(b, OPEN_SIZE),
             },
             cut: Orientation::of_number(cut),

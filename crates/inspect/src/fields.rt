@@ -1,4 +1,4 @@
-// The eight fields of a line, each '-' where it is empty or missing, all but the first after a space. What frames don't show comes from the
+// The nine fields of a line, each '-' where it is empty or missing, all but the first after a space. What frames don't show comes from the
 // calls of `questions` and `saw` alone; a layout that isn't sound refuses them, and so its fields are missing.
 use crate::pen::Pen;
 use crate::pen::ROOM;
@@ -20,8 +20,8 @@ use questions::replies::UsageAnswer;
 use session::LONGEST_ANSWER;
 use table::LIMIT;
 
-// The bytes of the longest snapshot: 13 for each place.
-const SNAPSHOT: usize = 13 * LIMIT;
+// The bytes of the longest snapshot: 14 for each place.
+const SNAPSHOT: usize = 14 * LIMIT;
 
 pub enum Listing {
     Free,
@@ -106,7 +106,7 @@ fn bits(usage: f64) -> u64 {
     }
 }
 
-// Used area, free area, and the bits of the sheet's usage and the tree's.
+// Used area, free area, the bits of the sheet's usage and the tree's, and eaten area.
 pub fn figures(out: &mut [u8; ROOM], pen: Pen, layout: Layout) -> Pen {
     let p = put(out, pen, b' ');
     let AreaAnswer::Area(used) = questions::figures::used_area(layout) else {
@@ -121,10 +121,14 @@ pub fn figures(out: &mut [u8; ROOM], pen: Pen, layout: Layout) -> Pen {
     let UsageAnswer::Usage(tree) = questions::figures::tree_usage(layout) else {
         return missing(out, p);
     };
+    let AreaAnswer::Area(eaten) = questions::figures::eaten_area(layout) else {
+        return missing(out, p);
+    };
     let one = put_eight(out, p, used);
     let two = put_eight(out, one, free);
     let three = put_eight(out, two, bits(sheet));
-    put_eight(out, three, bits(tree))
+    let four = put_eight(out, three, bits(tree));
+    put_eight(out, four, eaten)
 }
 
 // The numbers of the parts held, by place.
@@ -189,6 +193,16 @@ pub fn cuts(out: &mut [u8; ROOM], pen: Pen, layout: Layout) -> Pen {
     let p = put(out, pen, b' ');
     let mut bytes = [0u8; saw::cuts::ROOM];
     let CountAnswer::Count(count) = saw::cuts::cuts(layout, &mut bytes) else {
+        return missing(out, p);
+    };
+    put_bytes(out, p, &bytes, count as usize)
+}
+
+// What each of them loses.
+pub fn amounts(out: &mut [u8; ROOM], pen: Pen, layout: Layout) -> Pen {
+    let p = put(out, pen, b' ');
+    let mut bytes = [0u8; saw::cuts::AMOUNTS];
+    let CountAnswer::Count(count) = saw::cuts::amounts(layout, &mut bytes) else {
         return missing(out, p);
     };
     put_bytes(out, p, &bytes, count as usize)

@@ -1,4 +1,4 @@
-// The inspector: the counter's frames in, and for each line its answer and then what frames don't show, in eight fields (recorded/README.md).
+// The inspector: the counter's frames in, and for each line its answer and then what frames don't show, in nine fields (recorded/README.md).
 // Rests on `session`, and takes the same turns as `counter`; the reads and the writes are those of `pipes`.
 mod fields;
 mod pen;
@@ -57,7 +57,8 @@ fn tell(turn: Turn, request: Request) -> bool {
     let six = fields::part_numbers(&mut out, five, layout);
     let seven = fields::light(&mut out, six, layout, request);
     let eight = fields::cuts(&mut out, seven, layout);
-    pen::end(&mut out, eight)
+    let nine = fields::amounts(&mut out, eight, layout);
+    pen::end(&mut out, nine)
 }
 
 // Takes turns until the chunk is used up.

@@ -24,8 +24,8 @@ use Rattle.questions.specs.declared.replies.CountAnswer.the-variants.{Count, Re
 use Rattle.questions.specs.Written.{answerTo, leftInBuffer}
 use Rattle.saw.specs.Saw.{saw}
 use Rattle.saw.specs.Cuts.{boards}
-use Rattle.saw.specs.Read.{readCuts}
-use Rattle.saw.specs.Written.{sawBytes}
+use Rattle.saw.specs.Read.{losing, readCuts}
+use Rattle.saw.specs.Written.{amountBytes, sawBytes}
 use Rattle.saw.proofs.Copied.{take-stored}
 use Rattle.saw.proofs.Layouts.{sawn-bytes, list-room}
 use Rattle.kiosk.specs.declared.records.LayoutRecord.{LayoutRecord}
@@ -83,11 +83,11 @@ hands-out r vs g before after len at answers leaves =
       written = rw at at leaves ∙ left-whole (layoutOf r) (sawBytes (layoutOf r)) before fits;
     }
 
--- the law of the list, for what is handed out of a sound layout: the simple saw, run on the full sheet by the bytes that are counted, ends with the
--- parts and free pieces of the tree
+-- the law of the list, for what is handed out of a sound layout: the simple saw, run on the full sheet by the bytes that are counted, with what the cuts
+-- lose beside them (the desk's op 1a), ends with the parts and free pieces of the tree
 pub handed-sawn : (r : LayoutRecord) → Sized (layoutOf r) → (before after : List ℕ) (count : ℕ) → length before ≡ 9 * limit
     → soundB (layoutOf r) ≡ true → Handed r before after count
-    → saw (readCuts (take count after)) (layoutOf r .settings .sheet ∷ []) ≡ some (boards (tree (layoutOf r)))
+    → saw (losing (readCuts (take count after)) (amountBytes (layoutOf r))) (layoutOf r .settings .sheet ∷ []) ≡ some (boards (tree (layoutOf r)))
 handed-sawn r sized before after count len sound h =
     let l = layoutOf r in
     let s = sound-says l sized sound in

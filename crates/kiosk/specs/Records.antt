@@ -21,7 +21,7 @@ use Rattle.kiosk.specs.declared.records.SessionRecord.{SessionRecord}
 -- ---- the record of zeros
 
 abbrev pub noDatum : DatumRecord
-noDatum = record { serial = 0; width = 0; height = 0; number = 0; level = 0; kind = 0; cut = 0 }
+noDatum = record { serial = 0; width = 0; height = 0; number = 0; level = 0; kind = 0; cut = 0; eaten = 0 }
 
 abbrev pub noRecord : NodeRecord
 noRecord = record { datum = noDatum; parent = 0; first = 0; last = 0; prev = 0; next = 0 }
@@ -39,6 +39,7 @@ noLayout =
       serial = 0;
       number = 0;
       stages = 0;
+      blade = 0;
       width = 0;
       height = 0;
     }
@@ -72,6 +73,7 @@ datumOf d =
       level = d .level;
       kind = kindOf (d .kind);
       cut = cutOf (d .cut);
+      eaten = d .eaten;
     }
 
 unfoldable pub nodeOfRecord : NodeRecord → Node
@@ -101,7 +103,7 @@ fieldsOf r =
       used = r .used;
       serial = r .serial;
       number = r .number;
-      settings = record { stages = r .stages; sheet = sized (r .width) (r .height) };
+      settings = record { stages = r .stages; blade = r .blade; sheet = sized (r .width) (r .height) };
     }
 
 -- the layout that a record stands for
@@ -123,6 +125,7 @@ datumRecord d =
       level = d .level;
       kind = kindNo (d .kind);
       cut = cutNo (d .cut);
+      eaten = d .eaten;
     }
 
 unfoldable pub nodeRecord : Node → NodeRecord
@@ -152,6 +155,7 @@ layoutRecord l =
       serial = l .serial;
       number = l .number;
       stages = l .settings .stages;
+      blade = l .settings .blade;
       width = l .settings .sheet .width;
       height = l .settings .sheet .height;
     }

@@ -63,26 +63,27 @@ pub(crate) fn asked(given: SessionRecord, request: Request) -> SteppedRecord
     let before = given.layout;
     let kept = given.kept;
     let layout = layout_of(before);
-    match request {
-        Request::OfLayout(ask) => told(given, replied(layout, ask)),
+    // `told` is called from one place, so that the compiler makes one function of the two and copies no session between them
+    let response = match request {
+        Request::OfLayout(ask) => replied(layout, ask),
+        Request::Restore => restore(layout, layout_of(kept)),
         Request::Keep => {
             let answer = keep(layout);
             let said = answer.said;
             if answer.sound { // a sound layout's record is the one that it was read from
-                says(
+                return says(
                     SessionRecord {
                         layout: before,
                         kept: before,
                     },
                     said,
-                )
-            } else {
-                says(given, said)
+                );
             }
+            return says(given, said);
         }
-        Request::Restore => told(given, restore(layout, layout_of(kept))),
-        Request::Malformed => says(given, say::malformed()),
-    }
+        Request::Malformed => return says(given, say::malformed()),
+    };
+    told(given, response)
 }
 
 // The step by value: the characters of a line, without its newline.

@@ -26,6 +26,7 @@ pub struct DatumRecord {
     pub level: u8,
     pub kind: u8,
     pub cut: u8,
+    pub eaten: u8,
 }
 
 #[repr(C)]
@@ -50,6 +51,7 @@ pub struct LayoutRecord {
     pub serial: u32,
     pub number: u16,
     pub stages: u8,
+    pub blade: u8,
     pub width: u32,
     pub height: u32,
 }
@@ -100,6 +102,7 @@ fn node_of(given: NodeRecord) -> Node
             level: d.level,
             kind: Kind::of_number(d.kind),
             cut: Orientation::of_number(d.cut),
+            eaten: d.eaten,
         },
         parent: given.parent,
         first: given.first,
@@ -142,6 +145,7 @@ fn fields_of(given: LayoutRecord) -> Layout
         number: given.number,
         settings: Settings {
             stages: given.stages,
+            blade: given.blade,
             sheet: Size {
                 width: given.width,
                 height: given.height,
@@ -179,6 +183,7 @@ fn node_record(n: Node) -> NodeRecord
             level: d.level,
             kind: kind.number(),
             cut: cut.number(),
+            eaten: d.eaten,
         },
         parent: n.parent,
         first: n.first,
@@ -201,6 +206,7 @@ fn no_records() -> [NodeRecord; LIMIT]
             level: 0,
             kind: 0,
             cut: 0,
+            eaten: 0,
         },
         parent: 0,
         first: 0,
@@ -242,6 +248,7 @@ pub fn layout_record(l: Layout) -> LayoutRecord
         serial: l.serial,
         number: l.number,
         stages: l.settings.stages,
+        blade: l.settings.blade,
         width: l.settings.sheet.width,
         height: l.settings.sheet.height,
     }

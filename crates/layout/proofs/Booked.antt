@@ -112,19 +112,19 @@ module _ (l : Layout) (x : ℕ) (p : PartType) (r : Rotation) (s : InsertionShap
   module _ (numbered : p .number ≤ maxNumber) where
     fitting : Fitting (l .settings) d b
     fitting =
-        record { inside = offers .inside; offered = offers .shaped; sided = part-sided p r (can .part); numbered = numbered }
+        record { inside = offers .inside; offered = offers .shaped; sided = part-sided p r (can .part); numbered = numbered; bladed = refl }
 
     abbrev after : Booked
-    after = bookedNodes (nodesOf l) x s size (p .number) (l .serial)
+    after = bookedNodes (nodesOf l) x s size (p .number) (l .settings .blade) (l .serial)
 
-    may-be-booked : Bookable (nodesOf l) x s size (p .number) (l .serial)
+    may-be-booked : Bookable (nodesOf l) x s size (p .number) (l .settings .blade) (l .serial)
     may-be-booked =
-        book-bookable (l .settings) (l .serial) w (nodesOf l) stands x d (can .there) (can .free) s size (p .number) fitting shallow
+        book-bookable (l .settings) (l .serial) w (nodesOf l) stands x d (can .there) (can .free) s size (p .number) (l .settings .blade) fitting shallow
         room (can .spent)
 
     stand-again : Stands (l .settings) (l .serial + newNodes s) (book x b w) (after .nodes)
     stand-again =
-        book-stands (l .settings) (l .serial) w (nodesOf l) stands x d (can .there) (can .free) s size (p .number) fitting shallow
+        book-stands (l .settings) (l .serial) w (nodesOf l) stands x d (can .there) (can .free) s size (p .number) (l .settings .blade) fitting shallow
         room (can .spent)
 
     lists-fit : (after .nodes .free .count ≤ limit) × (after .nodes .removable .count ≤ limit)
@@ -157,7 +157,7 @@ module _ (l : Layout) (x : ℕ) (p : PartType) (r : Rotation) (s : InsertionShap
 
     new-is : after .new ≡ heldNew new
     new-is =
-        book-new (l .settings) (l .serial) w (nodesOf l) stands x d (can .there) (can .free) s size (p .number) fitting shallow room
+        book-new (l .settings) (l .serial) w (nodesOf l) stands x d (can .there) (can .free) s size (p .number) (l .settings .blade) fitting shallow room
         (can .spent)
 
     those-are : those (after .new) ≡ new
@@ -176,20 +176,20 @@ module _ (l : Layout) (x : ℕ) (p : PartType) (r : Rotation) (s : InsertionShap
     next-is : Next l (book x b w) (bookedList limit x d b w (removables l)) (l .serial + newNodes s) next
     next-is =
         rw
-        (book-list (l .settings) (l .serial) w (nodesOf l) stands x d (can .there) (can .free) s size (p .number) fitting shallow room
+        (book-list (l .settings) (l .serial) w (nodesOf l) stands x d (can .there) (can .free) s size (p .number) (l .settings .blade) fitting shallow room
         (can .spent)) at
         (stands-next l (l .serial + newNodes s) (book x b w) (after .nodes) stand-again (l .held - 1 + newNodes s) (l .used + area size)
         held-is used-is)
 
     -- as the code finds it: what its calls give
     module _ {nodes : LayoutNodes} {sides : Size} (nodes-are : nodes ≡ nodesOf l) (sides-are : sides ≡ size) where
-      pub book-may : Bookable nodes x s sides (p .number) (l .serial)
+      pub book-may : Bookable nodes x s sides (p .number) (l .settings .blade) (l .serial)
       book-may = rw (nodes-are, sides-are) may-be-booked
 
       pub used-may : {a : ℕ} → a ≡ area sides → l .used + a < 2 ^ 52
       used-may e = rw (e, sides-are) used-fits
 
-      module _ {made : Booked} (made-is : made ≡ bookedNodes nodes x s sides (p .number) (l .serial)) where
+      module _ {made : Booked} (made-is : made ≡ bookedNodes nodes x s sides (p .number) (l .settings .blade) (l .serial)) where
         made-after : made ≡ after
         made-after = made-is ∙ rw (nodes-are, sides-are) refl
 

@@ -67,6 +67,7 @@ bookingFor l x p r s =
       shape = s;
       size = turned r (p .size);
       number = p .number;
+      blade = l .settings .blade;
       place = newPlace limit (less x (tree l));
       serial = l .serial + 1;
     }

@@ -18,5 +18,5 @@ zeroLayout =
       used = 0;
       serial = 0;
       number = 0;
-      settings = record { stages = 0; sheet = sized 0 0 };
+      settings = record { stages = 0; blade = 0; sheet = sized 0 0 };
     }

@@ -84,6 +84,7 @@ impl Layout {
             shape,
             size,
             part.number,
+            self.settings.blade,
             self.serial,
         );
         let next = self.with_nodes(

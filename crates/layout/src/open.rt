@@ -45,6 +45,7 @@ fn fresh_nodes(opening: Opening) -> [Node; LIMIT]
             level: 0,
             kind: Kind::Structure,
             cut,
+            eaten: 0,
         },
         parent: NONE,
         first: 1,
@@ -60,6 +61,7 @@ fn fresh_nodes(opening: Opening) -> [Node; LIMIT]
             level: 1,
             kind: Kind::Free,
             cut: other,
+            eaten: 0,
         },
         parent: 0,
         first: NONE,
@@ -87,6 +89,7 @@ impl Layout {
             number: 0,
             settings: Settings {
                 stages: 0,
+                blade: 0,
                 sheet: Size {
                     width: 0,
                     height: 0,

@@ -1,5 +1,6 @@
--- Laws of blocks: how many nodes a shape makes, what the code's list of them tells, and that the nodes fill the piece.
-use mathlib.Core.Path.{_≡_, refl, ap, sym, _∙_}
+-- Laws of blocks: how many nodes a shape makes, what the code's list of them tells, how much is eaten, and that the nodes and what was eaten
+-- fill the piece.
+use mathlib.Core.Path.{_≡_, refl, ap, _∙_}
 use mathlib.Core.Bool.{true}
 use mathlib.Core.List.{List}
 use Prim.Native.Nat.{ℕ, _+_, _*_, _-_, _≤_}
@@ -8,25 +9,22 @@ use native.Mathlib.Omega.{arith}
 use lib.ListN.{length, take}
 use Rattle.piece.specs.declared.orientation.Orientation.{Orientation}
 use Rattle.piece.specs.declared.size.Size.{Size}
-use Rattle.piece.specs.declared.node.Kind.{Kind}
-use Rattle.piece.specs.declared.node.Kind.the-variants.{Free, Part, Structure}
 use Rattle.piece.specs.declared.insertion_blueprint.InsertionShape.{InsertionShape}
 use Rattle.piece.specs.declared.insertion_blueprint.InsertionShape.the-variants.{AlongCurrentCut, AcrossCurrentCut, AlongThenAcross, AcrossThenAlong}
 use Rattle.piece.specs.declared.insertion_blueprint.InsertionNode.{InsertionNode}
 use Rattle.piece.specs.Sides.{laid, area}
-use Rattle.piece.specs.Row.{Row, nil, grow}
 use Rattle.piece.specs.Offers.{fits}
-use Rattle.piece.specs.Insertion.{Made, table, newNodes, laidAll, blockOf, ownArea, covered, outside, nodesInOrder, noNode, asBlueprint, blueprintOf}
-use Rattle.piece.proofs.Sizes.{area-laid, fits-laid, fits-sides}
+use Rattle.piece.specs.Insertion.{leftBehind, eatenBehind, table, newNodes, laidAll, blockOf, covered, outside, nodesInOrder, noNode, asBlueprint, blueprintOf}
+use Rattle.piece.proofs.Sizes.{other-twice, laid-twice, laid-other, area-laid, fits-laid, fits-sides}
 use Rattle.piece.proofs.Padded.{padded-whole}
 
-pub block-length : (s : InsertionShape) (q : ℕ) (c d : Orientation) (piece part : Size) →
-    length (nodesInOrder q d (blockOf s c piece part)) ≡ newNodes s
+pub block-length : (s : InsertionShape) (b q : ℕ) (c d : Orientation) (piece part : Size) →
+    length (nodesInOrder q d (blockOf s b c piece part)) ≡ newNodes s
 unfolding blockOf table
-block-length AlongCurrentCut q c d piece part = refl
-block-length AcrossCurrentCut q c d piece part = refl
-block-length AlongThenAcross q c d piece part = refl
-block-length AcrossThenAlong q c d piece part = refl
+block-length AlongCurrentCut b q c d piece part = refl
+block-length AcrossCurrentCut b q c d piece part = refl
+block-length AlongThenAcross b q c d piece part = refl
+block-length AcrossThenAlong b q c d piece part = refl
 
 pub new-nodes-few : (s : InsertionShape) → newNodes s ≤ 5
 new-nodes-few AlongCurrentCut = omega arith
@@ -39,35 +37,52 @@ pub held-whole : (l : List InsertionNode) → length l ≤ 5 → take (asBluepri
 unfolding asBlueprint
 held-whole l h = padded-whole noNode 5 5 l h
 
-module _ (s : InsertionShape) (c : Orientation) (piece part : Size) where
-  pub blueprint-count : blueprintOf s c piece part .count ≡ newNodes s
+module _ (s : InsertionShape) (b : ℕ) (c : Orientation) (piece part : Size) where
+  pub blueprint-count : blueprintOf s b c piece part .count ≡ newNodes s
   unfolding blueprintOf asBlueprint
-  blueprint-count = block-length s outside c c piece part
+  blueprint-count = block-length s b outside c c piece part
 
-own-area-laid : (c : Orientation) (k : Kind) (s : Size) → ownArea k (laid c s) ≡ ownArea k s
-own-area-laid c Free s = area-laid c s
-own-area-laid c Part s = area-laid c s
-own-area-laid c Structure s = refl
+-- What a blade of width b eats of a remainder r is the lesser of the two.
+module _ (b r : ℕ) where
+  -- no more than the blade is wide
+  pub eaten-width : eatenBehind b r ≤ b
+  eaten-width = omega arith
 
-covered-laid : (c : Orientation) (r : Row Made) → covered (laidAll c r) ≡ covered r
-covered-laid c nil = refl
-covered-laid c (grow p m k r) = rw (own-area-laid c (m .kind) (m .size), covered-laid c k, covered-laid c r) refl
+  -- no more than there is
+  pub eaten-rest : eatenBehind b r ≤ r
+  eaten-rest = omega arith
 
--- a side cut in two, with the side that both pieces keep
-cut : {a b : ℕ} (keep : ℕ) → b ≤ a → b * keep + (a - b) * keep ≡ a * keep
-cut {a} {b} keep l = sym (add-mul b (a - b) keep) ∙ ap (λ (n : ℕ). n * keep) (omega arith)
+  -- the blade's whole width, where there is that much
+  pub eaten-blade : b ≤ r → eatenBehind b r ≡ b
+  eaten-blade h = omega arith
 
-table-fills : (s : InsertionShape) (W H w h : ℕ) → w ≤ W → h ≤ H → covered (table s W H w h) ≡ W * H
+  -- all that there is, where that is less
+  pub eaten-all : r ≤ b → eatenBehind b r ≡ r
+  eaten-all h = omega arith
+
+  -- what was eaten and what is left make the remainder
+  pub eaten-left : eatenBehind b r + leftBehind b r ≡ r
+  eaten-left = omega arith
+
+-- a side cut in two with the blade's strip between, and the side that all three keep
+cut : {a w : ℕ} (b keep : ℕ) → w ≤ a → w * keep + eatenBehind b (a - w) * keep + leftBehind b (a - w) * keep ≡ a * keep
+cut {a} {w} b keep l =
+    rw (← add-mul w (eatenBehind b (a - w)) keep, ← add-mul (w + eatenBehind b (a - w)) (leftBehind b (a - w)) keep)
+    (ap (λ (n : ℕ). n * keep) (omega arith))
+
+-- a row of the table, laid by the cut, fills the piece
+table-fills : (s : InsertionShape) (b : ℕ) (c : Orientation) (W H w h : ℕ) → w ≤ W → h ≤ H
+    → covered c (laidAll c (table s b W H w h)) ≡ W * H
 unfolding table
-table-fills AlongCurrentCut W H w h p q = omega (arith, cut H p)
-table-fills AcrossCurrentCut W H w h p q = omega (arith, cut W q)
-table-fills AlongThenAcross W H w h p q = omega (arith, cut w q, cut H p)
-table-fills AcrossThenAlong W H w h p q = omega (arith, cut h p, cut W q)
+table-fills AlongCurrentCut b c W H w h p q = simp (area-laid, laid-twice) (omega (arith, cut b H p))
+table-fills AcrossCurrentCut b c W H w h p q = simp (area-laid, laid-twice, laid-other) (omega (arith, cut b W q))
+table-fills AlongThenAcross b c W H w h p q = simp (area-laid, laid-twice, laid-other) (omega (arith, cut b w q, cut b H p))
+table-fills AcrossThenAlong b c W H w h p q = simp (area-laid, laid-twice, laid-other, other-twice) (omega (arith, cut b h p, cut b W q))
 
--- whatever the cut, the parts and free pieces of a block have the piece's area, where the part fits
-pub block-fills : (s : InsertionShape) (c : Orientation) (piece part : Size) → fits piece part ≡ true →
-    covered (blockOf s c piece part) ≡ area piece
+-- whatever the cut and the blade, the parts and free pieces of a block and what was eaten have the piece's area, where the part fits
+pub block-fills : (s : InsertionShape) (b : ℕ) (c : Orientation) (piece part : Size) → fits piece part ≡ true →
+    covered c (blockOf s b c piece part) ≡ area piece
 unfolding blockOf
-block-fills s c piece part f =
-    let b = fits-sides (laid c piece) (laid c part) (fits-laid c piece part ∙ f) in
-    rw covered-laid (table-fills s _ _ _ _ (b .0) (b .1) ∙ area-laid c piece)
+block-fills s b c piece part f =
+    let z = fits-sides (laid c piece) (laid c part) (fits-laid c piece part ∙ f) in
+    table-fills s b c _ _ _ _ (z .0) (z .1) ∙ area-laid c piece

@@ -23,6 +23,11 @@ pub laid-twice : (c : Orientation) (s : Size) → laid c (laid c s) ≡ s
 laid-twice Horizontal s = refl
 laid-twice Vertical s = refl
 
+-- and by the other cut it lies across
+pub laid-other : (c : Orientation) (s : Size) → laid (other c) (laid c s) ≡ exchanged s
+laid-other Horizontal s = refl
+laid-other Vertical s = refl
+
 area-exchanged : (s : Size) → area (exchanged s) ≡ area s
 area-exchanged s = mul-comm (s .height) (s .width)
 

@@ -69,7 +69,8 @@ impl Kind {
     }
 }
 
-// What a piece is. The serial is that of its mark; the number is a part's, and 0 otherwise.
+// What a piece is. The serial is that of its mark; the number is a part's, and 0 otherwise; `eaten` is how much the saw's blade ate behind the piece
+// when it was cut off.
 pub struct Datum {
     pub serial: u32,
     pub size: Size,
@@ -77,6 +78,7 @@ pub struct Datum {
     pub level: u8,
     pub kind: Kind,
     pub cut: Orientation,
+    pub eaten: u8,
 }
 
 // Whether a part of this size fits within a piece of that.

@@ -2,9 +2,10 @@
 use crate::orientation::Orientation;
 use crate::size::Size;
 
-// What a layout keeps of its opening, and every rule of it goes by: the stages, and the sheet's size.
+// What a layout keeps of its opening, and every rule of it goes by: the stages, the width of the saw's blade, and the sheet's size.
 pub struct Settings {
     pub stages: u8,
+    pub blade: u8,
     pub sheet: Size,
 }
 

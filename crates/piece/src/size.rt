@@ -1,6 +1,7 @@
 // A width and a height, in units of the sheet. Rust: core/size.rs.
 ghost use mathlib.Core.Path.{_≡_};
 ghost use Prim.Native.Nat.{_-_};
+ghost use Rattle.piece.specs.Insertion.{eatenBehind};
 ghost use Rattle.piece.specs.Sides.{area, exchanged, laid};
 use crate::orientation::Orientation;
 
@@ -42,4 +43,16 @@ pub fn rest(whole: u32, taken: u32) -> u32
     ensures { λ r. ⌜ r ≡ whole - taken ⌝ }
 {
     if taken <= whole { whole - taken } else { 0 }
+}
+
+// How much a blade of this width eats of a remainder: all of it, if that is less.
+pub fn eaten_behind(blade: u8, remainder: u32) -> u8
+    ensures { λ r. ⌜ r ≡ eatenBehind blade remainder ⌝ }
+{
+    let width = blade as u32;
+    if remainder < width {
+        remainder as u8
+    } else {
+        blade
+    }
 }

@@ -5,7 +5,7 @@ use mathlib.Core.Logic.{_↔_}
 use Prim.Native.Nat.{ℕ, _+_}
 use native.Mathlib.Omega.{arith}
 use Rattle.piece.specs.Sides.{area}
-use Rattle.tree.specs.Figures.{partArea, freeArea, one, sheetUsage, treeUsage}
+use Rattle.tree.specs.Figures.{partArea, freeArea, eatenArea, one, sheetUsage, treeUsage}
 use Rattle.tree.proofs.Laws.AreaConserved.{area-conserved}
 use Rattle.tree.proofs.Laws.SheetUsageOne.{sheet-usage-one}
 use Rattle.tree.proofs.Laws.TreeUsageOne.{tree-usage-one}
@@ -16,7 +16,7 @@ use Rattle.layout.proofs.Exactly.{sound-shown}
 use Rattle.questions.specs.declared.replies.AreaAnswer.the-variants.{Area}
 use Rattle.questions.specs.declared.replies.UsageAnswer.the-variants.{Usage}
 use Rattle.questions.specs.declared.replies.EmptyAnswer.the-variants.{Says}
-use Rattle.questions.specs.Answers.{usedAreaOf, freeAreaOf, sheetUsageOf, treeUsageOf, isEmptyOf}
+use Rattle.questions.specs.Answers.{usedAreaOf, freeAreaOf, eatenAreaOf, sheetUsageOf, treeUsageOf, isEmptyOf}
 use Rattle.questions.proofs.Figured.{never-empty}
 
 module _ (l : Layout) (sized : Sized l) (s : SoundLayout l) where
@@ -33,6 +33,10 @@ module _ (l : Layout) (sized : Sized l) (s : SoundLayout l) where
   unfolding freeAreaOf
   free-answer = rw yes refl
 
+  eaten-answer : eatenAreaOf l ≡ Area (eatenArea (tree l))
+  unfolding eatenAreaOf
+  eaten-answer = rw yes refl
+
   sheet-answer : sheetUsageOf l ≡ Usage (sheetUsage (partArea (tree l)) (area (l .settings .sheet)))
   unfolding sheetUsageOf
   sheet-answer = rw yes refl
@@ -43,25 +47,28 @@ module _ (l : Layout) (sized : Sized l) (s : SoundLayout l) where
 
   -- ---- what they say of each other
 
-  -- the parts and the free pieces cover the sheet
-  pub areas-cover : (used free : ℕ) → usedAreaOf l ≡ Area used → freeAreaOf l ≡ Area free → used + free ≡ area (l .settings .sheet)
-  areas-cover used free e f =
+  -- the parts, the free pieces and what was eaten cover the sheet
+  pub areas-cover : (used free eaten : ℕ) → usedAreaOf l ≡ Area used → freeAreaOf l ≡ Area free → eatenAreaOf l ≡ Area eaten
+      → used + free + eaten ≡ area (l .settings .sheet)
+  areas-cover used free eaten e f g =
       let a = used-answer in
       let b = free-answer in
+      let c = eaten-answer in
       let u : used ≡ partArea (tree l) = cc in
       let v : free ≡ freeArea (tree l) = cc in
+      let w : eaten ≡ eatenArea (tree l) = cc in
       omega (arith, area-conserved (tree l) (s .sound))
 
-  -- sheet usage "is exactly 1 if and only if no free area is left"
-  pub full-sheet : (sheetUsageOf l ≡ Usage one) ↔ (freeArea (tree l) ≡ 0)
+  -- sheet usage "is exactly 1 if and only if no free area is left" and nothing was eaten
+  pub full-sheet : (sheetUsageOf l ≡ Usage one) ↔ ((freeArea (tree l) ≡ 0) × (eatenArea (tree l) ≡ 0))
   full-sheet =
       let law = sheet-usage-one (tree l) (s .sound) in
       let a = sheet-answer in
       ((λ e. law .0 (cc)), λ e. a ∙ ap Usage (law .1 e))
 
-  -- "The top's is exactly 1 where no free piece has area."
-  pub full-tree : freeArea (tree l) ≡ 0 → treeUsageOf l ≡ Usage one
-  full-tree e = tree-answer ∙ ap Usage (tree-usage-one (tree l) (s .sound) e)
+  -- "The top's is exactly 1 where no free piece has area" and nothing was eaten.
+  pub full-tree : freeArea (tree l) ≡ 0 → eatenArea (tree l) ≡ 0 → treeUsageOf l ≡ Usage one
+  full-tree e f = tree-answer ∙ ap Usage (tree-usage-one (tree l) (s .sound) e f)
 
   -- "`is_empty` is no on every sound layout."
   pub not-empty : isEmptyOf l ≡ Says false

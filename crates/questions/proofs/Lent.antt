@@ -67,7 +67,7 @@ module _ (l : Layout) (s : SoundLayout l) where
   pub held-room : l .held ≤ limit
   held-room = omega (arith, s .held, s .sound .room)
 
-  pub bytes-length : length (snapshotBytes l) ≡ 13 * l .held
+  pub bytes-length : length (snapshotBytes l) ≡ 14 * l .held
   unfolding snapshotBytes
   bytes-length = length-snapshot (tree l) ∙ rw (s .held) refl
 

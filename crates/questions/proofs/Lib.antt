@@ -2,6 +2,7 @@ pub mod SizedBy
 pub mod Entries
 pub mod ListMarks
 pub mod Figured
+pub mod EatenSum
 pub mod Usage
 pub mod FiguresSay
 pub mod Lent

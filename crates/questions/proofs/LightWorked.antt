@@ -37,7 +37,7 @@ use Rattle.questions.proofs.LightExactly.{Offering, named-exactly, yes-
 -- a piece, with its serial
 abbrev piece : ℕ → Kind → ℕ → Orientation → ℕ → ℕ → ℕ → Datum
 piece serial kind level cut number w h =
-    record { serial = serial; size = sized w h; number = number; level = level; kind = kind; cut = cut }
+    record { serial = serial; size = sized w h; number = number; level = level; kind = kind; cut = cut; eaten = 0 }
 
 -- the two free pieces: what is beside the part, and the strip below it
 abbrev beside : Datum

@@ -13,7 +13,7 @@ use Rattle.layout.specs.Check.{tree}
 use Rattle.layout.specs.SoundLayout.{SoundLayout}
 use Rattle.questions.specs.Written.{snapshotBytes}
 
-pub snapshot-length : (l : Layout) → SoundLayout l → length (snapshotBytes l) ≡ 13 * count (tree l)
+pub snapshot-length : (l : Layout) → SoundLayout l → length (snapshotBytes l) ≡ 14 * count (tree l)
 unfolding snapshotBytes
 snapshot-length l s = length-snapshot (tree l)
 

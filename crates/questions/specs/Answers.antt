@@ -10,7 +10,7 @@ use Rattle.piece.specs.Offers.{asOfferList, noOffers, offersOf}
 use Rattle.piece.specs.Row.{nil, grow}
 use Rattle.piece.specs.Kinds.{isFree}
 use Rattle.tree.specs.Tree.{Tree, count}
-use Rattle.tree.specs.Figures.{partArea, freeArea, sheetUsage, treeUsage}
+use Rattle.tree.specs.Figures.{partArea, freeArea, eatenArea, sheetUsage, treeUsage}
 use Rattle.table.specs.Table.{at}
 use Rattle.marks.specs.declared.Mark.{Mark}
 use Rattle.marks.specs.declared.Refusal.{Refusal}
@@ -40,6 +40,10 @@ usedAreaOf l = cond (soundB l) (areas.Area (partArea (tree l))) (areas.Refused N
 
 unfoldable pub freeAreaOf : Layout → AreaAnswer
 freeAreaOf l = cond (soundB l) (areas.Area (freeArea (tree l))) (areas.Refused NotSound)
+
+-- document 02, No. 4
+unfoldable pub eatenAreaOf : Layout → AreaAnswer
+eatenAreaOf l = cond (soundB l) (areas.Area (eatenArea (tree l))) (areas.Refused NotSound)
 
 unfoldable pub nodesHeldOf : Layout → CountAnswer
 nodesHeldOf l = cond (soundB l) (counts.Count (count (tree l))) (counts.Refused NotSound)

@@ -1,4 +1,5 @@
 pub mod Answers
+pub mod Eaten
 pub mod Light
 pub mod Written
 pub mod Reasons

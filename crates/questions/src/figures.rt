@@ -1,6 +1,7 @@
-// The figures of a layout: areas, nodes held, usage. Each examines the layout first (refusal 1).
+// The figures of a layout: areas (used, free and eaten), nodes held, usage. Each examines the layout first (refusal 1).
 ghost use mathlib.Core.Path.{_≡_};
-ghost use Rattle.questions.specs.Answers.{freeAreaOf, isEmptyOf, nodesHeldOf, sheetUsageOf, treeUsageOf, usedAreaOf};
+ghost use Rattle.questions.specs.Answers.{eatenAreaOf, freeAreaOf, isEmptyOf, nodesHeldOf, sheetUsageOf, treeUsageOf, usedAreaOf};
+use crate::eaten::strips_of;
 use crate::replies::AreaAnswer;
 use crate::replies::CountAnswer;
 use crate::replies::EmptyAnswer;
@@ -33,6 +34,17 @@ pub fn free_area(layout: Layout) -> AreaAnswer
     let kind = c.kind;
     let area = c.area;
     AreaAnswer::Area(free_sum(&kind, &area))
+}
+
+// What the saw's blade has eaten: the strip behind each piece.
+pub fn eaten_area(layout: Layout) -> AreaAnswer
+    ensures { λ r. ⌜ r ≡ eatenAreaOf layout ⌝ }
+{
+    if layout.sound() {} else {
+        return AreaAnswer::Refused(Refusal::NotSound);
+    }
+    let nodes = layout.nodes;
+    AreaAnswer::Area(strips_of(nodes))
 }
 
 pub fn nodes_held(layout: Layout) -> CountAnswer

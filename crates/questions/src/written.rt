@@ -11,9 +11,10 @@ use walks::columns::columns_of;
 use walks::numbers::count_numbers;
 use walks::numbers::every_place;
 use walks::numbers::put_numbers;
+use walks::snapshot::NODE;
 use walks::snapshot::put_subtree;
 
-// The snapshot of the tree, 13 bytes a node, and how many bytes it has. It is written down the tree from the top, which is at place 0.
+// The snapshot of the tree, 14 bytes a node, and how many bytes it has. It is written down the tree from the top, which is at place 0.
 pub fn snapshot(layout: Layout, out: &mut [u8]) -> CountAnswer
     ensures answer { λ r. ⌜ r ≡ answerTo layout (snapshotBytes layout) (length (now (out .entry))) ⌝ }
     ensures written { λ r. ⌜ now (out .exit) ≡ leftInBuffer layout (snapshotBytes layout) (now (out .entry)) ⌝ }
@@ -22,7 +23,7 @@ pub fn snapshot(layout: Layout, out: &mut [u8]) -> CountAnswer
         return CountAnswer::Refused(Refusal::NotSound);
     }
     let held = layout.held as usize;
-    let bytes = 13 * held;
+    let bytes = NODE * held;
     if out.len() < bytes {
         return CountAnswer::Refused(Refusal::BufferTooShort);
     }
@@ -37,6 +38,7 @@ pub fn snapshot(layout: Layout, out: &mut [u8]) -> CountAnswer
         &c.number,
         &c.width,
         &c.height,
+        &c.eaten,
         0,
         held,
         out,

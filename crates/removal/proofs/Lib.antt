@@ -7,7 +7,7 @@ pub mod RemovableList
 pub mod Sums
 pub mod Rooms
 pub mod Turns
-pub mod Joins
+pub mod Boards
 pub mod Gone
 pub mod Struck
 pub mod Stands

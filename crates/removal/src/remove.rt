@@ -3,7 +3,7 @@ ghost use mathlib.Core.Path.{_≡_};
 ghost use Prim.Native.Nat.{_+_, _≤_, _<_};
 ghost use Rattle.lists.specs.Lists.{limit};
 ghost use lib.ListN.{length};
-ghost use Rattle.tree.specs.Removal.{board, freed, joined};
+ghost use Rattle.tree.specs.Removal.{board, freed, spare};
 ghost use Rattle.tree.specs.ListSteps.{omitAll, put, strikeAll};
 ghost use Rattle.table.specs.Steps.{unlinkAll};
 ghost use Rattle.walks.specs.Inner.{Placed};
@@ -18,6 +18,7 @@ use layout_nodes::listing::Listing;
 use layout_nodes::listing::areas_of;
 use piece::node::Datum;
 use piece::node::Kind;
+use piece::orientation::Orientation;
 use piece::size::Size;
 use table::LIMIT;
 use table::NONE;
@@ -112,33 +113,33 @@ pub fn area_along(nodes: [Node; LIMIT], g: Going) -> u64
     sum
 }
 
-// Two pieces of a row as one: the sides that their parent's cut divides are added.
-fn join(d: Datum, e: Datum) -> Size
-    requires { ⌜ (joined d e .width ≤ 4294967295) × (joined d e .height ≤ 4294967295) ⌝ }
-    ensures { λ r. ⌜ r ≡ joined d e ⌝ }
+// What the last piece of a row has of the side that their parent's cut divides, if it is free.
+fn spare_of(cut: Orientation, end: Datum) -> u32
+    ensures { λ r. ⌜ r ≡ spare cut (ifFree end) ⌝ }
 {
-    let cut = d.cut;
-    let own = d.size;
-    let more = e.size;
-    let a = own.laid(cut);
-    let b = more.laid(cut);
-    let whole = Size {
-        width: a.width + b.width,
-        height: a.height,
-    };
-    whole.laid(cut)
+    let kind = end.kind;
+    let size = end.size;
+    if kind.is_free() {
+        return size.laid(cut).width;
+    }
+    0
 }
 
-// The board of d, with the last piece of its row, if that is free.
+// The board of d, with the last piece of its row, if that is free. What was eaten behind d comes back with it.
 fn board_with(d: Datum, end: Datum) -> Size
     requires { ⌜ (board d (ifFree end) .width ≤ 4294967295) × (board d (ifFree end) .height ≤ 4294967295) ⌝ }
     ensures { λ r. ⌜ r ≡ board d (ifFree end) ⌝ }
 {
-    let kind = end.kind;
-    if kind.is_free() {
-        return join(d, end);
-    }
-    d.size
+    let cut = d.cut;
+    let own = d.size;
+    let a = own.laid(cut);
+    let eaten = d.eaten as u32;
+    let spare = spare_of(cut, end);
+    let whole = Size {
+        width: a.width + eaten + spare,
+        height: a.height,
+    };
+    whole.laid(cut)
 }
 
 // The free piece that comes where d was, where `end` is the last piece of its row.
@@ -155,6 +156,7 @@ fn new_free(d: Datum, end: Datum, last: u32) -> Datum
         level: d.level,
         kind: Kind::Free,
         cut,
+        eaten: 0,
     }
 }
 

@@ -19,15 +19,19 @@ fn asked(b: [u8; 74]) -> InsertionBlueprint {
     };
     nodes(
         InsertionShape::of_number(b[1]),
+        0,
         Orientation::of_number(b[0]),
         piece,
         part,
     )
 }
 
-// Whether a node is what the eleven recorded bytes from `at` on say; past the count both are zero.
+// Whether a node is what the eleven recorded bytes from `at` on say; past the count both are zero. The Rust has no blade: nothing is eaten.
 fn same_node(n: InsertionNode, b: [u8; 74], at: usize) -> bool {
     if 63 < at {
+        return false;
+    }
+    if n.eaten != 0 {
         return false;
     }
     let kind = n.kind;

@@ -24,6 +24,7 @@ fn asked(b: [u8; 74]) -> OfferList {
         level: b[0],
         kind: Kind::Free,
         cut: Orientation::of_number(b[2]),
+        eaten: 0,
     };
     let part = PartType {
         number: 0,
@@ -35,6 +36,7 @@ fn asked(b: [u8; 74]) -> OfferList {
     };
     let settings = Settings {
         stages: b[1],
+        blade: 0,
         sheet: size,
     };
     offers(piece, part, settings)

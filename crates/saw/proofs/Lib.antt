@@ -2,6 +2,8 @@ pub mod Slices
 pub mod Fills
 pub mod Truly
 pub mod Sawn
+pub mod BeforeEmpty
+pub mod OneList
 pub mod Told
 pub mod PiecesArea
 pub mod CutBytes

@@ -1,6 +1,6 @@
--- The boards that the saw gives have together the area of the sheet: no area is lost with the free pieces that are left out. Rests on tree's law that
--- parts and free pieces make the sheet.
-use mathlib.Core.Path.{_≡_, refl, _∙_}
+-- The boards that the saw gives and what was eaten have together the area of the sheet: no area is lost with the free pieces that are left out. Rests on
+-- tree's law that part area, free area and eaten area make the sheet.
+use mathlib.Core.Path.{_≡_, refl}
 use mathlib.Core.Bool.{cond}
 use mathlib.Core.Logic.{⊎-elim}
 use mathlib.Core.List.{List, [], _∷_, _++_}
@@ -17,7 +17,7 @@ use Rattle.piece.specs.Row.{nil, grow}
 use Rattle.piece.specs.Kinds.{isFree, isPart}
 use Rattle.tree.specs.Tree.{Tree}
 use Rattle.tree.specs.Sound.{Sound}
-use Rattle.tree.specs.Figures.{partArea, freeArea}
+use Rattle.tree.specs.Figures.{partArea, freeArea, eatenArea}
 use Rattle.tree.proofs.Laws.AreaConserved.{area-conserved}
 use Rattle.lists.proofs.Scan.{test}
 use Rattle.saw.specs.Cuts.{ownBoard, boards}
@@ -49,5 +49,5 @@ boards-area (grow p d k r) =
       boards-area r,
     )
 
-pub pieces-area : {limit : ℕ} {settings : Settings} (t : Tree) → Sound limit settings t → areas (boards t) ≡ area (settings .sheet)
-pieces-area t h = boards-area t ∙ area-conserved t h
+pub pieces-area : {limit : ℕ} {settings : Settings} (t : Tree) → Sound limit settings t → areas (boards t) + eatenArea t ≡ area (settings .sheet)
+pieces-area t h = omega (arith, boards-area t, area-conserved t h)

@@ -1,8 +1,8 @@
 -- What a cut leaves of a board: slices of it, laid as the way of the cut says. The one file of the saw's laws that looks at the way.
-use mathlib.Core.Path.{_≡_, refl, sym, ap, _∙_, subst⁻¹}
+use mathlib.Core.Path.{_≡_, refl, sym, ap, _∙_}
 use mathlib.Core.Bool.{true, _&&_}
 use mathlib.Core.List.{[], _∷_}
-use Prim.Native.Nat.{ℕ, _*_, _-_, _≤_, _<_}
+use Prim.Native.Nat.{ℕ, _+_, _*_, _-_, _≤_}
 use native.Mathlib.Nat.{mul-pos}
 use native.Mathlib.Omega.{arith}
 use lib.Dec.{ltb, leb}
@@ -10,6 +10,7 @@ use borrow.Author.Tests.{ne-eqb, lt-ltb, le-leb}
 use Rattle.piece.specs.declared.orientation.Orientation.{Orientation}
 use Rattle.piece.specs.declared.orientation.Orientation.the-variants.{Horizontal, Vertical}
 use Rattle.piece.specs.declared.size.Size.{Size}
+use Rattle.piece.specs.declared.node.Datum.{Datum}
 use Rattle.piece.specs.Sides.{area, laid, other, sized}
 use Rattle.tree.specs.Sound.{Sided, maxSide}
 use Rattle.tree.proofs.Areas.{area-laid}
@@ -57,32 +58,21 @@ with-area {s} h = rw (ne-eqb (area s) 0 (sided-area h)) refl
 pub sided-side : (way : Orientation) {s : Size} → Sided s → 1 ≤ side way s
 sided-side way b = laid-sided (other way) b .wide
 
-pub slice-sided : (way : Orientation) (n : ℕ) {s : Size} → 1 ≤ n → Sided s → Sided (slice way n s)
-slice-sided way n h b = laid-sided (other way) (sided h (laid-sided (other way) b .tall))
+pub sides-sided : (way : Orientation) (s : Size) → 1 ≤ side way s → 1 ≤ laid (other way) s .height → Sided s
+sides-sided Horizontal s h g = sided g h
+sides-sided Vertical s h g = sided h g
 
 -- ---- a piece that is cut off, and what is left of the board
 
-abbrev pub remnant : Orientation → Size → Size → Size
-remnant way s x = slice way (side way s - side way x) s
+abbrev pub remnant : Orientation → Size → Datum → Size
+remnant way s d = slice way (side way s - (side way (d .size) + d .eaten)) s
 
-pub record Off (way : Orientation) (s x : Size) : Type 0 where
-  pub part : x ≡ slice way (side way x) s
-  pub some : 1 ≤ side way x
-  pub less : side way x < side way s
+pub record Off (way : Orientation) (s : Size) (d : Datum) : Type 0 where
+  pub board : Sided s
+  pub part : d .size ≡ slice way (side way (d .size)) s
+  pub some : 1 ≤ side way (d .size)
+  pub within : side way (d .size) + d .eaten ≤ side way s
 
-module _ {way : Orientation} {s x : Size} (h : Off way s x) where
-  pub off-can : (ltb 0 (side way x) && leb (side way x) (side way s)) ≡ true
-  off-can = rw (lt-ltb 0 (side way x) (h .some), le-leb (side way x) (side way s) (omega (arith, h .less))) refl
-
-  module _ (b : Sided s) where
-    pub off-sided : Sided x
-    off-sided = subst⁻¹ Sided (h .part) (slice-sided way (side way x) (h .some) b)
-
-    pub remnant-sided : Sided (remnant way s x)
-    remnant-sided = slice-sided way (side way s - side way x) (omega (arith, h .less)) b
-
-    pub off-piece : withArea (slice way (side way x) s) ≡ x ∷ []
-    off-piece = ap withArea (sym (h .part)) ∙ with-area off-sided
-
-    pub off-rest : withArea (remnant way s x) ≡ remnant way s x ∷ []
-    off-rest = with-area remnant-sided
+pub off-can : {way : Orientation} {s : Size} {d : Datum} → Off way s d
+    → (ltb 0 (side way (d .size)) && leb (side way (d .size) + d .eaten) (side way s)) ≡ true
+off-can {way} {s} {d} h = rw (lt-ltb 0 (side way (d .size)) (h .some), le-leb (side way (d .size) + d .eaten) (side way s) (h .within)) refl

@@ -1,4 +1,5 @@
--- Change request 3 (document 02): what the bytes of a list of cuts say, "9 bytes each". Fewer than nine at the end say nothing.
+-- Change request 3 (document 02): what the bytes of a list of cuts say, "9 bytes each". Fewer than nine at the end say nothing. What the cuts lose is
+-- said beside them (change request 4).
 use mathlib.Core.List.{List, [], _∷_}
 use Prim.Native.Nat.{ℕ, zero, suc, _+_, _*_, _<_}
 use Rattle.piece.specs.declared.orientation.Orientation.{Orientation}
@@ -28,7 +29,22 @@ readCuts (a ∷ b ∷ w ∷ c ∷ d ∷ e ∷ []) = []
 readCuts (a ∷ b ∷ w ∷ c ∷ d ∷ e ∷ f ∷ []) = []
 readCuts (a ∷ b ∷ w ∷ c ∷ d ∷ e ∷ f ∷ p ∷ []) = []
 readCuts (a ∷ b ∷ w ∷ c ∷ d ∷ e ∷ f ∷ p ∷ l ∷ r) =
-    record { place = ofTwo a b; way = wayOf w; distance = ofFour c d e f; piece = p; remainder = l } ∷ readCuts r
+    record { place = ofTwo a b; way = wayOf w; distance = ofFour c d e f; piece = p; remainder = l; eaten = 0 } ∷ readCuts r
+
+-- the cuts with the amounts that were recorded beside them, as far as there are some
+abbrev pub losing : List Cut → List ℕ → List Cut
+losing [] amounts = []
+losing (c ∷ cs) [] = []
+losing (c ∷ cs) (a ∷ amounts) =
+    record {
+      place = c .place;
+      way = c .way;
+      distance = c .distance;
+      piece = c .piece;
+      remainder = c .remainder;
+      eaten = a;
+    }
+    ∷ losing cs amounts
 
 -- the bytes hold the numbers of a cut
 pub record Fits (c : Cut) : Type 0 where

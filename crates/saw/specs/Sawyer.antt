@@ -4,7 +4,7 @@
 use mathlib.Core.List.{List, [], _∷_, _++_, map}
 use mathlib.Core.Bool.{Bool, false, cond, not, _&&_, _||_}
 use mathlib.Core.Option.{Option, none, some}
-use Prim.Native.Nat.{ℕ, zero, suc, _-_}
+use Prim.Native.Nat.{ℕ, zero, suc, _+_, _-_}
 use lib.Dec.{eqb}
 use Rattle.piece.specs.declared.orientation.Orientation.{Orientation}
 use Rattle.piece.specs.declared.orientation.Orientation.the-variants.{Horizontal}
@@ -47,7 +47,7 @@ mayCut nested way x = cond (eqb (x .said) 3) (sameWay way x) (eqb (x .said) 2 &&
 abbrev pub parted : Cut → Size → List Piece
 parted c s =
     map (namedBy (c .piece) (c .way)) (withArea (slice (c .way) (c .distance) s))
-    ++ map (namedBy (c .remainder) (c .way)) (withArea (slice (c .way) (side (c .way) s - c .distance) s))
+    ++ map (namedBy (c .remainder) (c .way)) (withArea (slice (c .way) (side (c .way) s - (c .distance + c .eaten)) s))
 
 -- the pile after a cut of its piece at this place
 abbrev pub sawyerAt : Bool → Cut → ℕ → List Piece → Option (List Piece)
@@ -72,7 +72,7 @@ abbrev pub nestedRow : Bool → Tree → Bool
 nestedRow alone nil = false
 nestedRow alone (grow p d k r) = (alone && isStructure (d .kind)) || (nestedRow (single k) k || nestedRow alone r)
 
--- some structure of a tree holds a structure alone, but for free pieces of area 0
+-- some structure of a tree holds a structure alone, but for free pieces of area 0 that are left out
 abbrev pub nestedIn : Tree → Bool
 nestedIn t = nestedRow false (withoutEmpty t)
 

@@ -122,7 +122,7 @@ module _ (limit : ℕ) (settings : Settings) (t : List Node) (places : (i : ℕ)
       (λ e. let g = rw (rep .1) at (ih (walked e)) in (g .0, omega (arith, g .1)))
 
   row-more : (q m pv sum p : ℕ) (d : Datum) (k r : Tree) → Rep limit t q pv (grow p d k r)
-      → ChildNode settings (at t q) q pv (at t p) × Siblings limit settings t q m p (at t p .next) (sum + step (at t p))
+      → ChildNode limit settings (at t q) q pv (at t p) × Siblings limit settings t q m p (at t p .next) (sum + step (at t p))
       → (Siblings limit settings t p limit limit (head limit k) 0 → Filled limit settings t p 0 k)
       → (Siblings limit settings t q m p (head limit r) (sum + step (at t p)) → Filled limit settings t q (sum + step (at t p)) r)
       → Filled limit settings t q sum (grow p d k r)
@@ -133,7 +133,8 @@ module _ (limit : ℕ) (settings : Settings) (t : List Node) (places : (i : ℕ)
       let s = solid q pv p d k r rep (g .0 .held) ihk in
       let f = ihr (rw (ap (λ (x : Node). x .next) (rep .1)) at (g .1)) in
       let taken : sum + step (at t p) + extent (other (at t q .datum .cut)) r ≡ room (at t q) = f .1 in
-      (record { child = c; kinded = s .0; below = s .1; beside = f .0 }, omega arith)
+      let ends : head limit r ≡ limit → d .eaten ≡ 0 = rw (rep .1) at (g .0 .last) in
+      (record { child = c; kinded = s .0; ends = λ z. ends (ap (head limit) z); below = s .1; beside = f .0 }, omega arith)
 
   -- the row that the table holds from there on
   row-filled : (q m pv sum : ℕ) (r : Tree) → Rep limit t q pv r → Siblings limit settings t q m pv (head limit r) sum
@@ -150,7 +151,7 @@ module _ (limit : ℕ) (settings : Settings) (t : List Node) (places : (i : ℕ)
       let n = mk d limit limit (head limit k) (last limit k) limit in
       let shown : TopNode limit settings n = rw (rep .1) at h in
       let s = solid limit limit 0 d k nil rep (h .held) (row-filled 0 limit limit 0 k (rep .2)) in
-      (top refl refl (shown .level) (shown .kind) (shown .size) (subst (λ (κ : Kind). Kinded κ d k nil) (shown .kind) (s .0)), s .1)
+      (top refl refl (shown .level) (shown .kind) (shown .size) (shown .eaten) (subst (λ (κ : Kind). Kinded κ d k nil) (shown .kind) (s .0)), s .1)
 
 -- The tests of a table of `limit` places, where a tree cannot be deeper than that.
 module _ (limit : ℕ) (settings : Settings) (t : List Node) (len : length t ≡ limit) (some : 0 < limit) (less : settings .stages < limit)

@@ -17,6 +17,7 @@ use Rattle.tree.proofs.Spots.{children-deep}
 use Rattle.table.specs.declared.Node.{Node}
 use Rattle.table.specs.Table.{mk, zeroNode, at, Held, head, last, Rep, Holds}
 use Rattle.table.proofs.Linkage.{Linkage}
+use Rattle.table.proofs.Rep.{no-child}
 use Rattle.table.proofs.Build.{in-held}
 use Rattle.table.proofs.Unique.{holds-room, tree-is}
 use Rattle.table.proofs.Links.{holds-linkage}
@@ -58,13 +59,14 @@ module _ (limit : ℕ) (settings : Settings) (t : List Node) where
         λ l. (here, rw (ap (λ (x : Node). x .next) (rep .1)) rest),
       )
     where
-      here : ChildNode settings (at t q) q pv (at t p)
+      here : ChildNode limit settings (at t q) q pv (at t p)
       here =
           record {
             held = held p (inl refl);
             parent = ap (λ (x : Node). x .parent) (rep .1);
             prev = ap (λ (x : Node). x .prev) (rep .1);
             piece = rw (rep .1) (ch .child);
+            last = rw (rep .1) (λ z. ch .ends (no-child limit t q p r (rep .3) z));
           }
 
   -- a piece shows what it is, and so does its row
@@ -129,6 +131,7 @@ module _ (limit : ℕ) (settings : Settings) (t : List Node) where
           (record {
             held = serials 0 d (inl (refl, refl));
             level = s .0 .level;
+            eaten = s .0 .eaten;
             kind = s .0 .kind;
             size = s .0 .size;
             parent = refl;

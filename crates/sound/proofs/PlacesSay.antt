@@ -39,7 +39,8 @@ unfolding zeroDatumB
 zero-datum-says d =
     let s =
     and-says (eq-says (d .serial) 0) (and-says (eq-says (d .size .width) 0) (and-says (eq-says (d .size .height) 0)
-    (and-says (eq-says (d .number) 0) (and-says (eq-says (d .level) 0) (and-says (free-says (d .kind)) (horizontal-says (d .cut)))))))
+    (and-says (eq-says (d .number) 0) (and-says (eq-says (d .level) 0) (and-says (eq-says (d .eaten) 0)
+    (and-says (free-says (d .kind)) (horizontal-says (d .cut))))))))
     in
     worded s
     (λ h i.
@@ -48,10 +49,11 @@ zero-datum-says d =
       size = record { width = h .1 .0 i; height = h .1 .1 .0 i };
       number = h .1 .1 .1 .0 i;
       level = h .1 .1 .1 .1 .0 i;
-      kind = h .1 .1 .1 .1 .1 .0 i;
-      cut = h .1 .1 .1 .1 .1 .1 i;
+      kind = h .1 .1 .1 .1 .1 .1 .0 i;
+      cut = h .1 .1 .1 .1 .1 .1 .1 i;
+      eaten = h .1 .1 .1 .1 .1 .0 i;
     })
-    (λ e. rw e (refl, (refl, (refl, (refl, (refl, (refl, refl)))))))
+    (λ e. rw e (refl, (refl, (refl, (refl, (refl, (refl, (refl, refl))))))))
 
 zero-links-says : (n : Node) → Says (zeroLinksB n) (n ≡ mk (n .datum) 0 0 0 0 0)
 unfolding zeroLinksB
@@ -146,6 +148,7 @@ places-says limit t = every-says (λ i. place-says limit (at t i)) limit
 pub record TopNode (limit : ℕ) (settings : Settings) (n : Node) : Type 0 where
   pub held : 0 < n .datum .serial
   pub level : n .datum .level ≡ 0
+  pub eaten : n .datum .eaten ≡ 0
   pub kind : n .datum .kind ≡ Structure
   pub size : n .datum .size ≡ settings .sheet
   pub parent : n .parent ≡ limit
@@ -156,8 +159,9 @@ pub top-says : (limit : ℕ) (settings : Settings) (n : Node) → Says (topB lim
 unfolding topB topDatumB topLinksB
 top-says limit settings n =
     let d =
-    and-says (some-says (n .datum .serial)) (and-says (eq-says (n .datum .level) 0) (and-says (structure-says (n .datum .kind))
-    (and-says (eq-says (n .datum .size .width) (settings .sheet .width)) (eq-says (n .datum .size .height) (settings .sheet .height)))))
+    and-says (some-says (n .datum .serial)) (and-says (eq-says (n .datum .level) 0) (and-says (eq-says (n .datum .eaten) 0)
+    (and-says (structure-says (n .datum .kind))
+    (and-says (eq-says (n .datum .size .width) (settings .sheet .width)) (eq-says (n .datum .size .height) (settings .sheet .height))))))
     in
     let l = and-says (eq-says (n .parent) limit) (and-says (eq-says (n .prev) limit) (eq-says (n .next) limit)) in
     worded (and-says d l)
@@ -165,13 +169,14 @@ top-says limit settings n =
     record {
       held = h .0 .0;
       level = h .0 .1 .0;
-      kind = h .0 .1 .1 .0;
-      size = λ i. record { width = h .0 .1 .1 .1 .0 i; height = h .0 .1 .1 .1 .1 i };
+      eaten = h .0 .1 .1 .0;
+      kind = h .0 .1 .1 .1 .0;
+      size = λ i. record { width = h .0 .1 .1 .1 .1 .0 i; height = h .0 .1 .1 .1 .1 .1 i };
       parent = h .1 .0;
       prev = h .1 .1 .0;
       next = h .1 .1 .1;
     })
     (λ h. (
-      (h .held, (h .level, (h .kind, (ap (λ (x : Size). x .width) (h .size), ap (λ (x : Size). x .height) (h .size))))),
+      (h .held, (h .level, (h .eaten, (h .kind, (ap (λ (x : Size). x .width) (h .size), ap (λ (x : Size). x .height) (h .size)))))),
       (h .parent, (h .prev, h .next)),
     ))

@@ -12,7 +12,7 @@ use borrow.Author.Tests.{eq-eqb, ne-eqb}
 use Rattle.sound.specs.Listed.{heldIn, areaListed}
 
 -- what falls at no step falls nowhere
-grows : (g : ℕ → ℕ) → ((n : ℕ) → g n ≤ g (suc n)) → (m n : ℕ) → n ≤ m → g n ≤ g m
+pub grows : (g : ℕ → ℕ) → ((n : ℕ) → g n ≤ g (suc n)) → (m n : ℕ) → n ≤ m → g n ≤ g m
 grows g step zero n h = let e : n ≡ 0 = omega arith in rw e (omega arith)
 grows g step (suc m) n h = go (ℕ-discrete n (suc m)) (grows g step m n)
   where

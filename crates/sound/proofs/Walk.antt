@@ -18,14 +18,14 @@ less-one n = omega arith
 
 module _ (limit : ℕ) (settings : Settings) (t : List Node) (q : ℕ) where
   -- a child is passed
-  pub chain-on : (m pv p sum : ℕ) {b : Bool} → 0 < m → p < limit → b ≡ childB settings (at t q) q pv (at t p) → b ≡ true
+  pub chain-on : (m pv p sum : ℕ) {b : Bool} → 0 < m → p < limit → b ≡ childB limit settings (at t q) q pv (at t p) → b ≡ true
       → chainB limit settings t q m pv p sum ≡ chainB limit settings t q (m - 1) p (at t p .next) (sum + step (at t p))
   unfolding chainB
   chain-on zero pv p sum h l e y = absurd (not-suc-le-zero h)
   chain-on (suc m) pv p sum h l e y = rw (lt-leb limit p l, ← e, y, less-one m) refl
 
   -- one is no child
-  pub chain-bad : (m pv p sum : ℕ) {b : Bool} → p < limit → b ≡ childB settings (at t q) q pv (at t p) → b ≡ false
+  pub chain-bad : (m pv p sum : ℕ) {b : Bool} → p < limit → b ≡ childB limit settings (at t q) q pv (at t p) → b ≡ false
       → chainB limit settings t q m pv p sum ≡ false
   unfolding chainB
   chain-bad zero pv p sum l e n = refl

@@ -19,7 +19,7 @@ use Rattle.table.specs.Table.{at}
 unfoldable pub zeroDatumB : Datum → Bool
 zeroDatumB d =
     eqb (d .serial) 0 && (eqb (d .size .width) 0 && (eqb (d .size .height) 0 && (eqb (d .number) 0
-    && (eqb (d .level) 0 && (isFree (d .kind) && isHorizontal (d .cut))))))
+    && (eqb (d .level) 0 && (eqb (d .eaten) 0 && (isFree (d .kind) && isHorizontal (d .cut)))))))
 
 unfoldable pub zeroLinksB : Node → Bool
 zeroLinksB n = eqb (n .parent) 0 && (eqb (n .first) 0 && (eqb (n .last) 0 && (eqb (n .prev) 0 && eqb (n .next) 0)))
@@ -48,12 +48,12 @@ placeB limit n = cond (eqb (n .datum .serial) 0) (zeroB n) (kindB limit (n .datu
 unfoldable pub placesB : ℕ → List Node → Bool
 placesB limit t = every (λ (i : ℕ). placeB limit (at t i)) limit
 
--- "the top is at place 0 and level 0, is no part, has the sheet's size and at least one child": what stands there, and that it hangs under no
--- node and beside none
+-- "the top is at place 0 and level 0, is no part, has the sheet's size and at least one child", and "record[s] 0": what stands there, and that it
+-- hangs under no node and beside none
 unfoldable pub topDatumB : Settings → Datum → Bool
 topDatumB settings d =
-    not (eqb (d .serial) 0) && (eqb (d .level) 0 && (isStructure (d .kind)
-    && (eqb (d .size .width) (settings .sheet .width) && eqb (d .size .height) (settings .sheet .height))))
+    not (eqb (d .serial) 0) && (eqb (d .level) 0 && (eqb (d .eaten) 0 && (isStructure (d .kind)
+    && (eqb (d .size .width) (settings .sheet .width) && eqb (d .size .height) (settings .sheet .height)))))
 
 unfoldable pub topLinksB : ℕ → Node → Bool
 topLinksB limit n = eqb (n .parent) limit && (eqb (n .prev) limit && eqb (n .next) limit)

@@ -23,6 +23,8 @@ pub const MAX_SIDE: u32 = 67108863;
 
 pub const MAX_STAGES: u8 = 254;
 
+pub const MAX_BLADE: u8 = 100;
+
 pub const MAX_SERIAL: u32 = 1000000;
 
 pub fn side_ok(side: u32) -> bool
@@ -31,7 +33,7 @@ pub fn side_ok(side: u32) -> bool
     if 1 <= side { side <= MAX_SIDE } else { false }
 }
 
-// Sheet sides and stages are in the domain.
+// Sheet sides, stages and blade width are in the domain.
 pub fn domain_ok(settings: Settings) -> bool
     ensures { λ r. ⌜ r ≡ domainB settings ⌝ }
 {
@@ -41,11 +43,13 @@ pub fn domain_ok(settings: Settings) -> bool
     if side_ok(settings.sheet.height) {} else {
         return false;
     }
-    if 1 <= settings.stages {
-        settings.stages <= MAX_STAGES
-    } else {
-        false
+    if settings.stages < 1 {
+        return false;
     }
+    if MAX_STAGES < settings.stages {
+        return false;
+    }
+    settings.blade <= MAX_BLADE
 }
 
 // What stands beside the lists: the settings, the top, and the last serial issued.

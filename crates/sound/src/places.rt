@@ -67,6 +67,9 @@ fn zero_datum(d: Datum) -> bool
     if d.level != 0 {
         return false;
     }
+    if d.eaten != 0 {
+        return false;
+    }
     let kind = d.kind;
     let cut = d.cut;
     if kind.is_free() {
@@ -130,7 +133,7 @@ pub fn place_ok(n: Node) -> bool
     }
 }
 
-// Whether it is a structure at level 0 with the sheet's size.
+// Whether it is a structure at level 0 with the sheet's size and nothing eaten behind it.
 fn top_datum(d: Datum, settings: Settings) -> bool
     ensures { λ r. ⌜ r ≡ topDatumB settings d ⌝ }
 {
@@ -138,6 +141,9 @@ fn top_datum(d: Datum, settings: Settings) -> bool
         return false;
     }
     if d.level != 0 {
+        return false;
+    }
+    if d.eaten != 0 {
         return false;
     }
     let kind = d.kind;

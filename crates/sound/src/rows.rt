@@ -1,9 +1,11 @@
 // The clauses that speak of a parent and its children: each row is walked by its links, within as many steps as there are places.
 ghost use mathlib.Core.Path.{_≡_};
 ghost use mathlib.Core.Bool.{true};
+ghost use Prim.Native.Nat.{_<_};
 ghost use Rattle.lists.specs.Lists.{limit};
 ghost use Rattle.sound.specs.Hung.{hangRows};
-ghost use Rattle.sound.specs.Rows.{childB, endB, parentB, room, rowsB, sameCut, step};
+ghost use Rattle.sound.specs.Rows.{childB, childDatumB, eatenB, endB, hungUnderB, parentB, room, rowsB, sameCut, step};
+use piece::node::Datum;
 use piece::orientation::Orientation;
 use piece::settings::Settings;
 use table::LIMIT;
@@ -25,21 +27,23 @@ fn same_cut(a: Orientation, b: Orientation) -> bool
     }
 }
 
-// Whether n is a child of q, which is `up`, after the sibling pv.
-fn child_ok(settings: Settings, up: Node, q: u16, pv: u16, n: Node) -> bool
-    ensures { λ r. ⌜ r ≡ childB settings up q pv n ⌝ }
+// Whether n hangs under q, after the sibling pv.
+fn is_hung(q: u16, pv: u16, n: Node) -> bool
+    ensures { λ r. ⌜ r ≡ hungUnderB q pv n ⌝ }
 {
-    let d = n.datum;
-    let parent = up.datum;
-    if d.serial == 0 {
+    if n.datum.serial == 0 {
         return false;
     }
     if n.parent != q {
         return false;
     }
-    if n.prev != pv {
-        return false;
-    }
+    n.prev == pv
+}
+
+// Whether d has the level, the cut and the side of a child of the piece `parent`.
+fn child_datum(settings: Settings, parent: Datum, d: Datum) -> bool
+    ensures { λ r. ⌜ r ≡ childDatumB settings parent d ⌝ }
+{
     let level = d.level as u32;
     let above = parent.level as u32;
     if level != above + 1 {
@@ -58,14 +62,41 @@ fn child_ok(settings: Settings, up: Node, q: u16, pv: u16, n: Node) -> bool
     own.laid(cut).height == whole.laid(cut).height
 }
 
-// The side of a child that its parent's cut divides.
-fn step_of(n: Node) -> u32
-    ensures { λ r. ⌜ r ≡ step n ⌝ }
+// Whether the amount that was eaten behind it is within the blade's width, and 0 where it is the last child.
+fn eaten_ok(settings: Settings, n: Node) -> bool
+    ensures { λ r. ⌜ r ≡ eatenB limit settings n ⌝ }
+{
+    let eaten = n.datum.eaten;
+    if n.next == NONE {
+        eaten == 0
+    } else {
+        eaten <= settings.blade
+    }
+}
+
+// Whether n is a child of q, which is `up`, after the sibling pv.
+fn child_ok(settings: Settings, up: Node, q: u16, pv: u16, n: Node) -> bool
+    ensures { λ r. ⌜ r ≡ childB limit settings up q pv n ⌝ }
+{
+    if is_hung(q, pv, n) {} else {
+        return false;
+    }
+    if child_datum(settings, up.datum, n.datum) {
+        eaten_ok(settings, n)
+    } else {
+        false
+    }
+}
+
+// What a child takes of the side that its parent's cut divides, with what was eaten behind it.
+fn step_of(n: Node) -> u64
+    ensures says { λ r. ⌜ r ≡ step n ⌝ }
+    ensures below { λ r. ⌜ r < 8589934592 ⌝ }
 {
     let d = n.datum;
     let cut = d.cut;
     let size = d.size;
-    size.laid(cut).width
+    (size.laid(cut).width as u64) + (d.eaten as u64)
 }
 
 // The side that a row has to fill.
@@ -117,7 +148,7 @@ pub fn rows_ok(nodes: [Node; LIMIT], settings: Settings, hung: &mut [u8; LIMIT])
             let above = q as u16;
             let mut pv = NONE;
             let mut p = up.first;
-            // A side is below 2^32 and there are at most LIMIT steps, so the sum fits.
+            // A side with what was eaten is below 2^33 and there are at most LIMIT steps, so the sum fits.
             let mut sum: u64 = 0;
             let mut left: usize = LIMIT;
             while p < NONE && 0 < left {
@@ -127,7 +158,7 @@ pub fn rows_ok(nodes: [Node; LIMIT], settings: Settings, hung: &mut [u8; LIMIT])
                     ok = false;
                     break 'all;
                 }
-                sum += step_of(n) as u64;
+                sum += step_of(n);
                 hung[here] = 1;
                 pv = p;
                 p = n.next;

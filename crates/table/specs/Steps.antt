@@ -27,7 +27,7 @@ plant limit t q (grow p d k r) = plant limit (plant limit (append limit t q p d)
 
 -- a node of a blueprint as one of a block
 abbrev pub madeOf : InsertionNode → Made
-madeOf n = record { kind = n .kind; size = n .size }
+madeOf n = record { kind = n .kind; size = n .size; eaten = n .eaten }
 
 -- places are unlinked one after the other
 abbrev pub unlinkAll : ℕ → List Node → List ℕ → List Node

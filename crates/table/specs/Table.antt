@@ -15,7 +15,7 @@ use Rattle.tree.specs.Tree.{Tree, In, Distinct}
 use Rattle.table.specs.declared.Node.{Node}
 
 abbrev pub zeroDatum : Datum
-zeroDatum = record { serial = 0; size = sized 0 0; number = 0; level = 0; kind = Free; cut = Horizontal }
+zeroDatum = record { serial = 0; size = sized 0 0; number = 0; level = 0; kind = Free; cut = Horizontal; eaten = 0 }
 
 abbrev pub mk : Datum → (q pv f l n : ℕ) → Node
 mk d q pv f l n = record { datum = d; parent = q; first = f; last = l; prev = pv; next = n }

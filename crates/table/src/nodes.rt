@@ -25,6 +25,7 @@ pub fn no_datum() -> Datum
         level: 0,
         kind: Kind::Free,
         cut: Orientation::Horizontal,
+        eaten: 0,
     }
 }
 

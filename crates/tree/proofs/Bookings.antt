@@ -1,9 +1,8 @@
 -- Bookings: two in different free pieces, and one that is taken back. Assumes nothing.
-use mathlib.Core.Path.{_≡_, refl, sym, ap₂, _∙_, subst}
+use mathlib.Core.Path.{_≡_, refl, sym, _∙_, subst}
 use mathlib.Core.Bool.{true}
 use mathlib.Core.Logic.{_⊎_, inl, inr}
 use Prim.Native.Nat.{ℕ, _+_, _-_, _≤_, _<_}
-use native.Mathlib.Nat.{add-sub-of-le}
 use native.Mathlib.Omega.{arith}
 use borrow.Author.Tests.{eq-eqb, ne-eqb}
 use Rattle.piece.specs.declared.orientation.Orientation.{Orientation}
@@ -17,12 +16,12 @@ use Rattle.piece.specs.declared.settings.Settings.{Settings}
 use Rattle.piece.specs.Sides.{other, sized, laid}
 use Rattle.piece.specs.Row.{Row, nil, grow}
 use Rattle.piece.specs.Offers.{fits}
-use Rattle.piece.specs.Insertion.{Made, laidAll, blockOf, table}
+use Rattle.piece.specs.Insertion.{Made, leftBehind, eatenBehind, laidAll, blockOf, table}
 use Rattle.tree.specs.Tree.{Tree, In, At, Distinct, after}
 use Rattle.tree.specs.Sound.{FreePiece, Kinded, Children, Sound}
 use Rattle.tree.specs.Snapshot.{shape}
 use Rattle.tree.specs.Booking.{Booking, planted, block, bookedRow, book}
-use Rattle.tree.specs.Removal.{joined, settled, remove}
+use Rattle.tree.specs.Removal.{board, settled, remove}
 use Rattle.tree.specs.Apart.{Alike, Clear}
 use Rattle.piece.proofs.Sizes.{laid-twice, fits-laid, fits-sides}
 use Rattle.tree.proofs.Rows.{same?, in-eq, at-in, after-nil}
@@ -32,7 +31,7 @@ use Rattle.tree.proofs.Changes.{past, alike, commute}
 -- Two bookings in different free pieces.
 
 alike-sym : {b b′ : Booking} → Alike b b′ → Alike b′ b
-alike-sym a = record { shape = sym (a .shape); size = sym (a .size); number = sym (a .number) }
+alike-sym a = record { shape = sym (a .shape); size = sym (a .size); number = sym (a .number); blade = sym (a .blade) }
 
 -- what a booking makes, but for the marks
 module _ {b b′ : Booking} (a : Alike b b′) where
@@ -43,8 +42,7 @@ module _ {b b′ : Booking} (a : Alike b b′) where
   block-alike : (d : Datum) → shape (block b d) ≡ shape (block b′ d)
   unfolding block
   block-alike d =
-      planted-alike (d .level) (d .cut) (blockOf (b .shape) (d .cut) (d .size) (b .size))
-      ∙ ap₂ (λ (i : InsertionShape) (z : Size). shape (planted b′ (d .level) (d .cut) (blockOf i (d .cut) (d .size) z))) (a .shape) (a .size)
+      planted-alike (d .level) (d .cut) (blockOf (b .shape) (b .blade) (d .cut) (d .size) (b .size)) ∙ rw (a .shape, a .blade, a .size)
 
   booked-alike : (d : Datum) (r : Tree) → shape (after (block b d) r) ≡ shape (after (block b′ d) r)
   booked-alike d r = simp shape-after (rw (block-alike d))
@@ -54,12 +52,12 @@ abbrev Under : ℕ → Row Made → Type 0
 Under n nil = Unit {0}
 Under n (grow i m k r) = (i < n) × Under n k × Under n r
 
-five : (s : InsertionShape) (c : Orientation) (piece part : Size) → Under 5 (blockOf s c piece part)
+five : (s : InsertionShape) (n : ℕ) (c : Orientation) (piece part : Size) → Under 5 (blockOf s n c piece part)
 unfolding blockOf table
-five AlongCurrentCut c piece part = omega arith
-five AcrossCurrentCut c piece part = omega arith
-five AlongThenAcross c piece part = omega arith
-five AcrossThenAlong c piece part = omega arith
+five AlongCurrentCut n c piece part = omega arith
+five AcrossCurrentCut n c piece part = omega arith
+five AlongThenAcross n c piece part = omega arith
+five AcrossThenAlong n c piece part = omega arith
 
 -- so a block that is clear of y does not have the place y
 module _ (y : ℕ) (b : Booking) (h : Clear y b) where
@@ -72,7 +70,7 @@ module _ (y : ℕ) (b : Booking) (h : Clear y b) where
   block-clear : (d : Datum) → In y (block b d) → ⊥
   unfolding block
   block-clear d =
-      planted-clear (d .level) (d .cut) (blockOf (b .shape) (d .cut) (d .size) (b .size)) (five (b .shape) (d .cut) (d .size) (b .size))
+      planted-clear (d .level) (d .cut) (blockOf (b .shape) (b .blade) (d .cut) (d .size) (b .size)) (five (b .shape) (b .blade) (d .cut) (d .size) (b .size))
 
 -- a booking among the later siblings of a block
 book-behind : (y : ℕ) (b b′ c c′ : Booking) (d : Datum) (r : Tree) → Clear y b → Alike b b′ → Alike c c′
@@ -90,17 +88,23 @@ books-commute x y b c b′ c′ n nb nc ab ac t =
 
 -- A booking that is taken back: the first piece of its block goes.
 
--- what is left is one free piece, of the sides of the table's
-remove-planted : (i : InsertionShape) (b : Booking) (n s l : ℕ) (c : Orientation) (W H w h : ℕ) → w ≤ W
-    → shape (remove (b .place 0) n s (planted b l c (laidAll c (table i W H w h))))
-    ≡ grow 0 (record { serial = 0; size = laid c (sized W H); number = 0; level = l; kind = Free; cut = c }) nil nil
-unfolding table settled joined
-remove-planted AlongCurrentCut b n s l c W H w h e =
-    rw (eq-eqb (b .place 0) (b .place 0) refl, laid-twice c (sized w H), laid-twice c (sized (W - w) H), add-sub-of-le e)
-remove-planted AcrossCurrentCut b n s l c W H w h e = rw (eq-eqb (b .place 0) (b .place 0) refl)
-remove-planted AlongThenAcross b n s l c W H w h e =
-    rw (eq-eqb (b .place 0) (b .place 0) refl, laid-twice c (sized w H), laid-twice c (sized (W - w) H), add-sub-of-le e)
-remove-planted AcrossThenAlong b n s l c W H w h e = rw (eq-eqb (b .place 0) (b .place 0) refl)
+-- what is left is one free piece, of the sides of the table's: it has back what was eaten
+remove-planted : (i : InsertionShape) (b : Booking) (n s v l : ℕ) (c : Orientation) (W H w h : ℕ) → w ≤ W
+    → shape (remove (b .place 0) n s (planted b l c (laidAll c (table i v W H w h))))
+    ≡ grow 0 (record { serial = 0; size = laid c (sized W H); number = 0; level = l; kind = Free; cut = c; eaten = 0 }) nil nil
+unfolding table settled board
+remove-planted AlongCurrentCut b n s v l c W H w h e =
+    let z : w + eatenBehind v (W - w) + leftBehind v (W - w) ≡ W = omega arith in
+    rw (eq-eqb (b .place 0) (b .place 0) refl, laid-twice c (sized w H), laid-twice c (sized (leftBehind v (W - w)) H), z)
+remove-planted AcrossCurrentCut b n s v l c W H w h e =
+    let z : W + 0 + 0 ≡ W = omega arith in
+    rw (eq-eqb (b .place 0) (b .place 0) refl, laid-twice c (sized W H), z)
+remove-planted AlongThenAcross b n s v l c W H w h e =
+    let z : w + eatenBehind v (W - w) + leftBehind v (W - w) ≡ W = omega arith in
+    rw (eq-eqb (b .place 0) (b .place 0) refl, laid-twice c (sized w H), laid-twice c (sized (leftBehind v (W - w)) H), z)
+remove-planted AcrossThenAlong b n s v l c W H w h e =
+    let z : W + 0 + 0 ≡ W = omega arith in
+    rw (eq-eqb (b .place 0) (b .place 0) refl, laid-twice c (sized W H), z)
 
 -- the place i is held by at most one piece
 pub at-unique : (i : ℕ) (d e : Datum) (t : Tree) → Distinct t → At i d t → At i e t → e ≡ d
@@ -124,14 +128,14 @@ module _ (settings : Settings) (x n s : ℕ) (b : Booking) where
   abbrev Back : Tree → Type 0
   Back t = shape (remove (b .place 0) n s (book x b t)) ≡ shape t
 
-  -- a free piece is the last of its row, childless and without a number
-  back-here : (p : ℕ) (d : Datum) (k r : Tree) → p ≡ x → Takes d → FreePiece d k r → Back (grow p d k r)
+  -- a free piece is the last of its row, childless, without a number and with nothing eaten behind it
+  back-here : (p : ℕ) (d : Datum) (k r : Tree) → p ≡ x → Takes d → FreePiece d k r → d .eaten ≡ 0 → Back (grow p d k r)
   unfolding block blockOf
-  back-here p d k r e t f =
+  back-here p d k r e t f z =
       let c = d .cut in
       let h = fits-sides (laid c (d .size)) (laid c (b .size)) (fits-laid c (d .size) (b .size) ∙ t .1) in
       rw (eq-eqb p x e, f .childless, f .last, after-nil (block b d))
-      (remove-planted (b .shape) b n s (d .level) c _ _ _ _ (h .0) ∙ rw (laid-twice c (d .size), t .0, f .unnumbered))
+      (remove-planted (b .shape) b n s _ (d .level) c _ _ _ _ (h .0) ∙ rw (laid-twice c (d .size), t .0, f .unnumbered, z))
 
   row-back : (q : Datum) (r : Tree) → Children settings q r → ((e : Datum) → At x e r → Takes e) → (In (b .place 0) r → b .place 0 ≡ x) → Back r
   row-back q nil w h o = refl
@@ -140,7 +144,10 @@ module _ (settings : Settings) (x n s : ℕ) (b : Booking) where
       (row-back q r (w .beside) (λ e g. h e (inr (inr g))) (λ g. o (inr (inr g))))
     where
       go : (p ≡ x) ⊎ (p ≡ x → ⊥) → Back k → Back r → Back (grow p d k r)
-      go (inl e) ik ir = let t = h d (inl (sym e, refl)) in back-here p d k r e t (subst (λ (κ : Kind). Kinded κ d k r) (t .0) (w .kinded))
+      go (inl e) ik ir =
+          let t = h d (inl (sym e, refl)) in
+          let f : FreePiece d k r = subst (λ (κ : Kind). Kinded κ d k r) (t .0) (w .kinded) in
+          back-here p d k r e t f (w .ends (f .last))
       go (inr m) ik ir = rw (ne-eqb p x m, ne-eqb p (b .place 0) (λ e. m (e ∙ o (inl (sym e)))), ik, ir)
 
   -- the top is a structure, so the piece at x is below it

@@ -9,11 +9,11 @@ use Rattle.piece.specs.declared.node.Datum.{Datum}
 use Rattle.piece.specs.declared.node.Kind.{Kind}
 use Rattle.piece.specs.declared.node.Kind.the-variants.{Free, Part, Structure}
 use Rattle.piece.specs.declared.settings.Settings.{Settings}
-use Rattle.piece.specs.Sides.{other, laid}
+use Rattle.piece.specs.Sides.{other}
 use Rattle.piece.specs.Row.{nil, grow}
 use Rattle.piece.specs.Kinds.{isFree}
 use Rattle.tree.specs.Tree.{Tree, In, At, Distinct, count, change}
-use Rattle.tree.specs.Sound.{extent, FreePiece, StructurePiece, Kinded, Children, Topped}
+use Rattle.tree.specs.Sound.{reach, extent, FreePiece, StructurePiece, Kinded, Children, Topped}
 use Rattle.tree.proofs.Rows.{same?, in-eq, at-in}
 use Rattle.tree.proofs.Pieces.{free-piece, part-piece, structure-piece, top}
 
@@ -92,6 +92,11 @@ count-some : (t : Tree) → (t ≡ nil → ⊥) → 1 ≤ count t
 count-some nil n = absurd (n refl)
 count-some (grow p d k r) n = omega arith
 
+-- a row that gives way to none is none
+count-none : (u v : Tree) → (1 ≤ count u → 1 ≤ count v) → v ≡ nil → u ≡ nil
+count-none nil v f e = refl
+count-none (grow p d k r) v f e = absurd (omega (arith, f (omega arith), ap count e))
+
 module _ (settings : Settings) (x : ℕ) (f : Datum → Tree → Tree) (P : Datum → Tree → Tree → Type 0)
     (local : (q d : Datum) (y : ℕ) (k r : Tree) → P d k r → Children settings q (grow y d k r) → Exchange settings q (grow y d k r) (f d r)) where
   kept-structure : (d : Datum) (k : Tree) → StructurePiece d k → Exchange settings d k (change x f k) → StructurePiece d (change x f k)
@@ -116,10 +121,11 @@ module _ (settings : Settings) (x : ℕ) (f : Datum → Tree → Tree) (P : Datu
             children = record {
               child = h .child;
               kinded = kept-kind (d .kind) d k r (h .kinded) a;
+              ends = λ z. h .ends (count-none r (change x f r) (b .some) z);
               below = a .children;
               beside = b .children;
             };
-            same = ap (λ (z : ℕ). laid (other (q .cut)) (d .size) .width + z) (b .same);
+            same = ap (λ (z : ℕ). reach (other (q .cut)) d + z) (b .same);
             some = λ z. omega arith;
           })
 
@@ -128,6 +134,6 @@ module _ (settings : Settings) (x : ℕ) (f : Datum → Tree → Tree) (P : Datu
   topped (grow p d k r) h n w =
       let e = exchange d k (w .1) (h .1) in
       rw (ne-eqb p x (λ z. n (sym z ∙ h .0 .place))) (
-        top (h .0 .place) (ap (change x f) (h .0 .alone)) (h .0 .level) (h .0 .kind) (h .0 .size) (kept-structure d k (h .0 .piece) e),
+        top (h .0 .place) (ap (change x f) (h .0 .alone)) (h .0 .level) (h .0 .kind) (h .0 .size) (h .0 .eaten) (kept-structure d k (h .0 .piece) e),
         e .children,
       )

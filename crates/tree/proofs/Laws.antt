@@ -1,5 +1,6 @@
 -- The laws of the cut tree, one to a file.
 pub mod Worked
+pub mod WorkedBlade
 pub mod SameTree
 pub mod OpenSound
 pub mod BookingSound
@@ -13,3 +14,4 @@ pub mod RemovalsCommute
 pub mod AreaConserved
 pub mod SheetUsageOne
 pub mod TreeUsageOne
+pub mod NothingEaten

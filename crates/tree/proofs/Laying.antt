@@ -1,19 +1,15 @@
 -- More laws of `laid`, beside those of piece's Sizes. The one file of the soundness laws that looks at the cut.
-use mathlib.Core.Path.{_≡_, refl, _∙_}
+use mathlib.Core.Path.{_≡_, _∙_}
 use mathlib.Core.Bool.{true}
 use Prim.Native.Nat.{_≤_}
 use Rattle.piece.specs.declared.orientation.Orientation.{Orientation}
 use Rattle.piece.specs.declared.orientation.Orientation.the-variants.{Horizontal, Vertical}
 use Rattle.piece.specs.declared.size.Size.{Size}
-use Rattle.piece.specs.Sides.{other, exchanged, laid}
+use Rattle.piece.specs.Sides.{laid}
 use Rattle.piece.specs.Offers.{fits}
 use Rattle.tree.specs.Sound.{Sided}
 use Rattle.piece.proofs.Sizes.{fits-laid, fits-sides}
 use Rattle.tree.proofs.Pieces.{sided}
-
-pub laid-other : (c : Orientation) (s : Size) → laid (other c) (laid c s) ≡ exchanged s
-laid-other Horizontal s = refl
-laid-other Vertical s = refl
 
 pub laid-sided : (c : Orientation) {s : Size} → Sided s → Sided (laid c s)
 laid-sided Horizontal h = sided (h .wide) (h .tall)

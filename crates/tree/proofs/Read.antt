@@ -15,7 +15,7 @@ use Rattle.piece.specs.Row.{nil, grow}
 use Rattle.piece.proofs.Numbers.{kind-back, cut-back}
 use Rattle.piece.specs.Numbers.{kindNo, cutNo, kindOf, cutOf}
 use Rattle.tree.specs.Tree.{Tree}
-use Rattle.tree.specs.Sound.{maxSide, maxNumber, extent, Kinded, Children, Sound}
+use Rattle.tree.specs.Sound.{maxSide, maxNumber, maxBlade, extent, Kinded, Children, Sound}
 use Rattle.tree.specs.Snapshot.{twoThen, fourThen, nodeBytes, snapshot, Same, unmarked, shape}
 
 -- ---- one node
@@ -30,6 +30,7 @@ pub record Written (l : ℕ) (d : Datum) : Type 0 where
   pub level : d .level ≡ l
   pub number : d .number ≤ maxNumber
   pub small : Small (d .size)
+  pub eaten : d .eaten ≤ maxBlade
 
 -- what the bytes of a number say, and what follows them
 two-read : (v w : ℕ) {x y : List ℕ} → v ≤ maxNumber → w ≤ maxNumber → twoThen v x ≡ twoThen w y → (v ≡ w) × (x ≡ y)
@@ -52,9 +53,9 @@ four-read v w hv hw e =
     let low : v % 256 ≡ w % 256 = cc in
     (omega arith, cc)
 
--- the last eight bytes of a node
+-- the last nine bytes of a node
 abbrev sides : Datum → List ℕ → List ℕ
-sides d x = fourThen (d .size .width) (fourThen (d .size .height) x)
+sides d x = fourThen (d .size .width) (fourThen (d .size .height) (d .eaten ∷ x))
 
 -- what the bytes of a node say, and what follows them
 node-read : {l m : ℕ} (d e : Datum) {x y : List ℕ} → Written l d → Written m e → nodeBytes d x ≡ nodeBytes e y
@@ -71,7 +72,9 @@ node-read d e {x} {y} a b h =
     let height = four-read (d .size .height) (e .size .height) (a .small .height) (b .small .height) (width .1) in
     let size : d .size ≡ e .size = λ i. record { width = width .0 i; height = height .0 i } in
     let level : d .level ≡ e .level = cc in
-    ((λ i. record { serial = 0; size = size i; number = number .0 i; level = level i; kind = kind i; cut = cut i }), height .1)
+    let last : d .eaten ∷ x ≡ e .eaten ∷ y = height .1 in
+    let eaten : d .eaten ≡ e .eaten = cc in
+    ((λ i. record { serial = 0; size = size i; number = number .0 i; level = level i; kind = kind i; cut = cut i; eaten = eaten i }), cc)
 
 -- ---- rows
 
@@ -148,23 +151,24 @@ extent-small Part d k r f s = rw (f .childless) (omega arith)
 extent-small Structure d k r f s = rw (f .filled) (laid-small (other (d .cut)) (d .size) s .width)
 
 -- a row of children as wide as a small side, of a small parent
-row-readable : (settings : Settings) (q : Datum) (r : Tree) → Children settings q r → Small (q .size) → extent (other (q .cut)) r ≤ maxSide
-    → Readable (q .level + 1) r
-row-readable settings q nil h s b = tt
-row-readable settings q (grow p d k r) h s b =
+row-readable : (settings : Settings) → settings .blade ≤ maxBlade → (q : Datum) (r : Tree) → Children settings q r → Small (q .size)
+    → extent (other (q .cut)) r ≤ maxSide → Readable (q .level + 1) r
+row-readable settings most q nil h s b = tt
+row-readable settings most q (grow p d k r) h s b =
     let c = other (q .cut) in
     let side : laid c (d .size) .height ≡ laid c (q .size) .height = rw (h .child .cut) at (h .child .side) in
     let lying : Small (laid c (d .size)) = record { width = omega arith; height = omega (arith, laid-small c (q .size) s) } in
     let small : Small (d .size) = small-laid c (d .size) lying in
-    let below = row-readable settings d k (h .below) small (extent-small (d .kind) d k r (h .kinded) small) in
+    let below = row-readable settings most d k (h .below) small (extent-small (d .kind) d k r (h .kinded) small) in
     let number = number-small (d .kind) d k r (h .kinded) in
-    (record { level = h .child .level; number = number; small = small }, (rw (h .child .level) at below), row-readable settings q r (h .beside) s (omega arith))
+    let here : Written (q .level + 1) d = record { level = h .child .level; number = number; small = small; eaten = omega (arith, h .child .eaten) } in
+    (here, (rw (h .child .level) at below), row-readable settings most q r (h .beside) s (omega arith))
 
 pub sound-readable : {limit : ℕ} {settings : Settings} (t : Tree) → Sound limit settings t → Readable 0 t
 sound-readable nil s = tt
 sound-readable {settings} (grow p d k r) s =
     let top = s .topped .0 in
     let small : Small (d .size) = rw (top .size) (record { width = s .domain .width; height = s .domain .height }) in
-    let below = row-readable settings d k (s .topped .1) small (extent-small Structure d k r (top .piece) small) in
+    let below = row-readable settings (s .domain .blade) d k (s .topped .1) small (extent-small Structure d k r (top .piece) small) in
     let number = number-small Structure d k r (top .piece) in
-    (record { level = top .level; number = number; small = small }, (rw (top .level) at below), rw (top .alone) tt)
+    (record { level = top .level; number = number; small = small; eaten = omega (arith, top .eaten) }, (rw (top .level) at below), rw (top .alone) tt)

@@ -1,23 +1,23 @@
 -- Removals: two of them, whichever is first. Assumes nothing.
 use mathlib.Core.Path.{_≡_, refl, sym, _∙_, subst}
 use mathlib.Core.Bool.{Bool, true, false, false≢true, and-false}
-use mathlib.Core.Option.{Option, none, some}
+use mathlib.Core.Option.{Option, some}
 use mathlib.Core.Logic.{_⊎_, inl, inr}
-use Prim.Native.Nat.{ℕ}
-use native.Mathlib.Nat.{add-comm, add-left-comm}
+use Prim.Native.Nat.{ℕ, _+_}
+use native.Mathlib.Nat.{add-left-comm}
 use borrow.Author.Tests.{eq-eqb, ne-eqb}
 use Rattle.piece.specs.declared.orientation.Orientation.{Orientation}
 use Rattle.piece.specs.declared.size.Size.{Size}
 use Rattle.piece.specs.declared.node.Datum.{Datum}
 use Rattle.piece.specs.declared.settings.Settings.{Settings}
-use Rattle.piece.specs.Sides.{other, laid}
+use Rattle.piece.specs.Sides.{other, sized, laid}
 use Rattle.piece.specs.Row.{nil, grow}
 use Rattle.piece.proofs.Sizes.{laid-twice}
 use Rattle.tree.specs.Tree.{Tree, At, Distinct, isNil, after}
-use Rattle.tree.specs.Sound.{Child, Children, Sound}
+use Rattle.tree.specs.Sound.{reach, Child, Children, Sound}
 use Rattle.piece.specs.Kinds.{isFree}
 use Rattle.tree.specs.Snapshot.{shape, unmarked}
-use Rattle.tree.specs.Removal.{freed, joined, board, lastFree, withoutLast, settled, remove}
+use Rattle.tree.specs.Removal.{freed, spare, board, lastFree, withoutLast, settled, remove}
 use Rattle.tree.specs.Apart.{Removable}
 use Rattle.tree.proofs.Rows.{same?}
 use Rattle.tree.proofs.Shapes.{shape-after}
@@ -48,7 +48,7 @@ settled-past n s d z e k r h = rw h
 
 -- the free piece joins it
 settled-join : (n s : ℕ) (d : Datum) (z : ℕ) (e : Datum) → isFree (e .kind) ≡ true
-    → settled n s d (grow z e nil nil) ≡ grow n (freed s d (joined d e)) nil nil
+    → settled n s d (grow z e nil nil) ≡ grow n (freed s d (board d (some e))) nil nil
 unfolding settled
 settled-join n s d z e h = rw h
 
@@ -64,19 +64,22 @@ settled-alike n s n′ s′ d r = shape-settled n s d r ∙ sym (shape-settled n
 
 -- Two boards of one row.
 
+-- two boards a and b wide join what is m wide, whichever is first
+joined-swap : (c : Orientation) (a b m h : ℕ)
+    → laid c (sized (a + laid c (laid c (sized (b + m) h)) .width) h) ≡ laid c (sized (b + laid c (laid c (sized (a + m) h)) .width) h)
+joined-swap c a b m h = simp laid-twice (rw (add-left-comm a b m))
+
 -- they join the row's free piece one after the other: it has the same size whichever was first
 board-swap : (c : Orientation) (d e : Datum) (s u : ℕ) (o : Option Datum) → d .cut ≡ c → e .cut ≡ c
     → laid c (d .size) .height ≡ laid c (e .size) .height
-    → joined e (freed s d (board d o)) ≡ joined d (freed u e (board e o))
-unfolding joined
-board-swap c d e s u none p q h = rw (p, q, h, add-comm (laid c (e .size) .width) (laid c (d .size) .width))
-board-swap c d e s u (some f) p q h =
-    rw (p, q) (simp laid-twice (rw (h, add-left-comm (laid c (e .size) .width) (laid c (d .size) .width) (laid c (f .size) .width))))
+    → board e (some (freed s d (board d o))) ≡ board d (some (freed u e (board e o)))
+unfolding board
+board-swap c d e s u o p q h = rw (p, q, h) (joined-swap c (reach c e) (reach c d) (spare c o) (laid c (e .size) .height))
 
 -- two pieces of a row go, one after the other: their boards and the row's free piece are one piece at the end
 settled-twice : (n s m s′ : ℕ) (d e : Datum) (r : Tree)
     → shape (settled m s′ e (settled n s d r))
-    ≡ after (shape (withoutLast r)) (grow 0 (unmarked (freed 0 e (joined e (freed s d (board d (lastFree r)))))) nil nil)
+    ≡ after (shape (withoutLast r)) (grow 0 (unmarked (freed 0 e (board e (some (freed s d (board d (lastFree r))))))) nil nil)
 unfolding settled
 settled-twice n s m s′ d e r =
     let z = board d (lastFree r) in

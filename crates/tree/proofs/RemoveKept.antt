@@ -2,9 +2,8 @@
 use mathlib.Core.Path.{_≡_, refl, ap, _∙_}
 use mathlib.Core.Bool.{Bool, true, false, cond, _&&_}
 use mathlib.Core.Logic.{_⊎_, inl, inr, ⊎-elim}
-use mathlib.Core.Option.{Option, none, some}
+use mathlib.Core.Option.{Option}
 use Prim.Native.Nat.{ℕ, _+_, _≤_}
-use native.Mathlib.Nat.{add-zero}
 use native.Mathlib.Omega.{arith}
 use Rattle.piece.specs.declared.orientation.Orientation.{Orientation}
 use Rattle.piece.specs.declared.size.Size.{Size}
@@ -17,31 +16,26 @@ use Rattle.piece.specs.Row.{nil, grow}
 use Rattle.piece.specs.Kinds.{isFree}
 use Rattle.piece.proofs.Sizes.{laid-twice}
 use Rattle.tree.specs.Tree.{Tree, In, Distinct, count, after, isNil, change}
-use Rattle.tree.specs.Sound.{extent, Kinded, Child, Children, Topped}
-use Rattle.tree.specs.Removal.{freed, joined, board, lastFree, withoutLast, settled, remove, left, cleared}
+use Rattle.tree.specs.Sound.{reach, extent, Kinded, Child, Children, Topped}
+use Rattle.tree.specs.Removal.{freed, spare, board, lastFree, withoutLast, settled, remove, left, cleared}
 use Rattle.tree.specs.Apart.{Removable}
 use Rattle.tree.proofs.Rows.{in-eq, count-after, in-after, distinct-one, distinct-after}
 use Rattle.tree.proofs.Pieces.{free-piece, child}
 use Rattle.tree.proofs.Kept.{This, only, free-kind, Exchange, topped}
 use Rattle.tree.proofs.Places.{distinct-change}
 
--- the board that a free piece of the row adds
-abbrev spare : Orientation → Option Datum → ℕ
-spare c none = 0
-spare c (some e) = laid c (e .size) .width
-
 board-laid : (d : Datum) (o : Option Datum)
-    → laid (d .cut) (board d o) ≡ sized (laid (d .cut) (d .size) .width + spare (d .cut) o) (laid (d .cut) (d .size) .height)
-unfolding joined
-board-laid d none = rw add-zero
-board-laid d (some e) = rw laid-twice
+    → laid (d .cut) (board d o) ≡ sized (reach (d .cut) d + spare (d .cut) o) (laid (d .cut) (d .size) .height)
+unfolding board
+board-laid d o = laid-twice (d .cut) _
 
 -- the new piece is a child of the parent of d
 freed-children : (settings : Settings) (n s : ℕ) (q d : Datum) (o : Option Datum) → Child settings q d → Children settings q (grow n (freed s d (board d o)) nil nil)
 freed-children settings n s q d o h =
     record {
-      child = child (h .level) (h .stage) (h .cut) (ap (λ (z : Size). z .height) (board-laid d o) ∙ h .side);
+      child = child (h .level) (h .stage) (h .cut) (ap (λ (z : Size). z .height) (board-laid d o) ∙ h .side) (omega arith);
       kinded = free-piece refl refl refl;
+      ends = λ z. refl;
       below = tt;
       beside = tt;
     }
@@ -53,18 +47,24 @@ solid-kind Part d k r u e h = h
 solid-kind Structure d k r u e h = h
 
 -- a row u in the place of the free piece at the end of the row r
-instead : (settings : Settings) (c : Orientation) (q : Datum) (r u : Tree) → Children settings q r → Children settings q u
+instead : (settings : Settings) (c : Orientation) (q : Datum) (r u : Tree) → 1 ≤ count u → Children settings q r → Children settings q u
     → Children settings q (after (withoutLast r) u) × (extent c (after (withoutLast r) u) + spare c (lastFree r) ≡ extent c r + extent c u)
-instead settings c q nil u h g = (g, omega arith)
-instead settings c q (grow p d k r) u h g = go (isFree (d .kind)) refl (instead settings c q r u (h .beside) g)
+instead settings c q nil u n h g = (g, omega arith)
+instead settings c q (grow p d k r) u n h g = go (isFree (d .kind)) refl (instead settings c q r u n (h .beside) g)
   where
     go : (b : Bool) → isFree (d .kind) ≡ b
         → Children settings q (after (withoutLast r) u) × (extent c (after (withoutLast r) u) + spare c (lastFree r) ≡ extent c r + extent c u)
         → Children settings q (after (withoutLast (grow p d k r)) u)
         × (extent c (after (withoutLast (grow p d k r)) u) + spare c (lastFree (grow p d k r)) ≡ extent c (grow p d k r) + extent c u)
-    go true e ih = rw (e, free-kind (d .kind) d k r e (h .kinded) .last) (g, omega arith)
+    go true e ih = let l = free-kind (d .kind) d k r e (h .kinded) .last in rw (e, l) (g, omega (arith, h .ends l))
     go false e ih = rw e (
-      record { child = h .child; kinded = solid-kind (d .kind) d k r _ e (h .kinded); below = h .below; beside = ih .0 },
+      record {
+        child = h .child;
+        kinded = solid-kind (d .kind) d k r _ e (h .kinded);
+        ends = λ z. absurd (omega (arith, count-after (withoutLast r) u, ap count z));
+        below = h .below;
+        beside = ih .0;
+      },
       omega arith,
     )
 
@@ -73,7 +73,7 @@ pub settled-exchange : (settings : Settings) (n s : ℕ) (q d : Datum) (y : ℕ)
 unfolding settled
 settled-exchange settings n s q d y k r h =
     let u = grow n (freed s d (board d (lastFree r))) nil nil in
-    let i = instead settings (d .cut) q r u (h .beside) (freed-children settings n s q d (lastFree r) (h .child)) in
+    let i = instead settings (d .cut) q r u (omega arith) (h .beside) (freed-children settings n s q d (lastFree r) (h .child)) in
     let w = ap (λ (z : Size). z .width) (board-laid d (lastFree r)) in
     record {
       children = i .0;

@@ -12,12 +12,13 @@ use Rattle.tree.specs.Sound.{Sided, maxNumber}
 use Rattle.tree.specs.Booking.{Booking}
 
 -- what is booked in the free piece d: "A rotation that does not fit both ways gives nothing"; the shape is one of those that "first match wins"
--- leaves; "part sides 1..67,108,863", "part numbers 0..65,535"
+-- leaves; "part sides 1..67,108,863", "part numbers 0..65,535"; the blade is the layout's
 pub record Fitting (settings : Settings) (d : Datum) (b : Booking) : Type 0 where
   pub inside : fits (d .size) (b .size) ≡ true
   pub offered : List·Memᴰ (b .shape) (shapes (along (d .cut) (d .size) (b .size)) (across (d .cut) (d .size) (b .size)) (d .level) (settings .stages))
   pub sided : Sided (b .size)
   pub numbered : b .number ≤ maxNumber
+  pub bladed : b .blade ≡ settings .blade
 
 -- "A new node takes the lowest unheld place, after the nodes it replaces were freed": places below the limit, no two alike, and none that is
 -- held, but for x, which is freed

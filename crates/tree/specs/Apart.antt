@@ -12,6 +12,7 @@ pub record Alike (b b′ : Booking) : Type 0 where
   pub shape : b .shape ≡ b′ .shape
   pub size : b .size ≡ b′ .size
   pub number : b .number ≡ b′ .number
+  pub blade : b .blade ≡ b′ .blade
 
 -- none of the nodes that b makes, at most five, gets the place y
 abbrev pub Clear : ℕ → Booking → Type 0

@@ -11,12 +11,13 @@ use Rattle.piece.specs.Insertion.{Made, blockOf}
 use Rattle.piece.specs.Kinds.{isPart}
 use Rattle.tree.specs.Tree.{Tree, after, change}
 
--- What is booked: a shape; the part's sides in its rotation, and its number; and the marks that the new nodes get: the place of each, by its
+-- What is booked: a shape; the part's sides in its rotation, and its number; the width of the blade; and the marks that the new nodes get: the place of each, by its
 -- place in the order of creation, and the serial of the first, from which "they rise by one per node in creation order".
 pub record Booking : Type 0 where
   pub shape : InsertionShape
   pub size : Size
   pub number : ℕ
+  pub blade : ℕ
   pub place : ℕ → ℕ
   pub serial : ℕ
 
@@ -30,6 +31,7 @@ plantedDatum b i level c m =
       level = level;
       kind = m .kind;
       cut = c;
+      eaten = m .eaten;
     }
 
 -- a block as pieces of the tree, its first row at this level and with this cut
@@ -40,7 +42,7 @@ planted b level c (grow i m k r) =
 
 -- the block that takes the place of the free piece d
 unfoldable pub block : Booking → Datum → Tree
-block b d = planted b (d .level) (d .cut) (blockOf (b .shape) (d .cut) (d .size) (b .size))
+block b d = planted b (d .level) (d .cut) (blockOf (b .shape) (b .blade) (d .cut) (d .size) (b .size))
 
 -- "The free piece W x H goes"; "these nodes are created in order, at the end of their parent's children", where the free piece stood, since it
 -- is last

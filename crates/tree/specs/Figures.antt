@@ -1,12 +1,13 @@
--- Document 01, "Figures".
+-- Document 01, "Figures", and the eaten area of document 02, No. 4.
 use mathlib.Core.Bool.{Bool, true, false, cond}
-use Prim.Native.Nat.{ℕ, _+_}
+use Prim.Native.Nat.{ℕ, _+_, _*_}
 use lib.IntN.{pos}
 use lib.Ieee.{Float, binary64, ofBits, ofInt, add, mul, div}
+use Rattle.piece.specs.declared.orientation.Orientation.{Orientation}
 use Rattle.piece.specs.declared.node.Datum.{Datum}
 use Rattle.piece.specs.declared.node.Kind.{Kind}
 use Rattle.piece.specs.declared.node.Kind.the-variants.{Free, Part, Structure}
-use Rattle.piece.specs.Sides.{area}
+use Rattle.piece.specs.Sides.{other, laid, area}
 use Rattle.piece.specs.Row.{nil, grow}
 use Rattle.piece.specs.Kinds.{isFree, isPart}
 use Rattle.tree.specs.Tree.{Tree}
@@ -23,6 +24,17 @@ partArea t = areaOfKind isPart t
 -- "Free area is the sum of width times height over the free pieces, never what the parts leave over."
 abbrev pub freeArea : Tree → ℕ
 freeArea t = areaOfKind isFree t
+
+-- "Eaten area is the sum, over all nodes, of the recorded amount times the node's height where its parent's cut is Vertical, its width where
+-- Horizontal": of a row under a cut of this way, and below it
+abbrev pub eatenUnder : Orientation → Tree → ℕ
+eatenUnder c nil = 0
+eatenUnder c (grow p d k r) = d .eaten * laid (other c) (d .size) .height + (eatenUnder (d .cut) k + eatenUnder c r)
+
+-- of a tree; the top, which has no parent, counts as if its parent's cut were the other one
+abbrev pub eatenArea : Tree → ℕ
+eatenArea nil = 0
+eatenArea (grow p d k r) = eatenUnder (other (d .cut)) (grow p d k r)
 
 -- the f64 0 and 1, and a whole number as an f64
 abbrev pub nought : Float

@@ -13,3 +13,4 @@ pub mod Pieces
 pub mod Family
 pub mod Enrolment
 pub mod Worked
+pub mod WorkedBlade

@@ -1,11 +1,13 @@
 -- Document 01, "Removal": "Let P be the parent. If P's last child is free, that piece and the removed one are replaced by one free piece,
 -- widths added if P's cut is Vertical, heights if Horizontal. If not, the removed node becomes a free piece of its own size. The new piece goes
--- last. Part numbers of the subtree come out in tree order, first child first."
+-- last. Part numbers of the subtree come out in tree order, first child first." Document 02, No. 4: "Removal gives that amount back to the freed
+-- piece, merged or alone, and it goes last with nothing eaten behind it."
 use mathlib.Core.Bool.{cond, _&&_}
 use mathlib.Core.List.{List, [], _∷_, _++_}
 use mathlib.Core.Option.{Option, none, some}
 use Prim.Native.Nat.{ℕ, _+_}
 use lib.Dec.{eqb}
+use Rattle.piece.specs.declared.orientation.Orientation.{Orientation}
 use Rattle.piece.specs.declared.size.Size.{Size}
 use Rattle.piece.specs.declared.node.Datum.{Datum}
 use Rattle.piece.specs.declared.node.Kind.the-variants.{Free}
@@ -13,20 +15,21 @@ use Rattle.piece.specs.Sides.{sized, laid}
 use Rattle.piece.specs.Row.{nil, grow}
 use Rattle.piece.specs.Kinds.{isFree, isPart}
 use Rattle.tree.specs.Tree.{Tree, isNil, after, change}
+use Rattle.tree.specs.Sound.{reach}
 
 -- the free piece with this serial that stands where d stood, of this size
 abbrev pub freed : ℕ → Datum → Size → Datum
-freed s d size = record { serial = s; size = size; number = 0; level = d .level; kind = Free; cut = d .cut }
+freed s d size = record { serial = s; size = size; number = 0; level = d .level; kind = Free; cut = d .cut; eaten = 0 }
 
--- two pieces of a row as one: the sides that their parent's cut divides are added
-unfoldable pub joined : Datum → Datum → Size
-joined d e =
-    laid (d .cut) (sized (laid (d .cut) (d .size) .width + laid (d .cut) (e .size) .width) (laid (d .cut) (d .size) .height))
+-- what the free piece of a row has of the side that their parent's cut divides, if there is one
+abbrev pub spare : Orientation → Option Datum → ℕ
+spare c none = 0
+spare c (some e) = laid c (e .size) .width
 
--- the board of d, with the free piece of its row if there is one
-abbrev pub board : Datum → Option Datum → Size
-board d none = d .size
-board d (some e) = joined d e
+-- the board of d, with the free piece of its row if there is one: of the side that their parent's cut divides it has what d took, with what was
+-- eaten behind d, and what that piece has
+unfoldable pub board : Datum → Option Datum → Size
+board d o = laid (d .cut) (sized (reach (d .cut) d + spare (d .cut) o) (laid (d .cut) (d .size) .height))
 
 -- the last piece of a row, if it is free; and the row without it
 abbrev pub lastFree : Tree → Option Datum

@@ -1,5 +1,5 @@
 -- Document 01, "The sheet and its pieces": a tree of pieces, as a row. A piece stands at a place and is what its datum says: level, size,
--- next cut, kind, part number and serial; its children are ordered.
+-- next cut, kind, part number and serial, and how much was eaten behind it (document 02, No. 4); its children are ordered.
 use mathlib.Core.Path.{_≡_}
 use mathlib.Core.Bool.{Bool, true, false, cond}
 use mathlib.Core.Logic.{_⊎_}

@@ -18,6 +18,7 @@ use Rattle.piece.specs.declared.insertion_blueprint.InsertionShape.the-variants
 use Rattle.piece.specs.declared.insertion_option.Offer.{Offer}
 use Rattle.piece.specs.Sides.{sized, area}
 use Rattle.piece.specs.Row.{nil, grow}
+use Rattle.piece.specs.Kinds.{isPart}
 use Rattle.piece.specs.Offers.{offer, offersOf}
 use Rattle.lists.specs.Lists.{limit}
 use Rattle.tree.specs.Tree.{Tree}
@@ -45,7 +46,7 @@ pub data CaseAnswer : Type 0 where
   used : Float → CaseAnswer
 
 abbrev pub opening : ℕ → Opening
-opening stages = record { number = 1; settings = record { stages = stages; sheet = sized 100 60 }; cut = Vertical }
+opening stages = record { number = 1; settings = record { stages = stages; blade = 0; sheet = sized 100 60 }; cut = Vertical }
 
 abbrev pub openingTree : Tree
 openingTree = opened (opening 3)
@@ -57,12 +58,23 @@ wantedPart w h = record { number = 7; size = sized w h; turn = Fixed Default }
 abbrev pub offers : ℕ → ℕ → ℕ → CaseAnswer
 offers w h stages = offered (offersOf (firstFree (opening stages)) (wantedPart w h) (opening stages .settings))
 
--- the part booked in the free piece, which is at place 1; the opening issued the serials 1 and 2
+-- the part booked by a blade of this width, in the free piece at place x of this tree, with this serial to come
+abbrev pub bookingBy : (blade x serial : ℕ) → Tree → InsertionShape → ℕ → ℕ → Booking
+bookingBy blade x serial t s w h =
+    record { shape = s; size = sized w h; number = 7; blade = blade; place = newPlace limit (less x t); serial = serial }
+
+abbrev pub bookedBy : (blade x serial : ℕ) → Tree → InsertionShape → ℕ → ℕ → Tree
+bookedBy blade x serial t s w h = book x (bookingBy blade x serial t s w h) t
+
+-- in the opening's free piece, which is at place 1, with a blade of no width; the opening issued the serials 1 and 2
 abbrev pub booking : InsertionShape → ℕ → ℕ → Booking
-booking s w h = record { shape = s; size = sized w h; number = 7; place = newPlace limit (less 1 openingTree); serial = 3 }
+booking s w h = bookingBy 0 1 3 openingTree s w h
 
 abbrev pub bookedTree : InsertionShape → ℕ → ℕ → Tree
-bookedTree s w h = book 1 (booking s w h) openingTree
+bookedTree s w h = bookedBy 0 1 3 openingTree s w h
+
+abbrev pub usage : Tree → CaseAnswer
+usage t = used (sheetUsage (partArea t) (area (opening 3 .settings .sheet)))
 
 -- what the piece at a place is called
 abbrev pub calledBy : Kind → ℕ → Called
@@ -90,7 +102,7 @@ computed =
     ∷ offers 100 20 2
     ∷ offers 100 20 1
     ∷ stands (shape (bookedTree AlongCurrentCut 100 60))
-    ∷ used (sheetUsage (partArea (bookedTree AlongCurrentCut 100 60)) (area (opening 3 .settings .sheet)))
+    ∷ usage (bookedTree AlongCurrentCut 100 60)
     ∷ offers 101 60 3
     ∷ stands (shape (bookedTree AlongThenAcross 40 30))
     ∷ removable AlongThenAcross 40 30
@@ -103,14 +115,14 @@ computed =
 abbrev pub onlyShape : InsertionShape → CaseAnswer
 onlyShape s = offered (offer Default s ∷ [])
 
--- a piece of the tree without its marks
+-- a piece of the tree without its marks, with this much eaten behind it, and with nothing
+abbrev pub cutBit : Kind → ℕ → Orientation → ℕ → ℕ → ℕ → Tree → Tree → Tree
+cutBit kind level c w h eaten k r =
+    grow 0
+    (record { serial = 0; size = sized w h; number = cond (isPart kind) 7 0; level = level; kind = kind; cut = c; eaten = eaten }) k r
+
 abbrev pub bit : Kind → ℕ → Orientation → ℕ → ℕ → Tree → Tree → Tree
-bit Part level c w h k r =
-    grow 0 (record { serial = 0; size = sized w h; number = 7; level = level; kind = Part; cut = c }) k r
-bit Free level c w h k r =
-    grow 0 (record { serial = 0; size = sized w h; number = 0; level = level; kind = Free; cut = c }) k r
-bit Structure level c w h k r =
-    grow 0 (record { serial = 0; size = sized w h; number = 0; level = level; kind = Structure; cut = c }) k r
+bit kind level c w h k r = cutBit kind level c w h 0 k r
 
 abbrev pub topOver : Tree → CaseAnswer
 topOver k = stands (bit Structure 0 Vertical 100 60 k nil)

@@ -82,7 +82,7 @@ sound-ends limit settings (grow p d k r) s =
 
 -- ---- how much there is
 
-pub length-snapshot : (w : Tree) → length (snapshot w) ≡ 13 * count w
+pub length-snapshot : (w : Tree) → length (snapshot w) ≡ 14 * count w
 unfolding snapshot
 length-snapshot nil = refl
 length-snapshot (grow p d k r) =

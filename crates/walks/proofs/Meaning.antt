@@ -34,7 +34,7 @@ use Rattle.walks.specs.Walk.{gathered, nothing, walkOf}
 use Rattle.walks.specs.Order.{itself, childrenFirst}
 use Rattle.walks.specs.Usage.{weight, summed, usageAlong}
 use Rattle.walks.specs.Inner.{Small}
-use Rattle.walks.specs.Columns.{firstsOf, nextsOf, kindsOf, areasOf, levelOf, numberOf, widthOf, heightOf, columnsOf, cutNoOf}
+use Rattle.walks.specs.Columns.{firstsOf, nextsOf, kindsOf, areasOf, levelOf, numberOf, widthOf, heightOf, eatenOf, columnsOf, cutNoOf}
 use Rattle.walks.specs.Columns.{nodeBytesIn, orderIn, snapshotIn, usageIn}
 use Rattle.walks.proofs.Chain.{siblings-over, siblings-more}
 use Rattle.walks.proofs.WalkSteps.{walk-more}
@@ -82,6 +82,7 @@ bytes-column t p n e =
       column numberOf t p n e,
       column widthOf t p n e,
       column heightOf t p n e,
+      column eatenOf t p n e,
     ) refl
 
 -- a table that holds a row shows it

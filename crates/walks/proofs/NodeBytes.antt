@@ -25,22 +25,23 @@ module _ (l : List ℕ) (x : ℕ) where
       let e₃ : x + 3 ≡ suc (suc (suc x)) = omega arith in
       rw (add-one x, e₂, e₃) refl
 
-  -- a node's: level, kind and cut, and then its three numbers
-  pub node-stored : (level kind cut number width height : ℕ) (l₁ l₂ l₃ : List ℕ)
+  -- a node's: level, kind and cut, then its three numbers, and what was eaten behind it
+  pub node-stored : (level kind cut number width height eaten : ℕ) (l₁ l₂ l₃ : List ℕ)
       → l₁ ≡ sets (set (set (set l x level) (x + 1) kind) (x + 2) cut) (x + 3) (twoThen number [])
       → l₂ ≡ sets l₁ (x + 5) (fourThen width [])
       → l₃ ≡ sets l₂ (x + 9) (fourThen height [])
-      → l₃ ≡ sets l x (bytesOfNode level kind cut number width height)
-  node-stored level kind cut number width height l₁ l₂ l₃ e f g =
+      → set l₃ (x + 13) eaten ≡ sets l x (bytesOfNode level kind cut number width height eaten)
+  node-stored level kind cut number width height eaten l₁ l₂ l₃ e f g =
       let e₂ : x + 2 ≡ suc (suc x) = omega arith in
       let e₃ : x + 3 ≡ suc (suc (suc x)) = omega arith in
       let e₅ : x + 5 ≡ suc (suc (suc (suc (suc x)))) = omega arith in
       let e₉ : x + 9 ≡ suc (suc (suc (suc (suc (suc (suc (suc (suc x)))))))) = omega arith in
-      rw (g, f, e, add-one x, e₂, e₃, e₅, e₉) refl
+      let e₁₃ : x + 13 ≡ suc (suc (suc (suc (suc (suc (suc (suc (suc (suc (suc (suc (suc x)))))))))))) = omega arith in
+      rw (g, f, e, add-one x, e₂, e₃, e₅, e₉, e₁₃) refl
 
 -- ---- how many there are
 
-pub length-node : (d : Datum) (r : List ℕ) → length (nodeBytes d r) ≡ 13 + length r
+pub length-node : (d : Datum) (r : List ℕ) → length (nodeBytes d r) ≡ 14 + length r
 unfolding nodeBytes
 length-node d r = omega arith
 

@@ -26,11 +26,17 @@ widthOf n = n .datum .size .width
 abbrev pub heightOf : Node → ℕ
 heightOf n = n .datum .size .height
 
+abbrev pub eatenOf : Node → ℕ
+eatenOf n = n .datum .eaten
+
 abbrev pub widthsOf : List Node → List ℕ
 widthsOf t = map widthOf t
 
 abbrev pub heightsOf : List Node → List ℕ
 heightsOf t = map heightOf t
+
+abbrev pub eatensOf : List Node → List ℕ
+eatensOf t = map eatenOf t
 
 -- the columns, together
 abbrev pub columnsOf : List Node → Columns
@@ -45,11 +51,12 @@ columnsOf t =
       width = widthsOf t;
       height = heightsOf t;
       area = areasOf t;
+      eaten = eatensOf t;
     }
 
 -- the bytes of the node at a place, and of the subtree of x, down to so many nodes
 abbrev pub nodeBytesIn : Columns → ℕ → List ℕ
-nodeBytesIn c = bytesAt (c .level) (c .kind) (c .cut) (c .number) (c .width) (c .height)
+nodeBytesIn c = bytesAt (c .level) (c .kind) (c .cut) (c .number) (c .width) (c .height) (c .eaten)
 
 abbrev pub snapshotIn : ℕ → Columns → ℕ → ℕ → List ℕ
 snapshotIn limit c left x = snapshotOf limit (c .first) (c .next) (nodeBytesIn c) left x

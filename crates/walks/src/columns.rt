@@ -15,6 +15,7 @@ pub struct Columns {
     pub width: [u32; LIMIT],
     pub height: [u32; LIMIT],
     pub area: [u64; LIMIT],
+    pub eaten: [u8; LIMIT],
 }
 
 pub fn columns_of(nodes: [Node; LIMIT]) -> Columns
@@ -29,6 +30,7 @@ pub fn columns_of(nodes: [Node; LIMIT]) -> Columns
     let mut width = [0u32; LIMIT];
     let mut height = [0u32; LIMIT];
     let mut area = [0u64; LIMIT];
+    let mut eaten = [0u8; LIMIT];
     let mut i: usize = 0;
     while i < LIMIT {
         let n = nodes[i];
@@ -45,6 +47,7 @@ pub fn columns_of(nodes: [Node; LIMIT]) -> Columns
         width[i] = size.width;
         height[i] = size.height;
         area[i] = size.area();
+        eaten[i] = d.eaten;
         i += 1;
     }
     Columns {
@@ -57,5 +60,6 @@ pub fn columns_of(nodes: [Node; LIMIT]) -> Columns
         width,
         height,
         area,
+        eaten,
     }
 }

@@ -33,7 +33,10 @@ pub fn put_four(v: u32, out: &mut [u8], at: usize)
     out[at + 3] = (v % 256) as u8;
 }
 
-// The 13 bytes of a node: "level, kind .., cut .., part number 2, width 4, height 4, highest byte first".
+// The bytes of a node.
+pub const NODE: usize = 14;
+
+// "level, kind .., cut .., part number 2, width 4, height 4, highest byte first", and what was eaten behind it.
 fn put_node(
     level: u8,
     kind: u8,
@@ -41,11 +44,12 @@ fn put_node(
     number: u16,
     width: u32,
     height: u32,
+    eaten: u8,
     out: &mut [u8],
     at: usize,
 )
-    requires { ⌜ at + 13 ≤ length (now out) ⌝ }
-    ensures { λ _. ⌜ now (out .exit) ≡ sets (now (out .entry)) at (bytesOfNode level kind cut number width height) ⌝ }
+    requires { ⌜ at + 14 ≤ length (now out) ⌝ }
+    ensures { λ _. ⌜ now (out .exit) ≡ sets (now (out .entry)) at (bytesOfNode level kind cut number width height eaten) ⌝ }
 {
     out[at] = level;
     out[at + 1] = kind;
@@ -53,6 +57,7 @@ fn put_node(
     put_two(number, out, at + 3);
     put_four(width, out, at + 5);
     put_four(height, out, at + 9);
+    out[at + 13] = eaten;
 }
 
 // Writes the nodes of the subtree of x into `out`, from `at` on, and gives the index past the last byte: the node's own bytes, and then those of
@@ -67,6 +72,7 @@ pub fn put_subtree<'a>(
     number: &'a [u16; LIMIT],
     width: &'a [u32; LIMIT],
     height: &'a [u32; LIMIT],
+    eaten: &'a [u8; LIMIT],
     x: u16,
     left: usize,
     out: &mut [u8],
@@ -74,14 +80,14 @@ pub fn put_subtree<'a>(
 ) -> usize
     requires { ⌜ (x < limit)
         × (at + length (snapshotOf limit (now first) (now next)
-        (bytesAt (now level) (now kind) (now cut) (now number) (now width) (now height)) left x) ≤ length (now out)) ⌝ }
+        (bytesAt (now level) (now kind) (now cut) (now number) (now width) (now height) (now eaten)) left x) ≤ length (now out)) ⌝ }
     ensures written { λ r. ⌜ now (out .exit)
         ≡ sets (now (out .entry)) at (snapshotOf limit (now (first .entry)) (now (next .entry))
         (bytesAt (now (level .entry)) (now (kind .entry)) (now (cut .entry)) (now (number .entry)) (now (width .entry))
-        (now (height .entry))) left x) ⌝ }
+        (now (height .entry)) (now (eaten .entry))) left x) ⌝ }
     ensures counted { λ r. ⌜ r ≡ at + length (snapshotOf limit (now (first .entry)) (now (next .entry))
         (bytesAt (now (level .entry)) (now (kind .entry)) (now (cut .entry)) (now (number .entry)) (now (width .entry))
-        (now (height .entry))) left x) ⌝ }
+        (now (height .entry)) (now (eaten .entry))) left x) ⌝ }
 {
     if left == 0 {
         return at;
@@ -94,10 +100,11 @@ pub fn put_subtree<'a>(
         number[i],
         width[i],
         height[i],
+        eaten[i],
         out,
         at,
     );
-    let mut k = at + 13;
+    let mut k = at + NODE;
     let mut c = first[i];
     let mut turns = left - 1;
     while 0 < turns {
@@ -113,6 +120,7 @@ pub fn put_subtree<'a>(
             number,
             width,
             height,
+            eaten,
             c,
             left - 1,
             out,

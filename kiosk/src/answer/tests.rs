@@ -10,10 +10,11 @@ fn one_of_each() -> Vec<(String, Answer)> {
     let mark = Mark::from_numbers;
     let offers = [(Rotation::Default, Shape::AlongThenAcross), (Rotation::Rotated, Shape::AcrossThenAlong)];
     let offers = offers.map(|(rotation, shape)| Offer { rotation, shape });
-    let top = Node { level: 0, kind: Kind::Structure, cut: Way::Vertical, width: 100, height: 60 };
-    let part = Node { level: 1, kind: Kind::Part { number: 0x0708 }, cut: Way::Horizontal, width: 40, height: 60 };
-    let free = Node { kind: Kind::Free, width: 0x0102_0304, ..part };
-    let cut = Cut { place: 0x0102, way: Way::Horizontal, distance: 0x0304_0506, piece: Piece::Structure, left: Piece::Several };
+    let top = Node { level: 0, kind: Kind::Structure, cut: Way::Vertical, width: 100, height: 60, eaten: 0 };
+    let part = Node { level: 1, kind: Kind::Part { number: 0x0708 }, cut: Way::Horizontal, width: 40, height: 60, eaten: 3 };
+    let free = Node { kind: Kind::Free, width: 0x0102_0304, eaten: 0, ..part };
+    let cut =
+        ListedCut { place: 0x0102, way: Way::Horizontal, distance: 0x0304_0506, piece: Piece::Structure, left: Piece::Several };
     let (used_area, nodes, sheet_usage) = (0x0102_0304_0506_0708, 255, 0.4);
     let pairs = vec![
         ("01 00 0102 03 04050607", Answer::Opened(mark(0x0102, 3, 0x0405_0607))),
@@ -37,10 +38,12 @@ fn one_of_each() -> Vec<(String, Answer)> {
             Answer::Figures(Figures { used_area, free_area: 3_600, nodes, is_empty: false, sheet_usage, tree_usage: 1.0 }),
         ),
         (
-            "17 00 0003 000201 0000 00000064 0000003c 010100 0708 00000028 0000003c 010000 0000 01020304 0000003c",
+            "17 00 0003 000201 0000 00000064 0000003c 00 010100 0708 00000028 0000003c 03 010000 0000 01020304 0000003c 00",
             Answer::Snapshot(vec![top, part, free]),
         ),
         ("18 00 0001 0102 00 03040506 02 03", Answer::Cuts(vec![cut])),
+        ("19 00 0102030405060708", Answer::EatenArea(used_area)),
+        ("1a 00 0003 00 03 64", Answer::CutAmounts(vec![0, 3, 100])),
     ];
     pairs.into_iter().map(|(words, answer)| (line(&numbers(&words.replace(' ', ""))), answer)).collect()
 }
@@ -61,7 +64,7 @@ fn each_answer_is_read() {
 
 #[test]
 fn each_refusal_is_read() {
-    for op in (0x01..=0x07).chain(0x11..=0x18) {
+    for op in (0x01..=0x07).chain(0x11..=0x1a) {
         for number in 1..=13 {
             assert_eq!(Answer::read(line(&[op, number])).err().map(Refusal::number), Some(number));
         }
@@ -79,7 +82,7 @@ fn what_is_no_answer() {
         vec![0, 0],
         vec![8, 0],
         vec![0x10, 0],
-        vec![0x19, 0],
+        vec![0x1b, 0],
         vec![0xff, 0],
         vec![0xff, 13],
         vec![0xff, 15],
@@ -97,11 +100,12 @@ fn what_is_no_answer() {
         vec![2, 0, 1, 2, 1],
         vec![2, 0, 1, 0, 0],
         vec![2, 0, 1, 0, 5],
-        // nodes: no such kind, no such cut, a free piece and a structure with a part number
-        vec![0x17, 0, 0, 1, 0, 3, 1, 0, 0, 0, 0, 0, 9, 0, 0, 0, 9],
-        vec![0x17, 0, 0, 1, 0, 2, 2, 0, 0, 0, 0, 0, 9, 0, 0, 0, 9],
-        vec![0x17, 0, 0, 1, 0, 0, 1, 0, 1, 0, 0, 0, 9, 0, 0, 0, 9],
-        vec![0x17, 0, 0, 1, 0, 2, 1, 1, 0, 0, 0, 0, 9, 0, 0, 0, 9],
+        // nodes: no such kind, no such cut, a free piece and a structure with a part number, and one of an archive that knows no blade
+        vec![0x17, 0, 0, 1, 0, 3, 1, 0, 0, 0, 0, 0, 9, 0, 0, 0, 9, 0],
+        vec![0x17, 0, 0, 1, 0, 2, 2, 0, 0, 0, 0, 0, 9, 0, 0, 0, 9, 0],
+        vec![0x17, 0, 0, 1, 0, 0, 1, 0, 1, 0, 0, 0, 9, 0, 0, 0, 9, 0],
+        vec![0x17, 0, 0, 1, 0, 2, 1, 1, 0, 0, 0, 0, 9, 0, 0, 0, 9, 0],
+        vec![0x17, 0, 0, 1, 0, 2, 1, 0, 0, 0, 0, 0, 9, 0, 0, 0, 9],
         // cuts: no such way, no such kinds
         vec![0x18, 0, 0, 1, 0, 0, 2, 0, 0, 0, 9, 0, 0],
         vec![0x18, 0, 0, 1, 0, 0, 1, 0, 0, 0, 9, 4, 0],
@@ -110,6 +114,12 @@ fn what_is_no_answer() {
         vec![0x15, 0, 255, 255],
         vec![0x17, 0, 255, 255],
         vec![0x18, 0, 255, 255],
+        vec![0x1a, 0, 255, 255],
+        // an amount too few, and one too many
+        vec![0x1a, 0, 0, 2, 3],
+        vec![0x1a, 0, 0, 1, 3, 3],
+        // an area of seven bytes
+        [&[0x19, 0], [0; 7].as_slice()].concat(),
         // neither empty nor not
         [&[0x16, 0], [0; 18].as_slice(), &[2], &[0; 16]].concat(),
     ];
@@ -159,7 +169,10 @@ fn random_bytes() {
             .collect();
         assert_eq!(Answer::read(&bytes), Err(Refusal::Unreadable));
         // with the op and the 00 of an answer
-        bytes.splice(0..0, [[1, 2, 3, 4, 5, 6, 7, 0x11, 0x12, 0x13, 0x14, 0x15, 0x16, 0x17, 0x18][random.below(15) as usize], 0]);
+        bytes.splice(
+            0..0,
+            [[1, 2, 3, 4, 5, 6, 7, 0x11, 0x12, 0x13, 0x14, 0x15, 0x16, 0x17, 0x18, 0x19, 0x1a][random.below(17) as usize], 0],
+        );
         read += usize::from(says_again(&bytes));
     }
     assert!(read > 1_000, "{read}");

@@ -4,10 +4,26 @@
 use super::*;
 use crate::archive;
 use crate::common::typed::MALFORMED;
-use crate::common::{insert, line, lines_of, mark, numbers, part, remove, Random, KEEP, OPEN, REPORT, RESTORE};
+use crate::common::{insert, line, lines_of, mark, numbers, part, remove, Random, KEEP, OPEN, OPEN_WITH_BLADE, REPORT, RESTORE};
 
 /// Document 01's booking on its sheet: part 7 of 40 x 60 along the cut.
 const BOOKING: &str = "03000101000000020007000000280000003c0000018d";
+
+impl SessionRecord {
+    /// The places of the sheet's nodes in the order of its snapshot, along the links; none where there is no sheet.
+    pub fn places(&self) -> Vec<u16> {
+        let (nodes, none) = (&self.layout.nodes, LIMIT as u16);
+        let (mut places, mut next) = (vec![], if self.layout.held > 0 { vec![0] } else { vec![] });
+        while let Some(place) = next.pop() {
+            if place != none {
+                places.push(place);
+                let NodeRecord { first, next: behind, .. } = nodes[usize::from(place)];
+                next.extend([behind, first]);
+            }
+        }
+        places
+    }
+}
 
 /// The desk's answer to a line, without its newline; zeros are behind it. The counter's is the same, and so is its session, but where the op is the desk's own.
 fn answer(session: &mut SessionRecord, line: impl AsRef<[u8]>) -> String {
@@ -19,7 +35,7 @@ fn answer(session: &mut SessionRecord, line: impl AsRef<[u8]>) -> String {
     let mut answer = [7; DESK_LONGEST];
     let desk_count = archive::desk(session, line, &mut answer);
     assert!(answer[desk_count - 1] == b'\n' && answer[desk_count..].iter().all(|byte| *byte == 0));
-    if matches!(line, [b'1', b'1'..=b'8', ..]) {
+    if matches!(line, [b'1', b'1'..=b'9' | b'a', ..]) {
         assert_eq!(said[..count - 1], *MALFORMED.as_bytes(), "an op of the desk alone");
     } else {
         assert_eq!(answer[..desk_count], said[..count]);
@@ -48,7 +64,8 @@ fn looks() -> Vec<(u8, String)> {
 /// A line for each op of the desk's own, with its op. None of them changes anything.
 fn questions() -> Vec<(u8, String)> {
     let (free, small) = (mark(2, 4), part(1, 1));
-    let fields = [[free.as_slice(), &small].concat(), small, vec![0, 0], vec![0, 0], vec![], vec![], vec![], vec![]];
+    let fields = [[free.as_slice(), &small].concat(), small, vec![0, 0], vec![0, 0]];
+    let fields = fields.into_iter().chain(std::iter::repeat(vec![]).take(6));
     (0x11..).zip(fields).map(|(op, fields)| (op, line(&[vec![op], fields].concat()))).collect()
 }
 
@@ -63,24 +80,37 @@ fn stays(session: &mut SessionRecord, line: impl AsRef<[u8]>, said: &str) {
     assert!(*session == before);
 }
 
-/// The archive writes each number where this side reads it: document 01's sheet with a part on it, kept.
+/// The archive writes each number where this side reads it: document 01's sheet with a part on it, kept; and the same with a blade.
 #[test]
 fn the_archive_has_the_same_records() {
-    let session = booked();
+    has_the_same_records(booked(), 0);
+    has_the_same_records(booked_with_blade(), 3);
+}
+
+/// Document 01's sheet with its part on it, kept, and a blade that is 3 wide.
+fn booked_with_blade() -> SessionRecord {
+    let mut session = SessionRecord::ZERO;
+    for line in [OPEN_WITH_BLADE, BOOKING, KEEP] {
+        assert_eq!(answer(&mut session, line)[2..4], *"00");
+    }
+    session
+}
+
+fn has_the_same_records(session: SessionRecord, eaten: u8) {
     for layout in [&session.layout, &session.kept] {
         let [top, part, free] = [0, 1, 2].map(|place| layout.nodes[place]);
         let datum = |node: NodeRecord| {
             let datum = node.datum;
-            (datum.serial, datum.width, datum.height, datum.number, datum.level, datum.kind, datum.cut)
+            (datum.serial, datum.width, datum.height, datum.number, datum.level, datum.kind, datum.cut, datum.eaten)
         };
         let links = |node: NodeRecord| [node.parent, node.first, node.last, node.prev, node.next];
         let none = LIMIT as u16;
-        assert_eq!((datum(top), links(top)), ((1, 100, 60, 0, 0, 2, 1), [none, 1, 2, none, none]));
-        assert_eq!((datum(part), links(part)), ((3, 40, 60, 7, 1, 1, 0), [0, none, none, none, 2]));
-        assert_eq!((datum(free), links(free)), ((4, 60, 60, 0, 1, 0, 0), [0, none, none, 1, none]));
+        assert_eq!((datum(top), links(top)), ((1, 100, 60, 0, 0, 2, 1, 0), [none, 1, 2, none, none]));
+        assert_eq!((datum(part), links(part)), ((3, 40, 60, 7, 1, 1, 0, eaten), [0, none, none, none, 2]));
+        assert_eq!((datum(free), links(free)), ((4, 60 - u32::from(eaten), 60, 0, 1, 0, 0, 0), [0, none, none, 1, none]));
         assert_eq!((layout.free[0], layout.removable[0], layout.removable[1]), (2, 1, 0));
         assert_eq!((layout.held, layout.frees, layout.removables), (3, 1, 2));
-        assert_eq!((layout.used, layout.serial, layout.number, layout.stages), (2400, 4, 1, 3));
+        assert_eq!((layout.used, layout.serial, layout.number, layout.stages, layout.blade), (2400, 4, 1, 3, eaten));
         assert_eq!((layout.width, layout.height), (100, 60));
     }
 }
@@ -124,7 +154,7 @@ fn the_archive_writes_within_what_is_lent() {
     assert!(longest > 1000, "{longest}");
 }
 
-/// The same of the desk, whose longest answer has 6,641 characters: a snapshot of 255 nodes. Each of its questions is asked behind every line of the long sessions,
+/// The same of the desk, whose longest answer has 7,151 characters: a snapshot of 255 nodes. Each of its questions is asked behind every line of the long sessions,
 /// of which some fill the table.
 #[test]
 fn the_desk_writes_within_what_is_lent() {
@@ -139,7 +169,7 @@ fn the_desk_writes_within_what_is_lent() {
     let guard = u64::from_ne_bytes([7; 8]);
     let (before, between) = ([guard; 512], [guard; 512]);
     let mut lent = Box::new(Lent { before, session: SessionRecord::ZERO, between, answer: [7; DESK_LONGEST], behind: [7; 4096] });
-    assert_eq!(DESK_LONGEST, 6641);
+    assert_eq!(DESK_LONGEST, 7151);
     let questions: Vec<Vec<u8>> = questions().into_iter().map(|(_, line)| line.into_bytes()).collect();
     let mut longest = 0;
     for line in lines_of("recorded/long.in").iter().chain([&b"no frame".to_vec()]) {
@@ -176,7 +206,7 @@ fn an_unlisted_kind_or_cut_is_refused() {
             stays(&mut session, line, &refused(op, 1));
         }
         stays(&mut session, "no frame", MALFORMED);
-        stays(&mut session, line(&[1, 0, 1, 0, 0, 0, 0, 0, 0, 0, 60, 1, 3]), &refused(1, 2));
+        stays(&mut session, line(&[1, 0, 1, 0, 0, 0, 0, 0, 0, 0, 60, 1, 3, 0]), &refused(1, 2));
         let mut list = [7; ROOM];
         assert_eq!((archive::cuts(&session, &mut list), list), (NO_LIST, [7; ROOM]));
         // an opening looks at none: it takes the record's place, and what is kept stays
@@ -206,6 +236,40 @@ fn an_unlisted_kind_or_cut_is_not_restored() {
     }
 }
 
+/// What a blade and the amounts may be. They are bounded from above: one that is less than the blade is sound, where all adds up.
+#[test]
+fn amounts_that_are_not_sound_are_refused() {
+    type Spoil = fn(&mut LayoutRecord);
+    let spoils: [(bool, Spoil); 10] = [
+        (true, |_| ()),
+        (true, |layout| (layout.nodes[1].datum.eaten, layout.nodes[2].datum.width) = (2, 58)),
+        (true, |layout| (layout.nodes[1].datum.eaten, layout.nodes[2].datum.width) = (0, 60)),
+        (true, |layout| layout.blade = 100),
+        (false, |layout| layout.blade = 101),
+        (false, |layout| layout.blade = 2),
+        (false, |layout| layout.nodes[1].datum.eaten = 2),
+        (false, |layout| layout.nodes[0].datum.eaten = 1),
+        (false, |layout| (layout.nodes[2].datum.eaten, layout.nodes[2].datum.width) = (1, 56)),
+        (false, |layout| layout.nodes[3].datum.eaten = 1),
+    ];
+    for (number, (sound, spoil)) in spoils.into_iter().enumerate() {
+        let mut session = booked_with_blade();
+        spoil(&mut session.layout);
+        if sound {
+            for (op, line) in questions() {
+                assert_eq!(answer(&mut session, line)[..4], format!("{op:02x}00"), "spoilt so: {number}");
+            }
+            continue;
+        }
+        for (op, line) in looks() {
+            stays(&mut session, line, &refused(op, 1));
+        }
+        let mut session = booked_with_blade();
+        spoil(&mut session.kept);
+        stays(&mut session, RESTORE, &refused(6, 1));
+    }
+}
+
 /// Offers, report and the desk's questions change nothing where they accept either; each other refusal of document 01 that a few lines can reach leaves the session as it was.
 #[test]
 fn what_refuses_and_what_only_looks_changes_nothing() {
@@ -217,7 +281,8 @@ fn what_refuses_and_what_only_looks_changes_nothing() {
         assert!(session == before);
     }
     let asked = [
-        (line(&[1, 0, 1, 0, 0, 0, 100, 0, 0, 0, 60, 1, 255]), 1, 2),
+        (line(&[1, 0, 1, 0, 0, 0, 100, 0, 0, 0, 60, 1, 255, 0]), 1, 2),
+        (line(&[1, 0, 1, 0, 0, 0, 100, 0, 0, 0, 60, 1, 3, 101]), 1, 2),
         (insert(&elsewhere, &part(0, 1), 2), 3, 3),
         (insert(&elsewhere, &part(1, 1), 2), 3, 4),
         (insert(&gone, &part(1, 1), 2), 3, 5),
@@ -253,7 +318,7 @@ fn what_refuses_and_what_only_looks_changes_nothing() {
             stays(&mut session, line(&[&fields[..fields.len() - 1], &[3]].concat()), MALFORMED);
         }
     }
-    for op in (8..=0x10).chain(0x19..=255).chain([0]) {
+    for op in (8..=0x10).chain(0x1b..=255).chain([0]) {
         stays(&mut session, line(&[op]), MALFORMED);
     }
 }
@@ -288,6 +353,7 @@ fn scrambled(random: &mut Random) -> LayoutRecord {
             level: number() as u8,
             kind: number() as u8,
             cut: number() as u8,
+            eaten: number() as u8,
         };
         let [parent, first, last, prev, next] = [0; 5].map(|_| number() as u16);
         *node = NodeRecord { datum, parent, first, last, prev, next };
@@ -297,5 +363,6 @@ fn scrambled(random: &mut Random) -> LayoutRecord {
     }
     let [held, frees, removables] = [0; 3].map(|_| number() as u16);
     let (used, serial, width, height) = (number(), number() as u32, number() as u32, number() as u32);
-    LayoutRecord { held, frees, removables, used, serial, number: 1, stages: number() as u8, width, height, ..layout }
+    let (stages, blade) = (number() as u8, number() as u8);
+    LayoutRecord { held, frees, removables, used, serial, number: 1, stages, blade, width, height, ..layout }
 }

@@ -1,11 +1,15 @@
-/* The archive from a program in C, by nickelgrove.h: its sizes, document 01's session, the desk's questions, the list of saw cuts, and refusals that leave the
+/* The archive from a program in C, by nickelgrove.h: its sizes, document 01's session, the desk's questions, the list of saw cuts, a blade, and refusals that leave the
  * session as it was. kiosk/test compiles and runs it. The last line counts as cargo's does. */
 #include <stdio.h>
 #include <string.h>
 
 #include "nickelgrove.h"
 
-static const char OPEN[] = "010001000000640000003c01035a";
+static const char OPEN[] = "010001000000640000003c0103005a";
+/* The same sheet for a saw whose blade is 3 wide; for one that is 101 wide; and as it was opened before there was a blade. */
+static const char OPEN_WITH_BLADE[] = "010001000000640000003c01030357";
+static const char OPEN_TOO_WIDE[] = "010001000000640000003c010365f5";
+static const char OPEN_OLD[] = "010001000000640000003c01035a";
 static const char BOOKING[] = "03000101000000020007000000280000003c0000018d";
 /* The same into the piece that it leaves. */
 static const char BOOKING_BEHIND[] = "03000102000000040007000000280000003c0000018a";
@@ -65,12 +69,12 @@ static int same_layout(const struct nickelgrove_layout *a, const struct nickelgr
     const struct nickelgrove_node *n = &a->nodes[place], *m = &b->nodes[place];
     if (n->datum.serial != m->datum.serial || n->datum.width != m->datum.width || n->datum.height != m->datum.height ||
         n->datum.number != m->datum.number || n->datum.level != m->datum.level || n->datum.kind != m->datum.kind ||
-        n->datum.cut != m->datum.cut || n->parent != m->parent || n->first != m->first || n->last != m->last || n->prev != m->prev ||
+        n->datum.cut != m->datum.cut || n->datum.eaten != m->datum.eaten || n->parent != m->parent || n->first != m->first || n->last != m->last || n->prev != m->prev ||
         n->next != m->next || a->free[place] != b->free[place] || a->removable[place] != b->removable[place])
       return 0;
   }
   return a->held == b->held && a->frees == b->frees && a->removables == b->removables && a->used == b->used &&
-         a->serial == b->serial && a->number == b->number && a->stages == b->stages && a->width == b->width && a->height == b->height;
+         a->serial == b->serial && a->number == b->number && a->stages == b->stages && a->blade == b->blade && a->width == b->width && a->height == b->height;
 }
 
 /* Whether the line gets this answer and the session stays as it was. */
@@ -115,7 +119,7 @@ static void document_01_session(void) {
 static void desk(void) {
   start();
   check(desk_stays("15eb", "1501ea") && desk_stays("17e9", "1701e8") && desk_stays(REPORT, "0701f8"), "the desk before an opening");
-  check(desk_stays("010001000000000000003c0103be", "0102fd"), "an opening outside the limits, at the desk");
+  check(desk_stays("010001000000000000003c010300be", "0102fd"), "an opening outside the limits, at the desk");
   check(desk_says(OPEN, "010000010100000002fb") && desk_says(KEEP, "0500fb"), "an opening and a keep, at the desk");
   check(desk_says(BOOKING, "030000010100000003000101000000030100010200000004eb"), "the booking, at the desk");
   check(desk_stays("11000102000000040008000000650000003c003f", "11000102ec"), "why not: too wide, and too tall when it is turned");
@@ -125,8 +129,9 @@ static void desk(void) {
   check(desk_stays("140000ec", "140000010100000003e7") && desk_stays("140002ea", "140ce0"), "the removable list and its end");
   check(desk_stays("15eb", "150000010007e3"), "the part numbers");
   check(desk_stays("16ea", "160000000000000009600000000000000e100003003fd999999999999a3fd999999999999a02"), "the figures");
-  check(desk_stays("17e9", "170000030002010000000000640000003c0101000007000000280000003c01000000000000003c0000003c5d"), "the tree");
+  check(desk_stays("17e9", "170000030002010000000000640000003c000101000007000000280000003c0001000000000000003c0000003c005d"), "the tree");
   check(desk_stays("18e8", "18000001000001000000280100bd"), "the saw cuts");
+  check(desk_stays("19e7", "19000000000000000000e7") && desk_stays("1ae6", "1a00000100e5"), "the eaten area and the amounts of the cuts: nothing");
   check(desk_stays(BOOKING, "0305f8") && desk_stays("no frame", "ff0ef3") && desk_stays("", "ff0ef3"), "the counter's lines at the desk");
   check(stays("15eb", "ff0ef3"), "a question of the desk at the counter");
   check(desk_says(RESTORE, "0600fa") && desk_stays("15eb", "15000000eb") && desk_stays(BOOKING_BEHIND, "0305f8"), "a restore, at the desk");
@@ -142,6 +147,26 @@ static void list_of_cuts(void) {
         "a list of one cut");
 }
 
+/* A blade that is 3 wide: what it eats, and that it is given back; and openings that are not taken. */
+static void blade(void) {
+  start();
+  check(stays(OPEN_OLD, "ff0ef3") && desk_stays(OPEN_OLD, "ff0ef3"), "an opening without a width is malformed");
+  check(stays(OPEN_TOO_WIDE, "0102fd") && desk_stays(OPEN_TOO_WIDE, "0102fd"), "a blade that is 101 wide");
+  check(says(OPEN_WITH_BLADE, "010000010100000002fb") && lent.session.layout.blade == 3 && says(KEEP, "0500fb"), "a blade that is 3 wide");
+  check(says(BOOKING, "030000010100000003000101000000030100010200000004eb") && lent.session.layout.nodes[1].datum.eaten == 3 &&
+            lent.session.layout.nodes[2].datum.width == 57 && lent.session.layout.nodes[2].datum.eaten == 0,
+        "a booking loses it behind the part");
+  check(desk_stays("17e9", "170000030002010000000000640000003c000101000007000000280000003c030100000000000000390000003c005d"), "the tree, with what is eaten");
+  check(desk_stays("18e8", "18000001000001000000280100bd") && desk_stays("19e7", "190000000000000000b433") && desk_stays("1ae6", "1a00000103e2"),
+        "the saw cuts, the eaten area, the amounts of the cuts");
+  check(stays(OPEN_TOO_WIDE, "0102fd") && stays(OPEN_OLD, "ff0ef3"), "a sheet that is there stays");
+  check(says("0400010100000003f7", "040000010100000005010007ed") && lent.session.layout.nodes[1].datum.width == 100, "a removal gives it back");
+  check(says(OPEN, "010000010100000002fb") && lent.session.layout.blade == 0 && says(RESTORE, "0600fa") && lent.session.layout.blade == 3,
+        "a restore brings the width back");
+  lent.session.layout.blade = 101;
+  check(stays(REPORT, "0701f8") && stays(BOOKING, "0301fc"), "a layout with a blade that is 101 wide");
+}
+
 static void unlisted(void) {
   start();
   says(OPEN, "010000010100000002fb");
@@ -153,7 +178,7 @@ static void unlisted(void) {
   check(stays(BOOKING, "0301fc") && stays(KEEP, "0501fa") && stays(RESTORE, "0601f9") && stays(REPORT, "0701f8"),
         "a layout with an unlisted kind");
   check(desk_stays("130000ed", "1301ec") && desk_stays("15eb", "1501ea") && desk_stays("16ea", "1601e9") && desk_stays("17e9", "1701e8") &&
-            desk_stays("18e8", "1801e7"),
+            desk_stays("18e8", "1801e7") && desk_stays("19e7", "1901e6") && desk_stays("1ae6", "1a01e5"),
         "and the desk's questions");
   check(nickelgrove_cuts(&lent.session, lent.list) == NICKELGROVE_NO_LIST && all(lent.list, NICKELGROVE_ROOM, 7), "and its list");
   check(says(OPEN, "010000010100000002fb") && says(RESTORE, "0600fa"), "an opening takes its place");
@@ -164,6 +189,7 @@ int main(void) {
   document_01_session();
   desk();
   list_of_cuts();
+  blade();
   unlisted();
   printf("test result: %s. %d passed; %d failed\n", failed ? "FAILED" : "ok", passed, failed);
   return failed != 0;

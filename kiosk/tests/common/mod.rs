@@ -15,7 +15,9 @@ pub fn lines_of(file: &str) -> Vec<Vec<u8>> {
 }
 
 /// Document 01's sheet: 100 x 60, first cut Vertical, stages 3.
-pub const OPEN: &str = "010001000000640000003c01035a";
+pub const OPEN: &str = "010001000000640000003c0103005a";
+/// The same with a blade that is 3 wide.
+pub const OPEN_WITH_BLADE: &str = "010001000000640000003c01030357";
 pub const OPENED: &str = "010000010100000002fb";
 pub const KEEP: &str = "05fb";
 pub const RESTORE: &str = "06fa";
@@ -23,8 +25,13 @@ pub const REPORT: &str = "07f9";
 
 /// A counter with document 01's sheet on it, and the mark of its free piece.
 pub fn opened() -> (Counter, Vec<u8>) {
+    opened_by(OPEN)
+}
+
+/// The same by another line.
+pub fn opened_by(line: &str) -> (Counter, Vec<u8>) {
     let mut counter = Counter::new();
-    assert_eq!(counter.answer(OPEN), OPENED);
+    assert_eq!(counter.answer(line), OPENED);
     (counter, mark(1, 2))
 }
 

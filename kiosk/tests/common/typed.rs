@@ -3,7 +3,7 @@
 #![allow(unreachable_patterns)]
 
 use nickelgrove_kiosk::{
-    Answer, Cut, Kind, Mark, Node, Offer, Part, Piece, Reason, Refusal, Request, Rotation, Shape, Sheet, Turn, Way,
+    Answer, Cut, Kind, ListedCut, Mark, Node, Offer, Part, Piece, Reason, Refusal, Request, Rotation, Shape, Sheet, Turn, Way,
 };
 
 use super::{hex, line, numbers};
@@ -24,12 +24,13 @@ pub fn request_of(line: &[u8]) -> Option<Request> {
     let (_check, frame) = bytes.split_last()?;
     let (op, fields) = frame.split_first()?;
     let request = match (op, fields.len()) {
-        (0x01, 12) => Request::Open {
+        (0x01, 13) => Request::Open {
             number: two(fields),
             width: four(&fields[2..]),
             height: four(&fields[6..]),
             first_cut: way_of(fields[10])?,
             stages: fields[11],
+            blade: fields[12],
         },
         (0x02, 18) => Request::Offers { piece: mark_of(fields), part: part_of(&fields[7..])? },
         (0x03, 20) => {
@@ -48,6 +49,8 @@ pub fn request_of(line: &[u8]) -> Option<Request> {
         (0x16, 0) => Request::Figures,
         (0x17, 0) => Request::Snapshot,
         (0x18, 0) => Request::Cuts,
+        (0x19, 0) => Request::EatenArea,
+        (0x1a, 0) => Request::CutAmounts,
         _ => return None,
     };
     Some(request)
@@ -102,6 +105,8 @@ pub fn op_of(request: &Request) -> u8 {
         Request::Figures => 0x16,
         Request::Snapshot => 0x17,
         Request::Cuts => 0x18,
+        Request::EatenArea => 0x19,
+        Request::CutAmounts => 0x1a,
         _ => panic!("{request:?}"),
     }
 }
@@ -152,7 +157,9 @@ pub fn bytes_of(answer: &Answer) -> Vec<u8> {
         ]
         .concat(),
         Answer::Snapshot(nodes) => [count_bytes(nodes), nodes_bytes(nodes)].concat(),
-        Answer::Cuts(cuts) => [count_bytes(cuts), cuts_bytes(cuts)].concat(),
+        Answer::Cuts(cuts) => [count_bytes(cuts), cuts.iter().flat_map(listed_bytes).collect()].concat(),
+        Answer::EatenArea(area) => area.to_be_bytes().to_vec(),
+        Answer::CutAmounts(amounts) => [count_bytes(amounts), amounts.clone()].concat(),
         _ => panic!("{answer:?}"),
     }
 }
@@ -198,28 +205,33 @@ fn nodes_bytes(nodes: &[Node]) -> Vec<u8> {
         };
         assert_eq!(node.part_number(), (kind == 1).then_some(number));
         let sides = [node.width.to_be_bytes(), node.height.to_be_bytes()].concat();
-        [[node.level, kind, way_number(node.cut)].as_slice(), &number.to_be_bytes(), &sides].concat()
+        [[node.level, kind, way_number(node.cut)].as_slice(), &number.to_be_bytes(), &sides, &[node.eaten]].concat()
     };
     nodes.iter().flat_map(bytes).collect()
 }
 
-fn cuts_bytes(cuts: &[Cut]) -> Vec<u8> {
+/// The bytes of a cut, but for what the blade eats.
+fn cut_bytes(place: u16, way: Way, distance: u32, kinds: [Piece; 2]) -> Vec<u8> {
     let kind = |piece: Piece| match piece {
         Piece::Free => 0,
         Piece::Part => 1,
         Piece::Structure => 2,
         Piece::Several => 3,
     };
-    let bytes = |cut: &Cut| {
-        let start = [cut.place.to_be_bytes().as_slice(), &[way_number(cut.way)], &cut.distance.to_be_bytes()].concat();
-        [start, vec![kind(cut.piece), kind(cut.left)]].concat()
-    };
-    cuts.iter().flat_map(bytes).collect()
+    [place.to_be_bytes().as_slice(), &[way_number(way)], &distance.to_be_bytes(), &kinds.map(kind)].concat()
 }
 
-/// The fields of a line of `inspect` behind the answer (recorded/README.md), by the typed calls: tree snapshot, free list, removable list, figures, part numbers,
-/// room light for the part that the line asked about, saw cuts. Before an opening each call refuses with 1.
-pub fn fields(sheet: &Sheet, part: Option<Part>) -> [String; 7] {
+fn listed_bytes(cut: &ListedCut) -> Vec<u8> {
+    cut_bytes(cut.place, cut.way, cut.distance, [cut.piece, cut.left])
+}
+
+fn cuts_bytes(cuts: &[Cut]) -> Vec<u8> {
+    cuts.iter().flat_map(|cut| cut_bytes(cut.place, cut.way, cut.distance, [cut.piece, cut.left])).collect()
+}
+
+/// The fields of a line of `inspect` behind the answer (recorded/README.md), by the typed calls: tree snapshot, free list, removable list, figures with the eaten
+/// area, part numbers, room light for the part that the line asked about, saw cuts, and what these lose. Before an opening each call refuses with 1.
+pub fn fields(sheet: &Sheet, part: Option<Part>) -> [String; 8] {
     [
         field(sheet.snapshot().map(|nodes| nodes_bytes(&nodes))),
         field(sheet.free_pieces().map(|marks| marks_bytes(&marks))),
@@ -228,7 +240,8 @@ pub fn fields(sheet: &Sheet, part: Option<Part>) -> [String; 7] {
             assert_eq!(Ok(usize::from(figures.nodes)), sheet.snapshot().map(|nodes| nodes.len()));
             assert!(!figures.is_empty);
             let usages = [figures.sheet_usage, figures.tree_usage].map(|usage| usage.to_bits().to_be_bytes()).concat();
-            [[figures.used_area, figures.free_area].map(u64::to_be_bytes).concat(), usages].concat()
+            let eaten = sheet.eaten_area().expect("there are figures").to_be_bytes();
+            [[figures.used_area, figures.free_area].map(u64::to_be_bytes).concat(), usages, eaten.to_vec()].concat()
         })),
         field(sheet.part_numbers().map(|held| numbers_bytes(&held))),
         part.map_or("-".into(), |part| match sheet.room_light(part) {
@@ -237,6 +250,7 @@ pub fn fields(sheet: &Sheet, part: Option<Part>) -> [String; 7] {
             Err(refusal) => hex(&[refusal.number()]),
         }),
         field(sheet.cuts().map(|cuts| cuts_bytes(&cuts))),
+        field(sheet.cuts().map(|cuts| cuts.iter().map(|cut| cut.eaten).collect())),
     ]
 }
 

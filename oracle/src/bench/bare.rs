@@ -10,7 +10,7 @@ use crate::core::entities::sheettype::SheetType;
 use crate::core::insertion::insertion_blueprint::InsertionBlueprint;
 use crate::core::insertion::insertion_option::InsertionOption;
 use crate::core::orientation::Orientation;
-use crate::frame::{Part, Request};
+use crate::frame::{Opening, Part, Request};
 use crate::optimization::problem::Problem;
 use crate::optimization::rr::cache_updates::IOCUpdates;
 use crate::session::Session;
@@ -51,28 +51,29 @@ impl Side for Bare {
     /// The call of a line that will be accepted. The keys are those of the model's layout: the same calls give the same keys.
     fn ready(model: &Session, line: &str) -> Option<Call> {
         let request = Request::read(line.as_bytes())?;
-        if let Request::Open { layout, width, height, cut, stages } = request {
+        if let Request::Open(Opening { layout, width, height, cut, stages, .. }) = request {
             let kind = SheetType::new(0, width.into(), height.into(), 0, None, stages);
             return Some(Call::Open(layout.into(), Box::leak(Box::new(kind)), cut));
         }
-        let sheet = model.sheet()?;
+        let sheet = model.sheet()?.rust()?;
         let free = |mark, part: &Part| sheet.marks().find(mark).filter(|key| part.in_domain() && sheet.node(*key).is_empty());
         match request {
             Request::Offers { mark, part } => {
                 let (piece, part) = (free(mark, &part)?, leaked(&part));
                 // a fixed rotation that does not fit is no call of the Rust's
-                (part.fixed_rotation().is_none() || !sheet.offers(piece, part).is_empty()).then_some(Call::Offers(piece, part))
+                (part.fixed_rotation().is_none() || !sheet.blueprints(piece, part).is_empty())
+                    .then_some(Call::Offers(piece, part))
             }
             Request::Insert { mark, part, offer } => {
                 let (piece, part) = (free(mark, &part)?, leaked(&part));
-                let (_, blueprint) = sheet.offers(piece, part).into_iter().find(|(listed, _)| *listed == offer)?;
+                let (_, blueprint) = sheet.blueprints(piece, part).into_iter().find(|(listed, _)| *listed == offer)?;
                 Some(Call::Insert(blueprint))
             }
             Request::Remove { mark } => sheet.marks().find(mark).map(Call::Remove),
             Request::Keep => Some(Call::Keep),
             Request::Restore => Some(Call::Restore),
             Request::Report => Some(Call::Report),
-            Request::Open { .. } => None,
+            Request::Open(_) => None,
         }
     }
 

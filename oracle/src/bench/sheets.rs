@@ -1,16 +1,14 @@
 //! Sheets with a given number of nodes, each reached by frames, and the calls that are timed on them.
 
-use crate::core::entities::node::NodeKey;
 use crate::core::orientation::Orientation;
-use crate::frame::{self, Offer, Part, Request};
+use crate::frame::{self, Mark, Offer, Opening, Part, Request};
 use crate::rng::Rng;
 use crate::session::Session;
 use crate::sheet;
+use crate::tree::{Node, Piece, PART, STRUCTURE};
 
 /// A sheet that takes some hundred columns of parts, and the stages of an ordinary saw.
-const WIDTH: u32 = 60_000;
-const HEIGHT: u32 = 40_000;
-const STAGES: u8 = 6;
+const OPENING: Opening = Opening { layout: 1, width: 60_000, height: 40_000, cut: Orientation::Vertical, stages: 6, blade: 0 };
 
 /// A part that leaves most of a great piece, and gets all four offers there.
 const SMALL: Part = Part { number: 7, width: 300, height: 5_000, turn: 0 };
@@ -34,7 +32,7 @@ impl Sheet {
     pub fn of(nodes: usize) -> Self {
         let mut sheet = Sheet { model: Session::default(), lines: Vec::new(), ops: Vec::new() };
         let mut rng = Rng::new(nodes as u64);
-        sheet.send(Request::Open { layout: 1, width: WIDTH, height: HEIGHT, cut: Orientation::Vertical, stages: STAGES });
+        sheet.send(Request::Open(OPENING));
         while sheet.nodes() < nodes {
             if nodes > 10 && rng.chance(10) {
                 sheet.remove_some_part(&mut rng);
@@ -49,7 +47,7 @@ impl Sheet {
     }
 
     pub fn nodes(&self) -> usize {
-        self.sheet().marks().held()
+        self.sheet().held()
     }
 
     pub fn model(&self) -> &Session {
@@ -86,9 +84,8 @@ impl Sheet {
     fn book(&mut self, rng: &mut Rng, more: usize) {
         let sheet = self.sheet();
         let top_piece = self.top_piece();
-        let piece = if rng.chance(40) { top_piece } else { rng.pick(&sheet.free_list()) };
-        let node = sheet.node(piece);
-        let (width, height) = (node.width() as u32, node.height() as u32);
+        let piece = if rng.chance(40) { top_piece } else { rng.pick(&sheet.free_pieces()) };
+        let (width, height) = (piece.width, piece.height);
         let mut sides = [rng.between(200, 400), rng.between(2_000, 8_000)];
         if piece != top_piece {
             sides = [width, height].map(|side| rng.between(1, side.max(1)));
@@ -103,74 +100,69 @@ impl Sheet {
         let part = Part { number: rng.between(0, 999) as u16, width: sides[0], height: sides[1], turn: 1 };
         // a shape adds as many nodes as its number says; across the first piece would leave no room beside the columns
         let fits = |offer: &Offer| usize::from(offer.shape) <= more && (piece != top_piece || offer.shape % 2 == 1);
-        let offers: Vec<Offer> = sheet.offers(piece, &part.parttype()).iter().map(|(offer, _)| *offer).filter(fits).collect();
+        let offers: Vec<Offer> = sheet.offers(piece.mark, &part).into_iter().filter(fits).collect();
         if !offers.is_empty() {
-            let (mark, offer) = (sheet.marks().of(piece), rng.pick(&offers));
-            self.send(Request::Insert { mark, part, offer });
+            let offer = rng.pick(&offers);
+            self.send(Request::Insert { mark: piece.mark, part, offer });
         }
     }
 
     /// Leaves the tree as it is, and room in the Rust's arena: a booking that is timed then takes no time for a larger one.
     fn book_and_take_out(&mut self) {
-        let piece = self.top_piece();
-        let mark = self.sheet().marks().of(piece);
+        let mark = self.top_piece().mark;
         self.send(Request::Insert { mark, part: SMALL, offer: Offer { rotation: 0, shape: 4 } });
-        let sheet = self.sheet();
-        let column = sheet.node(*sheet.layout().top_node_index()).last_child().expect("what was booked");
-        let mark = sheet.marks().of(column);
-        self.send(Request::Remove { mark });
+        let column = self.last_at_top();
+        self.send(Request::Remove { mark: column.mark });
     }
 
     fn remove_some_part(&mut self, rng: &mut Rng) {
         let parts = self.parts();
         if !parts.is_empty() {
-            let mark = self.sheet().marks().of(rng.pick(&parts));
+            let mark = rng.pick(&parts);
             self.send(Request::Remove { mark });
         }
     }
 
     /// The free piece beside the columns.
-    fn top_piece(&self) -> NodeKey {
-        let sheet = self.sheet();
-        let top = sheet.node(*sheet.layout().top_node_index());
-        top.last_child().filter(|last| sheet.node(*last).is_empty()).expect("room beside the columns")
+    fn top_piece(&self) -> Piece {
+        Some(self.last_at_top()).filter(Piece::is_free).expect("room beside the columns")
     }
 
-    fn parts(&self) -> Vec<NodeKey> {
-        let sheet = self.sheet();
-        sheet.marks().by_place().filter(|key| sheet.node(*key).parttype().is_some()).collect()
+    fn last_at_top(&self) -> Piece {
+        self.sheet().tree().children.last().expect("the top has a child").piece
     }
 
-    /// How many nodes hang under one, itself among them.
-    fn size(&self, key: NodeKey) -> usize {
-        let sheet = self.sheet();
-        1 + sheet.node(key).children(sheet.layout().nodes()).map(|child| self.size(child)).sum::<usize>()
+    /// By place.
+    fn parts(&self) -> Vec<Mark> {
+        let tree = self.sheet().tree();
+        let parts = tree.in_order().into_iter().filter(|node| node.piece.kind == PART);
+        let mut marks: Vec<Mark> = parts.map(|node| node.piece.mark).collect();
+        marks.sort_by_key(|mark| mark.place);
+        marks
     }
 
-    /// The column whose number of nodes is nearest to six.
-    fn column(&self) -> NodeKey {
-        let sheet = self.sheet();
-        let columns = sheet.marks().by_place().filter(|key| sheet.node(*key).level() == 1 && sheet.node(*key).has_children());
-        columns.min_by_key(|key| self.size(*key).abs_diff(6)).expect("a column")
+    /// The column whose number of nodes is nearest to six, that of the lowest place.
+    fn column(&self) -> Mark {
+        let tree = self.sheet().tree();
+        let columns = tree.children.iter().filter(|node| node.piece.kind == STRUCTURE);
+        let nearness = |node: &&Node| (node.in_order().len().abs_diff(6), node.piece.mark.place);
+        columns.min_by_key(nearness).expect("a column").piece.mark
     }
 
     fn all_ops(&self) -> Vec<Op> {
-        let sheet = self.sheet();
-        let piece = self.top_piece();
-        let mark = |key| sheet.marks().of(key);
-        let (width, height) = (sheet.node(piece).width() as u32, sheet.node(piece).height() as u32);
-        let insert = |part, shape| Request::Insert { mark: mark(piece), part, offer: Offer { rotation: 0, shape } };
+        let Piece { mark, width, height, .. } = self.top_piece();
+        let insert = |part, shape| Request::Insert { mark, part, offer: Offer { rotation: 0, shape } };
         let parts = self.parts();
         let still = |name, request| Op { name, request, changes: false };
         let changing = |name, request| Op { name, request, changes: true };
         vec![
-            still("offers", Request::Offers { mark: mark(piece), part: SMALL }),
+            still("offers", Request::Offers { mark, part: SMALL }),
             changing("insert, AlongCurrentCut", insert(Part { height, ..SMALL }, 1)),
             changing("insert, AcrossCurrentCut", insert(Part { width, ..SMALL }, 2)),
             changing("insert, AlongThenAcross", insert(SMALL, 3)),
             changing("insert, AcrossThenAlong", insert(SMALL, 4)),
-            changing("remove a part", Request::Remove { mark: mark(parts[parts.len() / 2]) }),
-            changing("remove a structure", Request::Remove { mark: mark(self.column()) }),
+            changing("remove a part", Request::Remove { mark: parts[parts.len() / 2] }),
+            changing("remove a structure", Request::Remove { mark: self.column() }),
             still("keep", Request::Keep),
             still("restore", Request::Restore),
             still("report", Request::Report),

@@ -2,11 +2,12 @@
 
 use super::{Generator, Kind};
 use crate::core::orientation::Orientation;
-use crate::frame::{self, Mark, Request, GREATEST_SIDE};
+use crate::frame::{self, Mark, Opening, Request, GREATEST_SIDE, WIDEST_BLADE};
 
 /// Sides and stages just outside the domain, and far outside.
 const BAD_SIDES: [u32; 3] = [0, GREATEST_SIDE + 1, u32::MAX];
 const BAD_STAGES: [u8; 2] = [0, 255];
+const BAD_BLADES: [u8; 3] = [WIDEST_BLADE + 1, WIDEST_BLADE + 28, 255];
 
 impl Generator {
     /// A call with one thing or several wrong with it, which shows in what order they are tested.
@@ -22,13 +23,23 @@ impl Generator {
     }
 
     fn bad_opening(&mut self) {
+        if self.with_blade && self.rng.chance(60) {
+            return self.bad_blade();
+        }
         let (mut width, mut height, mut stages) = (self.rng.between(1, 9), self.rng.between(1, 9), 3);
         match self.rng.between(0, 2) {
             0 => width = self.rng.pick(&BAD_SIDES),
             1 => height = self.rng.pick(&BAD_SIDES),
             _ => stages = self.rng.pick(&BAD_STAGES),
         }
-        self.send(Request::Open { layout: 9, width, height, cut: Orientation::Horizontal, stages });
+        self.send(Request::Open(Opening { layout: 9, width, height, cut: Orientation::Horizontal, stages, blade: 0 }));
+    }
+
+    /// An opening with a blade that is too wide; now and then its stages are wrong too.
+    fn bad_blade(&mut self) {
+        let (width, height, blade) = (self.rng.between(1, 9), self.rng.between(1, 9), self.rng.pick(&BAD_BLADES));
+        let stages = if self.rng.chance(80) { 3 } else { self.rng.pick(&BAD_STAGES) };
+        self.send(Request::Open(Opening { layout: 9, width, height, cut: Orientation::Vertical, stages, blade }));
     }
 
     /// A mark that a removal, and mostly a booking too, has to refuse.
@@ -76,6 +87,9 @@ impl Generator {
 
     /// A line that is no frame: wrong characters, or the right ones for what no frame says.
     pub(super) fn malformed(&mut self) {
+        if self.with_blade && self.rng.chance(20) {
+            return self.opening_of_wrong_length();
+        }
         let piece = self.some_piece();
         let part = self.some_part(Kind::Plain, &piece);
         let bytes = Request::Insert { mark: piece.mark, part, offer: self.some_offer() }.bytes();
@@ -84,6 +98,17 @@ impl Generator {
             false => frame::line(self.wrong_bytes(bytes)),
         };
         self.send_line(line);
+    }
+
+    /// An opening that lacks the blade's byte, as it did before there was a blade, or has a byte behind it.
+    fn opening_of_wrong_length(&mut self) {
+        let opening = Opening { layout: 1, width: 2, height: 2, cut: Orientation::Vertical, stages: 2, blade: 0 };
+        let mut bytes = Request::Open(opening).bytes();
+        match self.rng.chance(70) {
+            true => drop(bytes.pop()),
+            false => bytes.push(0),
+        }
+        self.send_line(frame::line(bytes));
     }
 
     /// The line of an insertion, cut, lengthened or with a character that has no place there.
@@ -117,7 +142,7 @@ impl Generator {
             }
             _ => {
                 let cut = Orientation::Vertical;
-                bytes = Request::Open { layout: 1, width: 2, height: 2, cut, stages: 2 }.bytes();
+                bytes = Request::Open(Opening { layout: 1, width: 2, height: 2, cut, stages: 2, blade: 0 }).bytes();
                 bytes[CUT] = 2;
             }
         }

@@ -1,9 +1,10 @@
 //! Sessions that go to the ends: chains of structures, rows of parts, full tables, the last serial.
 
-use super::{Generator, Kind, Piece};
+use super::{Generator, Kind};
 use crate::core::orientation::Orientation;
 use crate::frame::{Mark, Offer, Part, Request, GREATEST_SIDE};
 use crate::session::refusal;
+use crate::tree::{Piece, PART};
 
 impl Generator {
     /// The free piece at the deepest level.
@@ -33,16 +34,16 @@ impl Generator {
     }
 
     fn newest_part(&self) -> Mark {
-        let sheet = self.sheet();
-        let parts = sheet.marks().by_place().filter(|key| sheet.node(*key).parttype().is_some());
-        parts.map(|key| sheet.marks().of(key)).max_by_key(|mark| mark.serial).expect("a part")
+        let tree = self.sheet().tree();
+        let parts = tree.in_order().into_iter().filter(|node| node.piece.kind == PART);
+        parts.map(|node| node.piece.mark).max_by_key(|mark| mark.serial).expect("a part")
     }
 
     /// A few structures, one inside the other, as far as the stages allow; then ordinary calls.
     pub(super) fn chain(&mut self) {
         let (width, height) = (self.rng.between(2, 90), self.rng.between(2, 90));
-        let stages = self.rng.between(2, 9) as u8;
-        self.open_with(width, height, stages);
+        let (stages, blade) = (self.rng.between(2, 9) as u8, self.some_blade());
+        self.open_with(width, height, stages, blade);
         for number in 0..self.rng.between(1, 8) {
             self.descend(number as u16);
         }
@@ -51,8 +52,8 @@ impl Generator {
 
     /// To level 253, where only a part along the cut still finds two places; then structures are taken out and put back.
     pub(super) fn deep(&mut self) {
-        let width = self.rng.between(2, 9);
-        self.open_with(width, 2, 254);
+        let (width, blade) = (self.rng.between(2, 9), self.some_blade());
+        self.open_with(width, 2, 254, blade);
         while self.descend(5) == 0 {}
         self.send(Request::Report);
         self.send(Request::Keep);
@@ -74,18 +75,20 @@ impl Generator {
         self.send(Request::Insert { mark: piece.mark, part, offer: Offer { rotation: 0, shape: 1 } });
     }
 
-    /// The first node at a level.
+    /// The node at a level that has the lowest place.
     fn at_level(&self, level: u8) -> Mark {
-        let sheet = self.sheet();
-        let key = sheet.marks().by_place().find(|key| sheet.node(*key).level() == level).expect("a node at this level");
-        sheet.marks().of(key)
+        let tree = self.sheet().tree();
+        let nodes = tree.in_order().into_iter().filter(|node| node.piece.level == level);
+        nodes.map(|node| node.piece.mark).min_by_key(|mark| mark.place).expect("a node at this level")
     }
 
     /// A structure with parts in a row until the table is full; then it is taken out whole.
     pub(super) fn row(&mut self) {
-        self.open_with(400, 300, 2);
+        let blade = self.some_blade();
+        let breadth = 1 + u32::from(blade);
+        self.open_with(400 * breadth, 300 * breadth, 2, blade);
         let piece = self.deepest();
-        self.book_across(&piece, 1, 255);
+        self.book_across(&piece, 1, 255 * breadth);
         for number in 2..=254 {
             let piece = self.deepest();
             self.book_along(&piece, number);
@@ -113,7 +116,8 @@ impl Generator {
 
     /// A full table, twice: parts and structures are taken out of the first.
     pub(super) fn full(&mut self) {
-        self.open_with(GREATEST_SIDE, GREATEST_SIDE - 1, 254);
+        let blade = self.some_blade();
+        self.open_with(GREATEST_SIDE, GREATEST_SIDE - 1, 254, blade);
         for _ in 0..2 {
             self.fill();
             self.send(Request::Report);
@@ -143,7 +147,8 @@ impl Generator {
 
     /// Fills the table with blocks of five nodes and restores, over and over, until no serial is left.
     pub(super) fn serials(&mut self) {
-        self.open_with(GREATEST_SIDE, GREATEST_SIDE, 254);
+        let blade = self.some_blade();
+        self.open_with(GREATEST_SIDE, GREATEST_SIDE, 254, blade);
         self.send(Request::Keep);
         loop {
             match self.book_corner(4) {
@@ -164,7 +169,7 @@ impl Generator {
 
     /// A part of 1 x 1 into the first free piece.
     fn book_corner(&mut self, shape: u8) -> u8 {
-        let mark = self.free_pieces()[0].mark;
+        let mark = self.sheet().free_list()[0];
         let part = Part { number: 1, width: 1, height: 1, turn: 1 };
         self.send(Request::Insert { mark, part, offer: Offer { rotation: 0, shape } })
     }

@@ -11,9 +11,9 @@ use Rattle.tree.proofs.Pieces.{sided, free-piece, structure-piece, chil
 pub open-sound : (limit : ℕ) (o : Opening) → 2 ≤ limit → Domain (o .settings) → Sound limit (o .settings) (opened o)
 open-sound limit o room h =
     sound h (
-      top refl refl refl refl refl
+      top refl refl refl refl refl refl
           (structure-piece (omega arith) (sided (h .wide) (h .tall)) (omega arith) refl),
-      record { child = child refl (h .least) refl refl; kinded = free-piece refl refl refl; below = tt; beside = tt },
+      record { child = child refl (h .least) refl refl (omega arith); kinded = free-piece refl refl refl; ends = λ z. refl; below = tt; beside = tt },
     )
     room
     (λ i g. let z = numbered-in 0 i (opened o) (refl, (refl, tt, tt), tt) g in omega arith)

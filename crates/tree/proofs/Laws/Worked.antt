@@ -6,7 +6,7 @@ use Rattle.piece.specs.Insertion.{blockOf, table}
 use Rattle.lists.specs.Lists.{swapped}
 use Rattle.lists.specs.Search.{firstFrom, indexOf}
 use Rattle.tree.specs.Booking.{block}
-use Rattle.tree.specs.Removal.{joined, settled}
+use Rattle.tree.specs.Removal.{board, settled}
 use Rattle.tree.specs.Figures.{sheetUsage}
 use Rattle.tree.specs.ListSteps.{strike}
 use Rattle.tree.specs.Family.{unheldFrom}
@@ -14,5 +14,5 @@ use Rattle.tree.specs.Enrolment.{bookedList}
 use Rattle.tree.specs.Worked.{computed, paper}
 
 pub worked : computed ≡ paper
-unfolding computed paper offersIn offersOf shapes blockOf table block joined settled sheetUsage ofBits div ofInt bookedList unheldFrom strike indexOf firstFrom swapped
+unfolding computed paper offersIn offersOf shapes blockOf table block board settled sheetUsage ofBits div ofInt bookedList unheldFrom strike indexOf firstFrom swapped
 worked = refl

@@ -1,16 +1,19 @@
-//! What is drawn or said: a session's frames, which the desk answers, or a tree snapshot with its list of saw cuts. A line that can't be read is told by its number.
+//! What is drawn or said: a session's frames, which the desk answers, or a tree snapshot with its list of saw cuts and what these lose. A line that can't be read is
+//! told by its number.
 
 use nickelgrove_kiosk::Desk;
 
 use crate::sheet::{Sheet, Wrong, CUT, NODE};
 
-/// The desk's frames that ask for the tree snapshot and for the saw cuts.
+/// The desk's frames that ask for the tree snapshot, for the saw cuts and for what these lose.
 const SNAPSHOT: &str = "17e9";
 const CUTS: &str = "18e8";
+const AMOUNTS: &str = "1ae6";
 
 /// The answers to them: the op, and how many bytes each entry has.
 const SHOWN: (u8, usize) = (0x17, NODE);
 const LISTED: (u8, usize) = (0x18, CUT);
+const LOST: (u8, usize) = (0x1a, 1);
 
 /// The most characters of a frame.
 const LONGEST: usize = 64;
@@ -60,17 +63,18 @@ fn step(desk: &mut Desk, line: &[u8], number: usize) -> Result<(), Failure> {
     Ok(())
 }
 
-/// The sheet on the desk, by its two proved calls; none where they refuse.
+/// The sheet on the desk, by its three proved calls; none where they refuse.
 fn sheet_on(desk: &mut Desk, number: usize) -> Result<Option<Sheet>, Failure> {
-    let snapshot = desk.answer(SNAPSHOT).to_string();
-    let list = desk.answer(CUTS);
-    let (Some(snapshot), Some(list)) = (field(snapshot.as_bytes(), SHOWN), field(list.as_bytes(), LISTED)) else {
+    let mut ask = |frame: &str, answer: (u8, usize)| field(desk.answer(frame).as_bytes(), answer);
+    let (Some(snapshot), Some(list), Some(amounts)) = (ask(SNAPSHOT, SHOWN), ask(CUTS, LISTED), ask(AMOUNTS, LOST)) else {
         return Ok(None);
     };
-    match Sheet::new(&snapshot, Some(&list)) {
+    match Sheet::new(&snapshot, Some((&list, &amounts))) {
         Ok(sheet) => Ok(Some(sheet)),
         // can't come from the proved calls
-        Err(Wrong::Snapshot(what) | Wrong::Cuts(what)) => Err((number, format!("the snapshot and the cuts don't agree: {what}"))),
+        Err(Wrong::Snapshot(what) | Wrong::Cuts(what) | Wrong::Amounts(what)) => {
+            Err((number, format!("the snapshot and the cuts don't agree: {what}")))
+        }
     }
 }
 
@@ -97,7 +101,8 @@ fn bytes(digits: &[u8]) -> Option<Vec<u8>> {
     digits.chunks(2).map(pair).collect()
 }
 
-/// A tree snapshot, and in a second line its list of saw cuts: each as the desk answers, or its bytes alone, as `inspect` shows them. `-` is an empty list.
+/// A tree snapshot, in a second line its list of saw cuts, and in a third one what each of these loses: each as the desk answers, or its bytes alone, as `inspect` shows
+/// them. `-` is an empty list. The third line may be left out where nothing is lost.
 pub fn snapshot(text: &[u8]) -> Result<Sheet, Failure> {
     let lines = lines(text)?;
     let shown = held(lines[0], SHOWN)
@@ -109,13 +114,36 @@ pub fn snapshot(text: &[u8]) -> Result<Sheet, Failure> {
         ),
         None => None,
     };
-    if lines.len() > 2 {
-        return Err((3, "a snapshot is one line, and its saw cuts are another: there are more".into()));
+    if lines.len() > 3 {
+        return Err((4, "a snapshot is one line, its saw cuts are another, and what these lose a third: there are more".into()));
     }
-    Sheet::new(&shown, list.as_deref()).map_err(|wrong| match wrong {
+    let told = |wrong: Wrong| match wrong {
         Wrong::Snapshot(what) => (1, what),
         Wrong::Cuts(what) => (2, what),
-    })
+        Wrong::Amounts(what) => (3, what),
+    };
+    let Some(list) = list else { return Sheet::new(&shown, None).map_err(told) };
+    let count = list.len() / CUT;
+    let wanted = || (3, "no amounts of the cuts: lower-case hexadecimal, or the desk's answer to 1ae6, belongs here".to_string());
+    let amounts = match lines.get(2) {
+        Some(line) => lost(line, count).ok_or_else(wanted)?,
+        // what is wrong with the snapshot is told before what is missing
+        None if Sheet::new(&shown, None).map_err(told)?.strips.is_empty() => vec![0; count],
+        None => return Err(wanted()),
+    };
+    Sheet::new(&shown, Some((&list, &amounts))).map_err(told)
+}
+
+/// The amounts of so many cuts: a byte each, or the answer that holds them, which is longer. (A first amount may be that answer's op.)
+fn lost(line: &[u8], count: usize) -> Option<Vec<u8>> {
+    if line == b"-" {
+        return Some(Vec::new());
+    }
+    let own = bytes(line)?;
+    if own.len() == count {
+        return Some(own);
+    }
+    field(line, LOST)
 }
 
 /// The bytes that a line holds: those of an answer of this op, or its own. (A snapshot and a list begin with 00.)

@@ -33,7 +33,8 @@ nickelgrove: a sheet as a picture and in words
     nickelgrove --help
 
 draw     the cut diagram of a sheet as SVG: each piece with its name and size, free
-         pieces hatched, the cuts numbered in the order of the list
+         pieces hatched, what the blade eats dark, the cuts numbered in the order of
+         the list
 say      the list of saw cuts, a numbered sentence a cut. Boards count from 1 in the
          order in which they lie; the two pieces of a cut lie where their board lay
 counter  answers each line of standard input at once (docs/FRAMES.md)
@@ -44,9 +45,10 @@ those of the counter and of the desk. What is shown is the sheet that they leave
 line that is refused changes nothing; one that is no frame is an error.
 
 --text      draw for a terminal: 78 columns, 40 rows, and a list of the pieces
---snapshot  FILE has a tree snapshot, and in a second line its list of saw cuts, as
-            the desk answers 17e9 and 18e8, or as `inspect` shows them. draw takes
-            the first line alone too, and then numbers no cut
+--snapshot  FILE has a tree snapshot, in a second line its list of saw cuts, and in a
+            third one what these lose, as the desk answers 17e9, 18e8 and 1ae6, or as
+            `inspect` shows them. The third may be left out where the blade eats
+            nothing. draw takes the first alone too, and then numbers no cut
 --each      show the sheet after each line that leaves one
 -o FILE     write to FILE, all of it or nothing
 

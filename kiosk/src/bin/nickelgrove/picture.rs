@@ -1,7 +1,8 @@
-//! Where each piece of a sheet is drawn, in whole units. A picture is to scale where it can be: a piece that is too narrow to be seen or to carry its number is
-//! drawn wider, and its neighbours give way. The drawn pieces tile the drawn sheet.
+//! Where each piece of a sheet is drawn, and each strip that the blade eats, in whole units. A picture is to scale where it can be: a piece that is too narrow to be
+//! seen or to carry its number is drawn wider, and its neighbours give way. So is a strip at the end of a row, which nothing but the number of its cut stands in;
+//! other strips are to scale, be that nothing. The drawn pieces and strips tile the drawn sheet.
 
-use crate::sheet::{Kind, Piece, Sheet, Way};
+use crate::sheet::{Cut, Kind, Node, Piece, Sheet, Tile, Way};
 
 /// The drawn longer side of a sheet, and the least that a side of it has.
 const LONG: u64 = 1000;
@@ -31,11 +32,18 @@ pub struct Signs {
     pub band: u64,
 }
 
-/// A picture: its signs, the sheet and the pieces where they are drawn, and whether some of them are drawn wider than to scale.
+/// The least that each node is drawn with, and a strip at the end of a row along that.
+pub struct Needs {
+    pub nodes: Vec<(u64, u64)>,
+    pub end: (u64, u64),
+}
+
+/// A picture: its signs, the sheet, the pieces and the strips where they are drawn, and whether some of them are drawn wider than to scale.
 pub struct Picture {
     pub signs: Signs,
     pub sheet: Drawn,
     pub pieces: Vec<Drawn>,
+    pub strips: Vec<Drawn>,
     pub bent: bool,
 }
 
@@ -57,15 +65,15 @@ impl Drawn {
 }
 
 impl Signs {
-    /// With this factor; and the least that each node is drawn with.
-    fn new(sheet: &Sheet, k: u64) -> (Self, Vec<(u64, u64)>) {
+    /// With this factor; and the least that is drawn.
+    fn new(sheet: &Sheet, k: u64) -> (Self, Needs) {
         let band = k * (9 + (5 * digits(sheet.cuts.as_ref().map_or(0, Vec::len))).max(8));
         let (along, across) = (12 * k, band + k * (6 * digits(sheet.pieces.len()) + 2) + 5 * k);
         let least = |piece: &Piece| match piece.across {
             Way::Horizontal => (across, along),
             Way::Vertical => (along, across),
         };
-        (Signs { k, band }, needs(sheet, least))
+        (Signs { k, band }, needs(sheet, (along, along), least))
     }
 }
 
@@ -88,7 +96,7 @@ impl Picture {
         let (signs, needs) = Signs::new(sheet, k);
         let (width, height) = sides(sheet);
         let drawn = Drawn { left: LEFT, top: TOP, width, height };
-        let room = width >= needs[0].0.max(LEAST) && height >= needs[0].1.max(LEAST);
+        let room = width >= needs.nodes[0].0.max(LEAST) && height >= needs.nodes[0].1.max(LEAST);
         let picture = room.then(|| Picture::with(sheet, signs, &needs, drawn))?;
         (!picture.bent).then_some(picture)
     }
@@ -98,15 +106,34 @@ impl Picture {
         let (signs, needs) = Signs::new(sheet, k);
         let (width, height) = sides(sheet);
         let side = |side: u64, need: u64| side.max(need + side / 2).max(LEAST);
-        let drawn = Drawn { left: LEFT, top: TOP, width: side(width, needs[0].0), height: side(height, needs[0].1) };
+        let (least_width, least_height) = needs.nodes[0];
+        let drawn = Drawn { left: LEFT, top: TOP, width: side(width, least_width), height: side(height, least_height) };
         Picture { bent: true, ..Picture::with(sheet, signs, &needs, drawn) }
     }
 
-    fn with(sheet: &Sheet, signs: Signs, needs: &[(u64, u64)], drawn: Drawn) -> Self {
+    fn with(sheet: &Sheet, signs: Signs, needs: &Needs, drawn: Drawn) -> Self {
         let mut bent = false;
-        let places = places(sheet, needs, drawn, &mut bent);
+        let (places, behind) = places(sheet, needs, drawn, &mut bent);
         let pieces = sheet.pieces.iter().map(|piece| places[piece.node]).collect();
-        Picture { signs, sheet: drawn, pieces, bent }
+        let strips = sheet.strips.iter().map(|strip| behind[strip.node]).collect();
+        Picture { signs, sheet: drawn, pieces, strips, bent }
+    }
+
+    fn tile(&self, sheet: &Sheet, place: usize) -> Drawn {
+        match sheet.tiles[place] {
+            Tile::Piece(at) => self.pieces[at],
+            Tile::Strip(at) => self.strips[at],
+        }
+    }
+
+    /// Where the line of a cut lies, from edge to edge of its board and right behind what it cuts off: from here, and to there.
+    pub fn line(&self, sheet: &Sheet, cut: &Cut) -> ((u64, u64), (u64, u64)) {
+        let (first, last, off) =
+            (self.tile(sheet, cut.board.first), self.tile(sheet, cut.board.last), self.tile(sheet, cut.off.last));
+        match cut.way {
+            Way::Horizontal => ((first.left, off.bottom()), (last.right(), off.bottom())),
+            Way::Vertical => ((off.right(), first.top), (off.right(), last.bottom())),
+        }
     }
 }
 
@@ -117,8 +144,8 @@ fn sides(sheet: &Sheet) -> (u64, u64) {
     (to_scale(width), to_scale(height))
 }
 
-/// The least width and height of every node, from those of the pieces.
-pub fn needs(sheet: &Sheet, of_piece: impl Fn(&Piece) -> (u64, u64)) -> Vec<(u64, u64)> {
+/// The least width and height of every node, from those of the pieces and of the strips at the ends of rows.
+pub fn needs(sheet: &Sheet, end: (u64, u64), of_piece: impl Fn(&Piece) -> (u64, u64)) -> Needs {
     let mut needs = vec![(0, 0); sheet.nodes.len()];
     for piece in &sheet.pieces {
         needs[piece.node] = of_piece(piece);
@@ -126,38 +153,64 @@ pub fn needs(sheet: &Sheet, of_piece: impl Fn(&Piece) -> (u64, u64)) -> Vec<(u64
     // children come behind their parent
     for (place, node) in sheet.nodes.iter().enumerate().rev() {
         if node.kind == Kind::Structure {
+            let ends = node.children.last().is_some_and(|child| sheet.ends(node, *child));
+            let strip = if ends { node.cut.laid(end.0, end.1).0 } else { 0 };
             let children = node.children.iter().map(|child| needs[*child]);
-            needs[place] = children.fold((0, 0), |(width, height), (w, h)| match node.cut {
+            let (width, height) = children.fold((0, 0), |(width, height), (w, h)| match node.cut {
                 Way::Horizontal => (width.max(w), height + h),
                 Way::Vertical => (width + w, height.max(h)),
             });
+            needs[place] = match node.cut {
+                Way::Horizontal => (width, height + strip),
+                Way::Vertical => (width + strip, height),
+            };
         }
     }
-    needs
+    Needs { nodes: needs, end }
 }
 
-/// Where every node is drawn, within the sheet's rectangle.
-fn places(sheet: &Sheet, needs: &[(u64, u64)], drawn: Drawn, bent: &mut bool) -> Vec<Drawn> {
+/// What stands along a node's cut: a child, or the strip behind it; its true length, and the least that it is drawn with.
+pub struct Item {
+    pub child: usize,
+    pub strip: bool,
+    pub size: u64,
+    pub least: u64,
+}
+
+/// The children of a node and the strips behind them, in their order.
+pub fn row(sheet: &Sheet, needs: &Needs, node: &Node) -> Vec<Item> {
+    let along = |(width, height): (u64, u64)| node.cut.laid(width, height).0;
+    let mut row = Vec::new();
+    for child in &node.children {
+        let Node { area, eaten, .. } = sheet.nodes[*child];
+        let size = u64::from(node.cut.laid(area.width, area.height).0);
+        row.push(Item { child: *child, strip: false, size, least: along(needs.nodes[*child]) });
+        if eaten > 0 {
+            let least = if sheet.ends(node, *child) { along(needs.end) } else { 0 };
+            row.push(Item { child: *child, strip: true, size: eaten.into(), least });
+        }
+    }
+    row
+}
+
+/// Where every node is drawn, within the sheet's rectangle, and the strip behind it.
+fn places(sheet: &Sheet, needs: &Needs, drawn: Drawn, bent: &mut bool) -> (Vec<Drawn>, Vec<Drawn>) {
     let mut places = vec![Drawn::default(); sheet.nodes.len()];
+    let mut behind = places.clone();
     places[0] = drawn;
     for (place, node) in sheet.nodes.iter().enumerate() {
         let own = places[place];
         let (length, _) = node.cut.laid(own.width, own.height);
-        let row: Vec<(u64, u64)> = node
-            .children
-            .iter()
-            .map(|child| {
-                let (size, (width, height)) = (sheet.nodes[*child].area, needs[*child]);
-                (u64::from(node.cut.laid(size.width, size.height).0), node.cut.laid(width, height).0)
-            })
-            .collect();
+        let row = row(sheet, needs, node);
+        let lengths: Vec<(u64, u64)> = row.iter().map(|item| (item.size, item.least)).collect();
         let mut begin = 0;
-        for (child, length) in node.children.iter().zip(share(length, &row, bent)) {
-            places[*child] = own.slice(node.cut, begin, length);
+        for (item, length) in row.iter().zip(share(length, &lengths, bent)) {
+            let list = if item.strip { &mut behind } else { &mut places };
+            list[item.child] = own.slice(node.cut, begin, length);
             begin += length;
         }
     }
-    places
+    (places, behind)
 }
 
 /// Divides a drawn length among a row of true lengths, each with the least that it is drawn with; these add to at most the drawn length. To scale, but for those

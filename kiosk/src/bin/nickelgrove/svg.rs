@@ -1,5 +1,5 @@
-//! The cut diagram as SVG: the pieces with their names and sizes, free ones hatched, and the cuts numbered in the order of the list. What can't carry its name
-//! carries a number, and a list below the picture says what it is. Everything is whole numbers, so that another program can draw the same bytes: docs/DRAWING.md
+//! The cut diagram as SVG: the pieces with their names and sizes, free ones hatched, what the blade eats dark, and the cuts numbered in the order of the list. What
+//! can't carry its name carries a number, and a list below the picture says what it is. Everything is whole numbers, so that another program can draw the same bytes: docs/DRAWING.md
 //! has the rules.
 
 use std::fmt::Write;
@@ -16,6 +16,10 @@ const PART: &str = "#f6e0b5";
 const FREE: &str = "url(#free)";
 const CUT: &str = "#b00020";
 const NUMBER: &str = "#00459e";
+const STRIP: &str = "#555";
+
+/// The room for what is said of the strips, below the picture.
+const SAID: u64 = 48;
 
 /// The picture, each line with its newline.
 pub fn svg(sheet: &Sheet) -> String {
@@ -28,12 +32,14 @@ pub fn svg(sheet: &Sheet) -> String {
     let rows = listed.len().div_ceil(columns);
     frame(&mut text, sheet, &picture, width, rows);
     pieces(&mut text, sheet, &picture);
+    strips(&mut text, sheet, &picture);
     lines(&mut text, sheet, &picture);
     for (label, piece) in labels.iter().zip(&sheet.pieces) {
         label.draw(&mut text, piece.part.is_none());
     }
     numbers(&mut text, sheet, &picture);
-    legend(&mut text, sheet, &listed, rows, picture.sheet.bottom());
+    let below = said(&mut text, sheet, picture.sheet.bottom());
+    legend(&mut text, sheet, &listed, rows, below);
     text.push_str("</svg>\n");
     text
 }
@@ -51,7 +57,7 @@ pub fn signs(sheet: &Sheet, picture: &Picture) -> (Vec<Drawn>, Vec<Drawn>) {
         let ((x, y), (width, height)) = (label.centre, label.sides());
         Drawn { left: x - width / 2, top: y - height / 2, width, height }
     };
-    let number = |(at, cut): (usize, &Cut)| Sign::new(picture, cut, at + 1).back;
+    let number = |(at, cut): (usize, &Cut)| Sign::new(sheet, picture, cut, at + 1).back;
     let numbers = sheet.cuts.iter().flatten().enumerate().map(number).collect();
     (labels(sheet, picture).into_iter().map(label).collect(), numbers)
 }
@@ -67,7 +73,8 @@ macro_rules! put {
 fn frame(text: &mut String, sheet: &Sheet, picture: &Picture, width: u64, rows: usize) {
     let Drawn { width: dw, height: dh, .. } = picture.sheet;
     let list = if rows == 0 { 0 } else { 24 + LINE * rows as u64 };
-    let height = TOP + dh + 40 + list;
+    let said = if sheet.strips.is_empty() { 0 } else { SAID };
+    let height = TOP + dh + said + 40 + list;
     let (head, middle, half) = (sheet.head(), LEFT + dw / 2, TOP + dh / 2);
     let scale = if picture.bent { "Not to scale: narrow pieces are drawn wider." } else { "Drawn to scale." };
     put!(
@@ -112,13 +119,21 @@ fn size(piece: &Piece) -> String {
     format!("{} x {}", piece.area.width, piece.area.height)
 }
 
-/// Where the line of a cut lies: from here, and to there.
-fn line(picture: &Picture, cut: &Cut) -> ((u64, u64), (u64, u64)) {
-    let (first, last) = (picture.pieces[cut.board.first], picture.pieces[cut.board.last]);
-    let behind = picture.pieces[cut.made[1].first];
-    match cut.way {
-        Way::Horizontal => ((first.left, behind.top), (last.right(), behind.top)),
-        Way::Vertical => ((behind.left, first.top), (behind.left, last.bottom())),
+/// What the blade eats, dark. A strip that is too narrow is twice as wide as the line of its cut, which covers a quarter of it then.
+fn strips(text: &mut String, sheet: &Sheet, picture: &Picture) {
+    let least = 2 * picture.signs.k;
+    for (strip, drawn) in sheet.strips.iter().zip(&picture.strips) {
+        let Drawn { left, top, .. } = drawn;
+        let (width, height) = match strip.across {
+            Way::Horizontal => (drawn.width, drawn.height.max(least)),
+            Way::Vertical => (drawn.width.max(least), drawn.height),
+        };
+        let area = strip.area;
+        let title = format!("saw: {} x {}, {} from the left, {} from the top", area.width, area.height, area.left, area.top);
+        put!(
+            text,
+            r#"<rect x="{left}" y="{top}" width="{width}" height="{height}" fill="{STRIP}"><title>{title}</title></rect>"#
+        );
     }
 }
 
@@ -126,7 +141,7 @@ fn line(picture: &Picture, cut: &Cut) -> ((u64, u64), (u64, u64)) {
 fn lines(text: &mut String, sheet: &Sheet, picture: &Picture) {
     let mut path = String::new();
     for cut in sheet.cuts.iter().flatten() {
-        let ((x, y), (to_x, to_y)) = line(picture, cut);
+        let ((x, y), (to_x, to_y)) = picture.line(sheet, cut);
         let _ = match cut.way {
             Way::Horizontal => write!(path, "M{x} {y}H{to_x}"),
             Way::Vertical => write!(path, "M{x} {y}V{to_y}"),
@@ -247,9 +262,9 @@ struct Sign {
 
 impl Sign {
     /// At the start of the cut's line. On a line that goes down, what is longer than two digits is turned.
-    fn new(picture: &Picture, cut: &Cut, number: usize) -> Self {
+    fn new(sheet: &Sheet, picture: &Picture, cut: &Cut, number: usize) -> Self {
         let k = picture.signs.k;
-        let ((x, y), _) = line(picture, cut);
+        let ((x, y), _) = picture.line(sheet, cut);
         let long = 5 * k * digits(number);
         let back = |left: u64, top: u64, width: u64, height: u64| Drawn { left, top, width, height };
         match cut.way {
@@ -274,7 +289,7 @@ impl Sign {
 fn numbers(text: &mut String, sheet: &Sheet, picture: &Picture) {
     let cuts = sheet.cuts.as_deref().unwrap_or_default();
     for (at, cut) in cuts.iter().enumerate() {
-        let Sign { back: Drawn { left, top, width, height }, middle, base, turned } = Sign::new(picture, cut, at + 1);
+        let Sign { back: Drawn { left, top, width, height }, middle, base, turned } = Sign::new(sheet, picture, cut, at + 1);
         let turn = turned.map(|(x, y)| format!(r#" transform="rotate(-90 {x} {y})""#)).unwrap_or_default();
         let said = sentence(sheet, cuts, at);
         let back = format!(r##"<rect x="{left}" y="{top}" width="{width}" height="{height}" fill="#fff"/>"##);
@@ -282,6 +297,16 @@ fn numbers(text: &mut String, sheet: &Sheet, picture: &Picture) {
         let sign = format!(r#"<text x="{middle}" y="{base}" font-size="{font}" fill="{CUT}"{turn}>{}</text>"#, at + 1);
         put!(text, "<g><title>{said}</title>{back}{sign}</g>");
     }
+}
+
+/// What is dark, where something is, and the areas; gives where the next lines begin.
+fn said(text: &mut String, sheet: &Sheet, bottom: u64) -> u64 {
+    let Some(areas) = sheet.areas() else { return bottom };
+    put!(text, r#"<rect x="{LEFT}" y="{}" width="24" height="12" fill="{STRIP}"/>"#, bottom + 28);
+    for (line, y) in areas.said().into_iter().zip([bottom + 40, bottom + 64]) {
+        put!(text, r#"<text x="{}" y="{y}" font-size="15" text-anchor="start">{line}</text>"#, LEFT + 32);
+    }
+    bottom + SAID
 }
 
 /// What the pieces are that carry their number alone: in columns, read downwards.

@@ -1,10 +1,10 @@
-//! The cut diagram as text, for a terminal: 78 columns and 40 rows at most, and a list of the pieces below it. Free pieces are dotted. A cut's number stands where
-//! its line begins. Where there is no room for each piece a box holds several, and says which.
+//! The cut diagram as text, for a terminal: 78 columns and 40 rows at most, and a list of the pieces below it. Free pieces are dotted, and what the blade eats is
+//! filled with #. A cut's number stands where its line begins. Where there is no room for each piece a box holds several, and says which.
 
 use std::fmt::Write;
 
-use crate::picture::{needs, share};
-use crate::sheet::{Cut, Node, Piece, Sheet, Way};
+use crate::picture::{needs, row, share, Item, Needs};
+use crate::sheet::{Cut, Node, Piece, Sheet, Tile, Way};
 
 /// The steps from the first column to the last one, and from the first row to the last one.
 const COLUMNS: u64 = 77;
@@ -30,24 +30,48 @@ pub struct Framed {
     pub last: usize,
 }
 
+/// A strip that is shown: behind which node, where it lies, and whether it ends its row. It may have no length of its own, and is a line then.
+#[derive(Clone, Copy)]
+pub struct Sawn {
+    node: usize,
+    left: u64,
+    top: u64,
+    width: u64,
+    height: u64,
+    across: Way,
+    ends: bool,
+}
+
+/// What a diagram shows: the boxes in tree order, and the strips.
+#[derive(Default)]
+pub struct Shown {
+    pub boxes: Vec<Framed>,
+    pub strips: Vec<Sawn>,
+}
+
 #[cfg(test)]
-impl Framed {
-    /// Left, top, width and height, for the tests.
-    pub fn place(&self) -> [u64; 4] {
-        [self.left, self.top, self.width, self.height]
+impl Shown {
+    /// Left, top, width and height of each box, and of each strip, for the tests.
+    pub fn places(&self) -> (Vec<[u64; 4]>, Vec<[u64; 4]>) {
+        let boxes = self.boxes.iter().map(|framed| [framed.left, framed.top, framed.width, framed.height]);
+        (boxes.collect(), self.strips.iter().map(|sawn| [sawn.left, sawn.top, sawn.width, sawn.height]).collect())
     }
 }
 
 /// The diagram and the list, each line with its newline.
 pub fn text(sheet: &Sheet) -> String {
-    let boxes = boxes(sheet);
-    let mut grid = Grid::new(&boxes);
-    for framed in &boxes {
+    let shown = shown(sheet);
+    let boxes = &shown.boxes;
+    let mut grid = Grid::new(&shown);
+    for framed in boxes {
         grid.frame(framed);
         grid.fill(sheet, framed);
     }
+    for sawn in &shown.strips {
+        grid.saw(sawn);
+    }
     for (at, cut) in sheet.cuts.iter().flatten().enumerate() {
-        grid.number(&boxes, cut, at + 1);
+        grid.number(sheet, &shown, cut, at + 1);
     }
     let mut lines = format!("{}\n\n", sheet.head());
     grid.write(&mut lines);
@@ -55,23 +79,27 @@ pub fn text(sheet: &Sheet) -> String {
     if boxes.iter().any(|framed| framed.first != framed.last) {
         lines.push_str("A box that says 8-20, or only ..., holds several pieces. All are listed.\n\n");
     }
+    if let Some(areas) = sheet.areas() {
+        let [taken, rest] = areas.said();
+        let _ = writeln!(lines, "#  {taken}\n   {rest}\n");
+    }
     list(&mut lines, sheet);
     lines
 }
 
-/// A sheet's boxes in tree order: with the names in them if all of them find room so, and else as many as find room.
-pub fn boxes(sheet: &Sheet) -> Vec<Framed> {
-    let named = needs(sheet, |piece| {
+/// What is shown of a sheet: its boxes with the names in them if all of them find room so, and else as many as find room.
+pub fn shown(sheet: &Sheet) -> Shown {
+    let named = needs(sheet, LEAST, |piece| {
         let number = sheet.pieces.partition_point(|other| other.node < piece.node) + 1;
         let width = both(piece, number).iter().map(String::len).max().unwrap_or_default() as u64;
         ((width + 3).max(LEAST.0), 3)
     });
-    let roomy = named[0].0 <= COLUMNS && named[0].1 <= ROWS;
-    let needs = if roomy { named } else { needs(sheet, |_| LEAST) };
-    let (width, height) = drawn(sheet, needs[0]);
-    let mut boxes = Vec::new();
-    divide(sheet, &needs, 0, Framed { left: 0, top: 0, width, height, first: 0, last: 0 }, &mut boxes);
-    boxes
+    let roomy = named.nodes[0].0 <= COLUMNS && named.nodes[0].1 <= ROWS;
+    let needs = if roomy { named } else { needs(sheet, LEAST, |_| LEAST) };
+    let (width, height) = drawn(sheet, needs.nodes[0]);
+    let mut shown = Shown::default();
+    divide(sheet, &needs, 0, Framed { left: 0, top: 0, width, height, first: 0, last: 0 }, &mut shown);
+    shown
 }
 
 /// The sheet's sides in columns and rows: to scale, as large as there is room, and no less than is needed, if that fits.
@@ -85,51 +113,59 @@ fn drawn(sheet: &Sheet, (least_width, least_height): (u64, u64)) -> (u64, u64) {
     (columns.max(least_width).clamp(SMALLEST.0, COLUMNS), rows.max(least_height).clamp(SMALLEST.1, ROWS))
 }
 
-/// Puts the boxes of a node, within the rectangle that is its own, behind those that are there.
-fn divide(sheet: &Sheet, needs: &[(u64, u64)], place: usize, own: Framed, boxes: &mut Vec<Framed>) {
+/// Puts the boxes and the strips of a node, within the rectangle that is its own, behind those that are there.
+fn divide(sheet: &Sheet, needs: &Needs, place: usize, own: Framed, shown: &mut Shown) {
     let node = &sheet.nodes[place];
-    let next = boxes.last().map_or(0, |framed| framed.last + 1);
+    let next = |shown: &Shown| shown.boxes.last().map_or(0, |framed| framed.last + 1);
     if node.children.is_empty() {
-        return boxes.push(Framed { first: next, last: next, ..own });
+        let next = next(shown);
+        return shown.boxes.push(Framed { first: next, last: next, ..own });
     }
     let length = node.cut.laid(own.width, own.height).0;
-    let groups = groups(sheet, needs, node, length);
-    let row: Vec<(u64, u64)> = groups.iter().map(|(_, size, least)| (*size, *least)).collect();
+    let (alone, together) = groups(sheet, needs, node, length);
+    let row: Vec<(u64, u64)> = alone.iter().chain(&together).map(|item| (item.size, item.least)).collect();
     let mut begin = 0;
-    for ((group, ..), length) in groups.iter().zip(share(length, &row, &mut false)) {
+    for (at, length) in share(length, &row, &mut false).into_iter().enumerate() {
         let part = match node.cut {
             Way::Horizontal => Framed { top: own.top + begin, height: length, ..own },
             Way::Vertical => Framed { left: own.left + begin, width: length, ..own },
         };
         begin += length;
-        if let [child] = group {
-            divide(sheet, needs, *child, part, boxes);
-        } else {
-            let first = boxes.last().map_or(0, |framed| framed.last + 1);
-            let pieces: usize = group.iter().map(|child| count(sheet, *child)).sum();
-            boxes.push(Framed { first, last: first + pieces - 1, ..part });
+        match alone.get(at) {
+            Some(Item { child, strip: false, .. }) => divide(sheet, needs, *child, part, shown),
+            Some(Item { child, .. }) => {
+                let Framed { left, top, width, height, .. } = part;
+                let ends = sheet.ends(node, *child);
+                shown.strips.push(Sawn { node: *child, left, top, width, height, across: node.cut, ends });
+            }
+            None => {
+                let children = node.children.iter().skip_while(|child| alone.iter().any(|item| item.child == **child));
+                let (first, pieces) = (next(shown), children.map(|child| count(sheet, *child)).sum::<usize>());
+                shown.boxes.push(Framed { first, last: first + pieces - 1, ..part });
+            }
         }
     }
 }
 
-/// The children of a node as they are shown along so many steps, each with its length and its least: one by one if there is room, and else the last of them
-/// together in one box.
-fn groups<'a>(sheet: &Sheet, needs: &[(u64, u64)], node: &'a Node, length: u64) -> Vec<(&'a [usize], u64, u64)> {
-    let along = |(width, height): (u64, u64)| node.cut.laid(width, height).0;
-    let size = |child: &usize| along((sheet.nodes[*child].area.width.into(), sheet.nodes[*child].area.height.into()));
-    let least = along(LEAST);
-    let needed: u64 = node.children.iter().map(|child| along(needs[*child])).sum();
-    let alone =
-        if least * node.children.len() as u64 <= length { node.children.len() } else { (length / least).max(1) as usize - 1 };
-    let (shown, rest) = node.children.split_at(alone);
-    let one = |child: &'a usize| {
-        (std::slice::from_ref(child), size(child), if needed <= length { along(needs[*child]) } else { least })
-    };
-    let mut groups: Vec<_> = shown.iter().map(one).collect();
-    if !rest.is_empty() {
-        groups.push((rest, rest.iter().map(size).sum(), least));
+/// What is shown along so many steps of a node's cut, each with its length and its least: the children one by one, with the strips behind them, if there is room. Else
+/// the last children and strips stand together in one box, which comes then.
+fn groups(sheet: &Sheet, needs: &Needs, node: &Node, length: u64) -> (Vec<Item>, Option<Item>) {
+    let mut row = row(sheet, needs, node);
+    let least = node.cut.laid(LEAST.0, LEAST.1).0;
+    if row.iter().map(|item| item.least).sum::<u64>() > length {
+        // a strip within the row is still a line
+        row.iter_mut().for_each(|item| item.least = item.least.min(least));
     }
-    groups
+    if row.iter().map(|item| item.least).sum::<u64>() <= length {
+        return (row, None);
+    }
+    let children = (length / least).max(1) as usize - 1;
+    let child = |item: &Item| node.children.iter().position(|child| *child == item.child);
+    let kept = row.iter().take_while(|item| child(item).is_some_and(|at| at < children)).count();
+    let rest = row.split_off(kept);
+    // a strip behind a child is shown before the box
+    let size = rest.iter().map(|item| item.size).sum();
+    (row, rest.first().map(|item| Item { child: item.child, strip: false, size, least }))
 }
 
 /// How many pieces a node has.
@@ -157,10 +193,11 @@ struct Grid {
 }
 
 impl Grid {
-    fn new(boxes: &[Framed]) -> Self {
-        let most = |end: fn(&Framed) -> u64| boxes.iter().map(end).max().unwrap_or_default() as usize + 1;
-        let (columns, rows) = (most(|framed| framed.left + framed.width), most(|framed| framed.top + framed.height));
-        Grid { rows: vec![vec![b' '; columns]; rows] }
+    fn new(shown: &Shown) -> Self {
+        let ends = shown.boxes.iter().map(|framed| (framed.left + framed.width, framed.top + framed.height));
+        let ends = ends.chain(shown.strips.iter().map(|sawn| (sawn.left + sawn.width, sawn.top + sawn.height)));
+        let (columns, rows) = ends.fold((0, 0), |(columns, rows), (right, bottom)| (right.max(columns), bottom.max(rows)));
+        Grid { rows: vec![vec![b' '; columns as usize + 1]; rows as usize + 1] }
     }
 
     fn put(&mut self, row: u64, column: u64, text: &str) {
@@ -183,6 +220,22 @@ impl Grid {
             }
             self.put(top, column, "+");
             self.put(top + height, column, "+");
+        }
+    }
+
+    /// What the blade eats: within its edges, and along them where it has something on both sides.
+    fn saw(&mut self, sawn: &Sawn) {
+        let Sawn { left, top, width, height, across, ends, .. } = *sawn;
+        self.frame(&Framed { left, top, width, height, first: 0, last: 0 });
+        let last = u64::from(!ends);
+        let (columns, rows) = match across {
+            Way::Horizontal => (left + 1..left + width, top..top + height + last),
+            Way::Vertical => (left..left + width + last, top + 1..top + height),
+        };
+        for row in rows {
+            for column in columns.clone() {
+                self.put(row, column, "#");
+            }
         }
     }
 
@@ -212,12 +265,19 @@ impl Grid {
     }
 
     /// The number of a cut, at the start of its line, if that line is shown.
-    fn number(&mut self, boxes: &[Framed], cut: &Cut, number: usize) {
-        let starts = |piece: usize| boxes.iter().find(|framed| framed.first == piece);
-        let (Some(first), Some(behind)) = (starts(cut.board.first), starts(cut.made[1].first)) else { return };
+    fn number(&mut self, sheet: &Sheet, shown: &Shown, cut: &Cut, number: usize) {
+        // where a tile begins, if it does so with a box, or is a strip that is shown
+        let starts = |tile: usize| match sheet.tiles[tile] {
+            Tile::Piece(piece) => shown.boxes.iter().find(|framed| framed.first == piece).map(|framed| (framed.left, framed.top)),
+            Tile::Strip(at) => {
+                let node = sheet.strips[at].node;
+                shown.strips.iter().find(|sawn| sawn.node == node).map(|sawn| (sawn.left, sawn.top))
+            }
+        };
+        let (Some((left, top)), Some((column, row))) = (starts(cut.board.first), starts(cut.off.last + 1)) else { return };
         match cut.way {
-            Way::Horizontal => self.put(behind.top, first.left, &number.to_string()),
-            Way::Vertical => self.put(first.top, behind.left, &number.to_string()),
+            Way::Horizontal => self.put(row, left, &number.to_string()),
+            Way::Vertical => self.put(top, column, &number.to_string()),
         }
     }
 

@@ -20,11 +20,11 @@ use Rattle.booking.proofs.book.book.Statement.{statement}
 use Rattle.booking.proofs.book.book.Tie as tie
 
 abbrev Inv-loop : tie.InvT-loop
-Inv-loop nodes x number last i old t₀ q up new count list j₀ t j =
+Inv-loop nodes x number blade last i old t₀ q up new count list j₀ t j =
     (j ≤ count) × (appendEach limit t (drop j (take count list)) ≡ appendEach limit t₀ (take count list))
 
 abbrev μ-loop : tie.MeasureT-loop
-μ-loop nodes x number last i old t₀ q up new count list j₀ t j = count - j
+μ-loop nodes x number blade last i old t₀ q up new count list j₀ t j = count - j
 
 -- the nodes that are made, and that they have places
 module _ (c : tie.After-list Inv-loop μ-loop) where
@@ -37,16 +37,16 @@ module _ (c : tie.After-list Inv-loop μ-loop) where
   abbrev new : NewNodes
   new = c .before .new-at .result
 
-  new-is : let a = begin .args in new ≡ newNodesAt (a .nodes .nodes) (gone .unlink .result) (a .x) (a .shape) (a .size) (a .number) (a .last)
+  new-is : let a = begin .args in new ≡ newNodesAt (a .nodes .nodes) (gone .unlink .result) (a .x) (a .shape) (a .size) (a .number) (a .blade) (a .last)
   new-is =
       let a = begin .args in
-      new-by (a .nodes) (a .x) (a .shape) (a .size) (a .number) (a .last) (gone .unlink .result) (c .before .before .before .new-places .ensures)
+      new-by (a .nodes) (a .x) (a .shape) (a .size) (a .number) (a .blade) (a .last) (gone .unlink .result) (c .before .before .before .new-places .ensures)
       (c .before .before .site-of .ensures) (c .before .new-at .ensures)
 
   placed : (new .count ≤ 5) × ((i : ℕ) → i < new .count → (getD (new .list) i noNew .under < limit) × (getD (new .list) i noNew .place < limit))
   placed =
       let a = begin .args in
-      plant-needs (a .nodes) (a .x) (a .shape) (a .size) (a .number) (a .last) (begin .pre) (gone .unlink .ensures) new-is
+      plant-needs (a .nodes) (a .x) (a .shape) (a .size) (a .number) (a .blade) (a .last) (begin .pre) (gone .unlink .ensures) new-is
 
 -- the next one to be planted
 module _ (c : tie.In-loop Inv-loop μ-loop) where
@@ -108,7 +108,7 @@ put-frees-requires : tie.Need-put-frees-requires Inv-loop μ-loop
 put-frees-requires c κs =
     let o = c .before .before .before .before .before .before in
     let a = begin o .args in
-    put-needs (a .nodes) (a .x) (a .shape) (a .size) (a .number) (a .last) (begin o .pre) (gone o .unlink .ensures) (new-is o)
+    put-needs (a .nodes) (a .x) (a .shape) (a .size) (a .number) (a .blade) (a .last) (begin o .pre) (gone o .unlink .ensures) (new-is o)
     (c .before .omit .ensures)
 
 less-parent-requires : tie.Need-less-parent-requires Inv-loop μ-loop
@@ -118,7 +118,7 @@ enrol-requires : tie.Need-enrol-requires Inv-loop μ-loop
 enrol-requires c κs =
     let o = c .before .before .before .before .before .before .before .before .before in
     let a = begin o .args in
-    enrol-needs (a .nodes) (a .x) (a .shape) (a .size) (a .number) (a .last) (begin o .pre) (gone o .unlink .ensures) (new-is o)
+    enrol-needs (a .nodes) (a .x) (a .shape) (a .size) (a .number) (a .blade) (a .last) (begin o .pre) (gone o .unlink .ensures) (new-is o)
     (c .less-parent .ensures)
 
 returns : tie.Need-returns Inv-loop μ-loop
@@ -127,7 +127,7 @@ returns c =
     let l = after .before .loop in
     let o = after .before .before in
     let a = begin o .args in
-    booked-by (a .nodes) (a .x) (a .shape) (a .size) (a .number) (a .last)
+    booked-by (a .nodes) (a .x) (a .shape) (a .size) (a .number) (a .blade) (a .last)
     (all-places (a .nodes) _ (begin o .good .0))
     (gone o .unlink .ensures)
     (new-is o)

@@ -9,13 +9,13 @@ new-nodes-requires : tie.Need-new-nodes-requires
 new-nodes-requires c κs =
     let s = c .before .before .before in
     let d = s .args .old .datum in
-    (rw (c .nodes .ensures) (blueprint-few (s .args .shape) (d .cut) (d .size) (s .args .size)), s .pre)
+    (rw (c .nodes .ensures) (blueprint-few (s .args .shape) (s .args .site .blade) (d .cut) (d .size) (s .args .size)), s .pre)
 
 returns : tie.Need-returns
 returns c =
     let a = c .before .before .before .before .args in
     let d = a .old .datum in
-    c .new-nodes .ensures ∙ simp (c .before .nodes .ensures, blueprint-listed (a .shape) (d .cut) (d .size) (a .size))
+    c .new-nodes .ensures ∙ simp (c .before .nodes .ensures, blueprint-listed (a .shape) (a .site .blade) (d .cut) (d .size) (a .size))
 
 pub new-at-spec : {M : Type 1} → statement M
 new-at-spec = tie.close (tie.spec (λ c κs. search needs) new-nodes-requires returns)

@@ -39,10 +39,20 @@ returns-8 c = rw (c .match .keys8)
 
 returns-9 : tie.Need-returns-9
 unfolding deskAskedBy questionForm readWhyNot readLight
-returns-9 c =
+returns-9 c = rw (c .match .keys9)
+
+returns-10 : tie.Need-returns-10
+unfolding deskAskedBy questionForm readWhyNot readLight
+returns-10 c = rw (c .match .keys10)
+
+returns-11 : tie.Need-returns-11
+unfolding deskAskedBy questionForm readWhyNot readLight
+returns-11 c =
     let no = c .before .match .rest in
     simp (
       c .no .ensures,
+      ne-eqb _ _ (no .0 .0 .0 .0 .0 .0 .0 .0 .0 .1),
+      ne-eqb _ _ (no .0 .0 .0 .0 .0 .0 .0 .0 .1),
       ne-eqb _ _ (no .0 .0 .0 .0 .0 .0 .0 .1),
       ne-eqb _ _ (no .0 .0 .0 .0 .0 .0 .1),
       ne-eqb _ _ (no .0 .0 .0 .0 .0 .1),
@@ -70,4 +80,6 @@ asked-by-spec =
     returns-6
     returns-7
     returns-8
-    returns-9)
+    returns-9
+    returns-10
+    returns-11)

@@ -27,6 +27,12 @@ returns-7 c = rw (c .before .before .before .before .enum-told3 .given .1) (c .b
 returns-8 : tie.Need-returns-8
 returns-8 c = rw (c .before .before .before .before .enum-told4 .given .1) (c .before .before .cuts .ensures)
 
+returns-9 : tie.Need-returns-9
+returns-9 c = rw (c .before .before .before .before .enum-told5 .given .1) (c .before .before .eaten-area .ensures)
+
+returns-10 : tie.Need-returns-10
+returns-10 c = rw (c .before .before .before .before .enum-told6 .given .1) (c .before .before .amounts .ensures)
+
 pub answer-spec : {M : Type 1} → statement M
 answer-spec =
     tie.close
@@ -47,6 +53,10 @@ answer-spec =
     (λ c κs. search needs)  -- snapshot-requires
     (λ c. search needs)  -- enum-told-4
     (λ c κs. search needs)  -- cuts-requires
+    (λ c. search needs)  -- enum-told-5
+    (λ c κs. search needs)  -- eaten-area-requires
+    (λ c. search needs)  -- enum-told-6
+    (λ c κs. search needs)  -- amounts-requires
     (λ c. search needs)  -- same-length
     returns
     (λ c. search needs)  -- same-length-2
@@ -62,4 +72,8 @@ answer-spec =
     (λ c. search needs)  -- same-length-7
     returns-7
     (λ c. search needs)  -- same-length-8
-    returns-8)
+    returns-8
+    (λ c. search needs)  -- same-length-9
+    returns-9
+    (λ c. search needs)  -- same-length-10
+    returns-10)

@@ -17,7 +17,7 @@ entries-requires c κs =
     let o = k .before .before .before in
     let s = o .before .before .before in
     let l = s .args .layout in
-    let w = lent-count l (snapshotBytes l) (13 * limit) _ (o .snapshot .ensures .1) (o .snapshot .ensures .0) (k .n .given .1) in
+    let w = lent-count l (snapshotBytes l) (14 * limit) _ (o .snapshot .ensures .1) (o .snapshot .ensures .0) (k .n .given .1) in
     (w .2, omega (arith, s .pre, w .1, snapshot-count l (typed-sized l _ (s .good .0)) (w .0)))
 
 returns : tie.Need-returns
@@ -28,7 +28,7 @@ returns c =
     let o = k .before .before .before in
     let s = o .before .before .before in
     let l = s .args .layout in
-    let w = lent-count l (snapshotBytes l) (13 * limit) _ (o .snapshot .ensures .1) (o .snapshot .ensures .0) (k .n .given .1) in
+    let w = lent-count l (snapshotBytes l) (14 * limit) _ (o .snapshot .ensures .1) (o .snapshot .ensures .0) (k .n .given .1) in
     told l Snapshot (sound-found l (w .0) (counted-bytes (omega (arith, w .1, snapshot-count l (typed-sized l _ (s .good .0)) (w .0))) (w .3))) (e .entries .ensures)
 
 returns-2 : tie.Need-returns-2
@@ -38,7 +38,7 @@ returns-2 c =
     let o = k .before .before .before in
     let s = o .before .before .before in
     let l = s .args .layout in
-    let w = lent-refused l (snapshotBytes l) (13 * limit) _ (o .snapshot .ensures .1) (o .snapshot .ensures .0)
+    let w = lent-refused l (snapshotBytes l) (14 * limit) _ (o .snapshot .ensures .1) (o .snapshot .ensures .0)
     (λ h. omega (arith, snapshot-count l (typed-sized l _ (s .good .0)) h)) (k .refusal .given .1) in
     refusal-told l Snapshot (unsound-found l (snapshotFound l) (w .0) (w .1)) (c .before .before .refused .ensures)
 

@@ -13,7 +13,7 @@ returns-2 : tie.Need-returns-2
 unfolding readOpen
 returns-2 c =
     let s = c .before in
-    let n = s .before .before in
+    let n = s .before .before .before in
     simp (le-leb _ _ (n .before .if1 .left), n .two-at .ensures, s .size-at .ensures, c .of-number .ensures)
 
 pub open-spec : {M : Type 1} → statement M
@@ -24,6 +24,7 @@ open-spec =
     returns
     (λ c κs. search needs)  -- two-at-requires
     (λ c. search needs)  -- element-copy-out-t4
+    (λ c. search needs)  -- element-copy-out-t5
     (λ c κs. search needs)  -- size-at-requires
     (λ c κs. search needs)  -- of-number-requires
     returns-2)

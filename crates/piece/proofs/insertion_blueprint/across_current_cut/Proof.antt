@@ -10,10 +10,12 @@ returns c =
     simp (
       c .node3 .ensures,
       c .before .node2 .ensures,
-      c .before .before .node .ensures,
-      c .before .before .before .rest .ensures,
-      c .before .before .before .before .rotate .ensures,
-      c .before .before .before .before .before .no-node .ensures,
+      c .before .before .eaten-behind .ensures,
+      c .before .before .before .node .ensures,
+      c .before .before .before .before .rest2 .ensures,
+      c .before .before .before .before .before .rest .ensures,
+      c .before .before .before .before .before .before .rotate .ensures,
+      c .before .before .before .before .before .before .before .no-node .ensures,
     )
 
 pub across-current-cut-spec : {M : Type 1} → statement M
@@ -23,7 +25,9 @@ across-current-cut-spec =
     (λ c κs. search needs)  -- no-node-requires
     (λ c κs. search needs)  -- rotate-requires
     (λ c κs. search needs)  -- rest-requires
+    (λ c κs. search needs)  -- rest-requires-2
     (λ c κs. search needs)  -- node-requires
+    (λ c κs. search needs)  -- eaten-behind-requires
     (λ c κs. search needs)  -- node-requires-2
     (λ c κs. search needs)  -- node-requires-3
     returns)

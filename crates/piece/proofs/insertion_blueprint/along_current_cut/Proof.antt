@@ -10,8 +10,10 @@ returns c =
     simp (
       c .node2 .ensures,
       c .before .node .ensures,
-      c .before .before .rest .ensures,
-      c .before .before .before .no-node .ensures,
+      c .before .before .eaten-behind .ensures,
+      c .before .before .before .rest2 .ensures,
+      c .before .before .before .before .rest .ensures,
+      c .before .before .before .before .before .no-node .ensures,
     )
 
 pub along-current-cut-spec : {M : Type 1} → statement M
@@ -20,6 +22,8 @@ along-current-cut-spec =
     (tie.spec
     (λ c κs. search needs)  -- no-node-requires
     (λ c κs. search needs)  -- rest-requires
+    (λ c κs. search needs)  -- rest-requires-2
+    (λ c κs. search needs)  -- eaten-behind-requires
     (λ c κs. search needs)  -- node-requires
     (λ c κs. search needs)  -- node-requires-2
     returns)

@@ -34,8 +34,8 @@ returns-2 c =
     (omega (arith, bytes-length (a .layout) (stands c1), c .if2 .taken))
 
 -- the columns are taken, and the lent buffer is long enough
-abbrev columned : tie.After-put-subtree-arg9 → tie.After-columns-of
-columned c = c .before .before .before .before .before .before .before .before .before .before
+abbrev columned : tie.After-put-subtree-arg10 → tie.After-columns-of
+columned c = c .before .before .before .before .before .before .before .before .before .before .before
 
 abbrev long-enough : tie.After-columns-of → tie.Else2
 long-enough c = c .before .before
@@ -48,8 +48,8 @@ put-subtree-requires c κs =
     let l = c1 .before .before .before .args .layout in
     (omega arith, omega (arith, ap length (written-is l (stands c1) (c3 .columns-of .ensures)), bytes-length l (stands c1), c2 .if2 .left))
 
-cast-t23 : tie.Need-cast-t23
-cast-t23 c =
+cast-t24 : tie.Need-cast-t24
+cast-t24 c =
     let c1 = long-enough (columned (c .before .before .before)) .before .before in
     omega (arith, held-room (c1 .before .before .before .args .layout) (stands c1))
 
@@ -76,6 +76,6 @@ snapshot-spec =
     returns-2
     (λ c κs. search needs)  -- columns-of-requires
     put-subtree-requires
-    cast-t23
+    cast-t24
     (λ c. search needs)  -- same-length
     returns-3)

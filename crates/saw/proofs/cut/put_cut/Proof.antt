@@ -1,4 +1,4 @@
--- `saw::cut::put_cut` meets its contract: what `put_two` and `put_four` write, with the bytes between and behind, are the cut's. Assumes nothing.
+-- `saw::cut::put_cut` meets its contract: what `put_two` and `put_four` write, with the bytes between and behind, are the entry's. Assumes nothing.
 use mathlib.Core.Path.{ap, _∙_}
 use native.Mathlib.Omega.{arith}
 use borrow.Author.Needs.{needs}
@@ -21,6 +21,12 @@ slice-write-out-2 c =
 
 slice-write-out-3 : tie.Need-slice-write-out-3
 slice-write-out-3 c =
+    let e = simp length-sets at (ap length (c .before .before .before .before .before .before .before .put-two .ensures)) in
+    let f = simp (length-sets, length-set) at (ap length (c .before .before .put-four .ensures)) in
+    simp length-set (omega arith)
+
+slice-write-out-4 : tie.Need-slice-write-out-4
+slice-write-out-4 c =
     let e = simp length-sets at (ap length (c .before .before .before .before .before .before .before .put-two .ensures)) in
     let f = simp (length-sets, length-set) at (ap length (c .before .before .put-four .ensures)) in
     simp length-set (omega arith)
@@ -50,5 +56,7 @@ put-cut-spec =
     slice-write-out-2
     (λ c. search needs)  -- add-out-3
     slice-write-out-3
+    (λ c. search needs)  -- add-out-4
+    slice-write-out-4
     same-length
     returns)

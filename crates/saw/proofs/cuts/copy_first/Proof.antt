@@ -1,12 +1,12 @@
 -- `copy_first` meets its contract: what `bytes::copy` leaves is what a run of stores leaves. Assumes nothing.
-use mathlib.Core.Path.{_≡_, sym, ap, _∙_}
+use mathlib.Core.Path.{sym, ap, _∙_}
 use mathlib.Core.List.{List, _++_}
 use Prim.Native.Nat.{ℕ, _+_, _≤_}
 use native.Mathlib.Nat.{zero-add}
 use native.Mathlib.Omega.{arith}
 use borrow.Author.Needs.{needs}
 use lib.ListN.{length, take, drop}
-use lib.Seq.{sets, sets-eq, length-take-le, take-all}
+use lib.Seq.{sets-eq, length-take-le, take-all}
 use Rattle.saw.proofs.cuts.copy_first.Statement.{statement}
 use Rattle.saw.proofs.cuts.copy_first.Tie as tie
 

@@ -10,9 +10,10 @@ unfolding topDatumB
 top-datum-spec =
     tie.close
     (tie.spec
-    (λ c. search tests depth 7)  -- returns
-    (λ c. search tests depth 7)  -- returns-2
+    (λ c. search tests depth 8)  -- returns
+    (λ c. search tests depth 8)  -- returns-2
+    (λ c. search tests depth 8)  -- returns-3
     (λ c κs. search needs)  -- is-structure-requires
-    (λ c. search tests depth 7)  -- returns-3
-    (λ c. search tests depth 7)  -- returns-4
-    (λ c. search tests depth 7))  -- returns-5
+    (λ c. search tests depth 8)  -- returns-4
+    (λ c. search tests depth 8)  -- returns-5
+    (λ c. search tests depth 8))  -- returns-6

@@ -10,12 +10,13 @@ unfolding zeroDatumB
 zero-datum-spec =
     tie.close
     (tie.spec
-    (λ c. search tests depth 9)  -- returns
-    (λ c. search tests depth 9)  -- returns-2
-    (λ c. search tests depth 9)  -- returns-3
-    (λ c. search tests depth 9)  -- returns-4
-    (λ c. search tests depth 9)  -- returns-5
+    (λ c. search tests depth 10)  -- returns
+    (λ c. search tests depth 10)  -- returns-2
+    (λ c. search tests depth 10)  -- returns-3
+    (λ c. search tests depth 10)  -- returns-4
+    (λ c. search tests depth 10)  -- returns-5
+    (λ c. search tests depth 10)  -- returns-6
     (λ c κs. search needs)  -- is-free-requires
     (λ c κs. search needs)  -- is-horizontal-requires
-    (λ c. search tests depth 9)  -- returns-6
-    (λ c. search tests depth 9))  -- returns-7
+    (λ c. search tests depth 10)  -- returns-7
+    (λ c. search tests depth 10))  -- returns-8

@@ -1,5 +1,5 @@
 -- `rows_ok` meets its contract: the rows that the outer loop has passed are linked, filled and marked, and what the rest of a walk says and
--- marks is what the whole row says and marks. A side is below 2^32 and a walk has at most `limit` steps, so the sum fits.
+-- marks is what the whole row says and marks. A step is below 2^33 and a walk has at most `limit` of them, so the sum fits.
 use mathlib.Core.Path.{_≡_, refl, sym, ap, _∙_}
 use mathlib.Core.Bool.{true, false}
 use mathlib.Core.Logic.{_⊎_, inl, inr, ⊎-elim}
@@ -24,7 +24,7 @@ abbrev Inv-loop : tie.InvT-loop
 Inv-loop settings hung₀ nodes ok₀ q up above pv₀ p₀ sum₀ left₀ hung ok pv p sum left =
     (left ≤ limit)
     × (ok ≡ true)
-    × (sum + left * 4294967296 ≤ limit * 4294967296)
+    × (sum + left * 8589934592 ≤ limit * 8589934592)
     × (chainB limit settings nodes q left pv p sum ≡ chainB limit settings nodes q limit limit (at nodes q .first) 0)
     × (markRow limit (nextsOf nodes) left p hung ≡ markRow limit (nextsOf nodes) limit (at nodes q .first) hung₀)
 
@@ -49,7 +49,7 @@ some : (c : tie.After-step-of Inv-loop μ-loop Inv-all μ-all) → 0 < c .before
 some c = ltb-true 0 (c .before .before .before .before .before .before .loop .left) (c .before .before .before .before .if2 .taken)
 
 add-sum : tie.Need-add-sum Inv-loop μ-loop Inv-all μ-all
-add-sum c = omega (arith, c .step-of .ok, some c)
+add-sum c = omega (arith, c .step-of .ensures .1, some c)
 
 sub-left : tie.Need-sub-left Inv-loop μ-loop Inv-all μ-all
 sub-left c = omega (arith, some c)
@@ -69,8 +69,8 @@ loop-again c =
     let on = chain-on limit (a .settings) (a .t1) (o .q) (l .left) (l .pv) (l .p) (l .sum) h in-row child (c .before .if3 .taken) in (
       omega arith,
       l .inv .1,
-      omega (arith, c .step-of .ok),
-      ap (λ (s : ℕ). chainB limit (a .settings) (a .t1) (o .q) (l .left - 1) (l .p) (at (a .t1) (l .p) .next) (l .sum + s)) (c .step-of .ensures)
+      omega (arith, c .step-of .ensures .1),
+      ap (λ (s : ℕ). chainB limit (a .settings) (a .t1) (o .q) (l .left - 1) (l .p) (at (a .t1) (l .p) .next) (l .sum + s)) (c .step-of .ensures .0)
           ∙ sym on
           ∙ l .inv .3,
       sym (hang-on limit (a .t1) (l .left) (l .p) (l .hung) h in-row) ∙ l .inv .4,
@@ -170,7 +170,6 @@ rows-ok-spec =
     (λ c. search needs)  -- array-copy-out-n
     (λ c κs. search needs)  -- child-ok-requires
     (λ c κs. search needs)  -- step-of-requires
-    (λ c. search needs)  -- cast-sum
     add-sum
     (λ c. search needs)  -- element-write-hung
     sub-left

@@ -9,12 +9,12 @@ use Rattle.lists.specs.Lists.{limit, zeros}
 use Rattle.lists.proofs.Fill.{filled, fill-more, fill-column}
 use Rattle.table.specs.Table.{zeroNode}
 use Rattle.table.specs.Columns.{areaOf, firstOf, nextOf, kindNoOf}
-use Rattle.walks.specs.Columns.{levelOf, cutNoOf, numberOf, widthOf, heightOf}
+use Rattle.walks.specs.Columns.{levelOf, cutNoOf, numberOf, widthOf, heightOf, eatenOf}
 use Rattle.walks.proofs.columns.columns_of.Statement.{statement}
 use Rattle.walks.proofs.columns.columns_of.Tie as tie
 
 abbrev Inv-loop : tie.InvT-loop
-Inv-loop nodes first₀ next₀ level₀ kind₀ cut₀ number₀ width₀ height₀ area₀ i₀ first next level kind cut number width height area i =
+Inv-loop nodes first₀ next₀ level₀ kind₀ cut₀ number₀ width₀ height₀ area₀ eaten₀ i₀ first next level kind cut number width height area eaten i =
     (i ≤ limit)
     × (first ≡ filled (zeros limit) (map firstOf nodes) i)
     × (next ≡ filled (zeros limit) (map nextOf nodes) i)
@@ -25,12 +25,13 @@ Inv-loop nodes first₀ next₀ level₀ kind₀ cut₀ number₀ width₀ heigh
     × (width ≡ filled (zeros limit) (map widthOf nodes) i)
     × (height ≡ filled (zeros limit) (map heightOf nodes) i)
     × (area ≡ filled (zeros limit) (map areaOf nodes) i)
+    × (eaten ≡ filled (zeros limit) (map eatenOf nodes) i)
 
 abbrev μ-loop : tie.MeasureT-loop
-μ-loop nodes first₀ next₀ level₀ kind₀ cut₀ number₀ width₀ height₀ area₀ i₀ first next level kind cut number width height area i = limit - i
+μ-loop nodes first₀ next₀ level₀ kind₀ cut₀ number₀ width₀ height₀ area₀ eaten₀ i₀ first next level kind cut number width height area eaten i = limit - i
 
 loop-holds : tie.Need-loop-holds Inv-loop μ-loop
-loop-holds c = (omega arith, refl, refl, refl, refl, refl, refl, refl, refl, refl)
+loop-holds c = (omega arith, refl, refl, refl, refl, refl, refl, refl, refl, refl, refl)
 
 loop-again : tie.Need-loop-again Inv-loop μ-loop
 loop-again c =
@@ -49,6 +50,7 @@ loop-again c =
       fill-more widthOf t len zeroNode (zeros limit) (l .width) (l .i) _ (l .inv .7) h refl,
       fill-more heightOf t len zeroNode (zeros limit) (l .height) (l .i) _ (l .inv .8) h refl,
       fill-more areaOf t len zeroNode (zeros limit) (l .area) (l .i) _ (l .inv .9) h (c .area .ensures),
+      fill-more eatenOf t len zeroNode (zeros limit) (l .eaten) (l .i) _ (l .inv .10) h refl,
     )
 
 returns : tie.Need-returns Inv-loop μ-loop
@@ -67,6 +69,7 @@ returns c =
       fill-column widthOf t len (zeros limit) refl (l .width) (l .i) (l .inv .7) h,
       fill-column heightOf t len (zeros limit) refl (l .height) (l .i) (l .inv .8) h,
       fill-column areaOf t len (zeros limit) refl (l .area) (l .i) (l .inv .9) h,
+      fill-column eatenOf t len (zeros limit) refl (l .eaten) (l .i) (l .inv .10) h,
     ) refl
 
 pub columns-of-spec : {M : Type 1} → statement M
@@ -96,6 +99,7 @@ columns-of-spec =
     (λ c κs. search needs)  -- area-requires
     (λ c. search needs)  -- mul-area
     (λ c. search needs)  -- array-write-area
+    (λ c. search needs)  -- array-write-eaten
     (λ c. search needs)  -- add-i
     (λ c. search needs)  -- loop-less
     loop-again

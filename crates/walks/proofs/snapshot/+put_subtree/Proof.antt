@@ -24,15 +24,15 @@ use Rattle.walks.proofs.snapshot.+put_subtree.{statement}
 use Rattle.walks.proofs.snapshot.+put_subtree.Tie.{close}
 
 abbrev μ : Measures 2 ps ℕ
-μ κs a = a .1 .1 .1 .1 .1 .1 .1 .1 .1 .0
+μ κs a = a .1 .1 .1 .1 .1 .1 .1 .1 .1 .1 .0
 
 abbrev Inv-loop : lts.InvT-loop
-Inv-loop first next level kind cut number width height x left out₀ at i k₀ c₀ turns₀ out k c turns =
-    let own = bytesAt level kind cut number width height in
+Inv-loop first next level kind cut number width height eaten x left out₀ at i k₀ c₀ turns₀ out k c turns =
+    let own = bytesAt level kind cut number width height eaten in
     Left (below limit first next own nothing left x) out₀ k₀ (yet limit first next own nothing left x turns c) out k
 
 abbrev μ-loop : lts.MeasureT-loop
-μ-loop first next level kind cut number width height x left out₀ at i k₀ c₀ turns₀ out k c turns = turns
+μ-loop first next level kind cut number width height eaten x left out₀ at i k₀ c₀ turns₀ out k c turns = turns
 
 module _ (t : ℕ) where
   abbrev at : In 2 ps
@@ -50,7 +50,7 @@ module _ (t : ℕ) where
         limit = limit;
         first = a .first .now;
         next = a .next .now;
-        before = bytesAt (a .level .now) (a .kind .now) (a .cut .now) (a .number .now) (a .width .now) (a .height .now);
+        before = bytesAt (a .level .now) (a .kind .now) (a .cut .now) (a .number .now) (a .width .now) (a .height .now) (a .eaten .now);
         after = nothing;
         left = a .left;
         x = a .x;
@@ -69,7 +69,7 @@ module _ (t : ℕ) where
   Loop = lts.At-loop calls at Post Inv-loop μ-loop
 
   abbrev before-own : After → Before
-  before-own c = c .before .before .before .before .before .before .before .before
+  before-own c = c .before .before .before .before .before .before .before .before .before
 
   abbrev after-own : Loop → After
   after-own l = l .before .before .before .before
@@ -99,7 +99,7 @@ module _ (t : ℕ) where
   entered :
       (c : After)
       → let s = call (before-own c .before .before) in
-      Left (all s) (s .l) (s .k) (under s) (c .put-node .last .1 .1 .1 .1 .1 .1 .0) (s .k + 13)
+      Left (all s) (s .l) (s .k) (under s) (c .put-node .last .1 .1 .1 .1 .1 .1 .1 .0) (s .k + 14)
   entered c =
       let e = before-own c in
       let s = call (e .before .before) in
@@ -142,8 +142,9 @@ pub +put-subtree-spec : {M : Type 1} → statement M
     (λ c. search needs)  -- element-copy-out-put-node-5
     (λ c. search needs)  -- mul-put-node-3
     (λ c. search needs)  -- element-copy-out-put-node-6
+    (λ c. search needs)  -- element-copy-out-put-node-7
     -- put-node-requires
-    (λ c κs. let e = c .before .before .before .before .before .before .before in
+    (λ c κs. let e = c .before .before .before .before .before .before .before .before in
     let s = call t (e .before .before) in
     piece-room (s .before (s .x)) (under s) (start s (e .if1 .left)))
     (λ c. omega (arith, entered t (c .before .before) .room))  -- add-k
@@ -161,7 +162,7 @@ pub +put-subtree-spec : {M : Type 1} → statement M
     -- loop-again
     (λ c. let d = c .before .before .before in
     let p = d .put-subtree in
-    child-done (turn t (d .before .before)) {l = p .last .1 .1 .1 .1 .1 .1 .1 .1 .1 .1 .0} (p .ensures .0) (p .ensures .1))
+    child-done (turn t (d .before .before)) {l = p .last .1 .1 .1 .1 .1 .1 .1 .1 .1 .1 .1 .0} (p .ensures .0) (p .ensures .1))
     (λ c. ap length (returns-2 t c .0) ∙ simp length-sets)  -- same-length
     (returns-2 t)
     (λ c. ap length (returns-3 t c .0) ∙ simp length-sets)  -- same-length-2

@@ -19,10 +19,17 @@ put-four-requires-2 c κs =
     let f = simp length-sets at (ap length (c .before .before .before .put-four .ensures)) in
     omega arith
 
+slice-write-out-4 : tie.Need-slice-write-out-4
+slice-write-out-4 c =
+    let e = simp (length-sets, length-set) at (ap length (c .before .before .before .before .before .before .before .before .before .before .put-two .ensures)) in
+    let f = simp length-sets at (ap length (c .before .before .before .before .before .before .put-four .ensures)) in
+    let g = simp length-sets at (ap length (c .before .before .put-four2 .ensures)) in
+    omega arith
+
 returns : tie.Need-returns
 returns c =
     let a = c .before .before .before .before .before .before .before .before .before .before .before .before .before .args in
-    node-stored (a .out .now) (a .at) (a .level) (a .kind) (a .cut) (a .number) (a .width) (a .height) _ _ _
+    node-stored (a .out .now) (a .at) (a .level) (a .kind) (a .cut) (a .number) (a .width) (a .height) (a .eaten) _ _ _
     (c .before .before .before .before .before .before .before .before .before .before .put-two .ensures)
     (c .before .before .before .before .before .before .put-four .ensures)
     (c .before .before .put-four2 .ensures)
@@ -42,5 +49,7 @@ put-node-spec =
     put-four-requires
     (λ c. search needs)  -- add-put-four-2
     put-four-requires-2
+    (λ c. search needs)  -- add-out-3
+    slice-write-out-4
     (λ c. ap length (returns c) ∙ simp length-sets)  -- same-length
     returns)
