@@ -92,7 +92,8 @@ size_t nickelgrove_step(struct nickelgrove_session *session, const uint8_t *line
 
 /* Answers the line of `length` characters as nickelgrove_step does, on the same session, and the lines of the desk's own ops too (docs/DESK.md): why not, the
  * room light, the two lists, the part numbers, the figures, the tree snapshot, the saw cuts, the eaten area (op 19) and what the blade eats with each cut (op 1a).
- * None of these changes anything. A line of nickelgrove_step gets the same answer here, byte for byte.
+ * None of these changes anything. Op 1b tidies the layout: structures that hold one free piece and nothing else are taken out; the kept layout stays. A line of
+ * nickelgrove_step gets the same answer here, byte for byte.
  *
  * Writes NICKELGROVE_DESK_LONGEST bytes to `answer`: the answer, its newline, and zeros. Gives how many of them are the answer, its newline among them. Where the
  * answer is a refusal, each number of the session is afterwards what it was before. */

@@ -1,10 +1,12 @@
 // The desk: a sheet, asked by name. Each question and each change is a line to the module and its answer back; here is what was sent, and nothing of a layout.
-// A change is remembered, so that a session can be saved as the lines that were sent (ops 01 to 07). Questions of the desk alone (ops 11 to 1a) change nothing.
-import { FREE, cutsAsked, opOf, read, readLine, write } from './frames.mjs';
+// A change is remembered, so that a session can be saved as the lines that were sent: the counter's (ops 01 to 07), and those that tidy (op 1b). The desk's own
+// questions (ops 11 to 1a) change nothing.
+import { FREE, TIDY, cutsAsked, opOf, read, readLine, write } from './frames.mjs';
 import { Counter } from './nickelgrove.mjs';
 
 const LAST_OF_THE_COUNTER = 0x07;
 const MALFORMED = 'ff0ef3';
+const isOfSession = (line) => opOf(line) <= LAST_OF_THE_COUNTER || opOf(line) === TIDY;
 const same = (a, b) => JSON.stringify(a) === JSON.stringify(b);
 const areaOf = ({ width, height }) => width * height; // below 2^52
 
@@ -38,7 +40,9 @@ export class Desk {
     if (!text.endsWith('\n')) throw new NoSession('The file ends within a line: a session ends with a newline.');
     const desk = new Desk(this.#module);
     text.slice(0, -1).split('\n').forEach((line, index) => {
-      if (desk.#counter.step(line) === MALFORMED) throw new NoSession(`Line ${index + 1} of the file is no frame of the counter: "${shortened(line)}".${hintFor(line)}`);
+      if (desk.#counter.desk(line) === MALFORMED || !isOfSession(line)) {
+        throw new NoSession(`Line ${index + 1} of the file is no frame of a session: "${shortened(line)}".${hintFor(line)}`);
+      }
     });
     const again = new Desk(this.#module);
     for (const line of text.slice(0, -1).split('\n')) again.send(line);
@@ -64,6 +68,10 @@ export class Desk {
 
   remove(mark) {
     return this.send(write.remove(mark));
+  }
+
+  tidy() {
+    return this.send(write.tidy());
   }
 
   keep() {
@@ -167,9 +175,9 @@ export class Desk {
     return read(this.#counter.desk(line));
   }
 
-  /** Sends a line of the counter's, and remembers it. */
+  /** Sends a line of a session, and remembers it. */
   send(line) {
-    if (opOf(line) > LAST_OF_THE_COUNTER) throw new Error(`the counter takes no such line: ${line}`);
+    if (!isOfSession(line)) throw new Error(`a session has no such line: ${line}`);
     const answer = this.#ask(line);
     this.lines.push(line);
     if (!answer.refusal) this.#note(readLine(line), answer);

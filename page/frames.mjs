@@ -15,6 +15,9 @@ export const PART = 1;
 export const STRUCTURE = 2;
 export const OFFERED = 5;
 
+/** The op of the desk's own that changes the sheet. */
+export const TIDY = 0x1b;
+
 const hex = (number, bytes) => number.toString(16).padStart(2 * bytes, '0');
 
 /** The most that a field of so many bytes holds. */
@@ -58,6 +61,7 @@ export const write = {
   cuts: () => frame(0x18),
   eaten: () => frame(0x19),
   amounts: () => frame(0x1a),
+  tidy: () => frame(TIDY),
 };
 
 /** The fields of an answer, one after the other. */
@@ -145,6 +149,7 @@ const READERS = {
   0x18: (fields) => ({ cuts: fields.list(fields.number(2), sawCut) }),
   0x19: (fields) => ({ eaten: fields.number(8) }),
   0x1a: (fields) => ({ amounts: fields.list(fields.number(2), () => fields.number(1)) }),
+  [TIDY]: (fields) => ({ count: fields.number(2) }),
 };
 
 /** An answer: its op and the refusal's number, which is 0 where there is none, and then the fields of that op. What is no answer is an error. */

@@ -115,4 +115,10 @@ export class Glass {
     const touched = this.touch(now);
     return touched.refusal ? touched : this.#desk.remove(mark);
   }
+
+  /** Takes out each structure that holds one free piece and nothing else, until there is none. */
+  tidy(now) {
+    const touched = this.touch(now);
+    return touched.refusal ? touched : this.#desk.tidy();
+  }
 }

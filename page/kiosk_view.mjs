@@ -2,7 +2,7 @@
 import { chosen, element, fill, find, numbersOf, tell } from './dom.mjs';
 import { OFFERED, PART, SHAPES } from './frames.mjs';
 import { show } from './picture.mjs';
-import { LIES, REASONS, capital, figured, grouped, marked, refused, sized } from './words.mjs';
+import { LIES, REASONS, capital, figured, grouped, marked, refused, sized, tidied } from './words.mjs';
 
 const SIZES = [[600, 400], [800, 300], [1200, 600], [2000, 500], [2070, 600], [300, 300]];
 const SHEET = [
@@ -32,6 +32,7 @@ export class KioskView {
     find('panel-form').addEventListener('submit', (event) => this.#ask(event));
     find('panel-form').addEventListener('input', () => this.#typed());
     find('done').addEventListener('click', () => this.#done());
+    find('tidy').addEventListener('click', () => this.#tidy());
     find('patience').addEventListener('input', () => this.#patience());
     for (const [, id] of PANEL) find(id).addEventListener('focus', () => (this.#field = id));
     fill('sizes', ...SIZES.map(([width, height]) => element('button', { type: 'button', onclick: () => this.#tapSize(width, height) }, `${width} x ${height}`)));
@@ -140,6 +141,13 @@ export class KioskView {
     this.render();
   }
 
+  #tidy() {
+    const { refusal, count } = this.#glass.tidy(this.#now());
+    if (refusal) tell('word', refused(refusal), true);
+    else tell('word', tidied(count));
+    this.render();
+  }
+
   #done() {
     this.#glass.done();
     tell('word', 'The customer is done. What was booked stays.');
@@ -169,7 +177,7 @@ export class KioskView {
   render() {
     const { desk } = this.#glass;
     find('kiosk').classList.toggle('opened', desk.sheet !== null);
-    for (const button of [...find('panel-form').querySelectorAll('button[type="submit"]')]) button.disabled = desk.sheet === null;
+    for (const button of [...find('panel-form').querySelectorAll('button[type="submit"]'), find('tidy')]) button.disabled = desk.sheet === null;
     this.#clock();
     this.#light();
     this.#figures(desk);

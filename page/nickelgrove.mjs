@@ -50,7 +50,7 @@ export class Counter {
     return this.#answered('nickelgrove_step', line, this.#answer);
   }
 
-  /** The same at the desk, which also answers the questions of ops 11 to 1a. */
+  /** The same at the desk, which also answers the questions of ops 11 to 1a, and tidies (op 1b). */
   desk(line) {
     return this.#answered('nickelgrove_desk', line, this.#said);
   }

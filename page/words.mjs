@@ -48,6 +48,12 @@ export function figured({ used, free, eaten, sheetUsage }, { layout, stages, bla
   return `Layout ${layout}, ${stages} stages${saw}. Used ${grouped(used)}, free ${grouped(free)}${taken}: ${(100 * sheetUsage).toFixed(1)} % is used.`;
 }
 
+/** What tidying did, by how many structures it took out. */
+export function tidied(count) {
+  if (count === 0) return 'The sheet is tidy: no structure was taken out.';
+  return `The sheet is tidied: ${count === 1 ? '1 structure was' : `${count} structures were`} taken out.`;
+}
+
 /** A mark, as the frames' page has it. */
 export const marked = ({ layout, place, serial }) => `layout ${layout}, place ${place}, serial ${serial}`;
 

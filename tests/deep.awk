@@ -1,6 +1,8 @@
-# Deep trees, made and taken out by frames: what is sent to `counter`, and what it must answer. awk -v tree=TREE -v goes=WHAT -v side=SIDE -f tests/deep.awk
-# TREE: chain, 252 structures in one another, the most that calls can make; or comb, 126 structures in one another with a part in each. WHAT is taken out of it: all,
-# the structure that holds all others; or last, the last part that was booked. SIDE: sent, or answered. With -v size=N it has N structures.
+# Deep trees, made and taken out by frames: what is sent to `counter` or `desk`, and what it must answer.
+# awk -v tree=TREE -v goes=WHAT -v side=SIDE -f tests/deep.awk
+# TREE: chain, 252 structures in one another, the most that calls can make; or comb, 126 structures in one another with a part in each. WHAT is taken out of
+# it: all, the structure that holds all others; last, the last part that was booked; or, of a chain and at the desk, tidy, each structure by itself, the
+# innermost first. SIDE: sent, or answered. With -v size=N it has N structures.
 # Every mark is known beforehand: serials rise by one per node, and a node takes the lowest unheld place.
 function two(n) { return sprintf("%02x%02x", n / 256, n % 256) }
 function four(n) { return two(n / 65536) two(n % 65536) }
@@ -27,9 +29,10 @@ BEGIN {
   if (tree == "chain") {
     for (i = 1; i <= size; i++) {
       book(7, i, last, i)
-      if (i < size || goes == "all") { say("04" mark(i + 1, last - 1), "0400" mark(i + 1, last + 1) "01" two(7)); last++ }
+      if (i < size || goes != "last") { say("04" mark(i + 1, last - 1), "0400" mark(i + 1, last + 1) "01" two(7)); last++ }
     }
     if (goes == "all") say("04" mark(1, 3), "0400" mark(1, last + 1) "00")
+    else if (goes == "tidy") say("1b", "1b00" two(size))
     else say("04" mark(size + 1, last - 1), "0400" mark(size + 1, last + 1) "01" two(7))
   } else {
     for (i = 1; i <= size; i++) {

@@ -1,7 +1,8 @@
 #!/usr/bin/env bash
 # The desk over the Rust's recorded sessions: the counter's lines with the counter's answers, and each of the desk's own questions, in every state of the
-# short sessions, held to what the Rust's line of `inspect` has (tests/desk.awk). The long sessions, chains to level 253 among them, on a stack of 2 MiB. And
-# the desk's own ops are malformed at the counter: tests/desk.sh [LINES]
+# short sessions, held to what the Rust's line of `inspect` has (tests/desk.awk). The states of these sessions, tidied, held to the tree that the Rust's line
+# leaves by a rule of the test's own (tests/tidy.awk). The long sessions, chains to level 253 among them, on a stack of 2 MiB. And the desk's own ops are
+# malformed at the counter: tests/desk.sh [LINES]
 # LINES is how many lines of the short sessions are taken; all of them unless it is given.
 set -u
 cd "$(dirname "$0")/.." || exit 2
@@ -25,7 +26,12 @@ as_left_open() {
 }
 writes 'the short sessions, each line with every question that the Rust has an answer to' "$room/said" as_left_open "$room/said" < "$room/sent"
 writes 'the long sessions, as at the counter, on a stack of 2 MiB' recorded/long.out run_on_stack 2048 desk < recorded/long.in
-grep '^1[1-9a]' "$room/sent" | sort -u | head -n 2000 > "$room/own"
+awk -v sent="$room/untidy" -v said="$room/tidied" -f tests/tidy.awk "$room/sessions.in" "$room/sessions.out"
+found=$(grep -c '^1b0000' "$room/tidied") more=$(grep -c '^1b0000[0-9a-f][1-9a-f]' "$room/tidied")
+[ "$more" -ge $((lines / 50)) ] && grep -q '^1b00000[2-9]' "$room/tidied"
+tried $? "there are $found lines that tidy, $more of which find something"
+writes 'the states of the short sessions, tidied' "$room/tidied" run desk < "$room/untidy"
+{ grep '^1[1-9a]' "$room/sent" | sort -u | head -n 2000; echo 1be5; } > "$room/own"
 sed 's/.*/ff0ef3/' "$room/own" > "$room/malformed"
 writes "the desk's own ops at the counter: malformed" "$room/malformed" run counter < "$room/own"
-finished 4
+finished 6

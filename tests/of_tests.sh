@@ -103,9 +103,13 @@ $real
 END_OF_SCRIPT
 
 stand_in growing <<END_OF_SCRIPT
-# Needs more of the stack to take a structure out than to take a part out.
+# Needs more of the stack to take a structure out than to take a part out, and to tidy many structures than to tidy one.
 cat > "\$RUNS.in"
-case \$(tail -n 1 "\$RUNS.in") in 0400010100000003*) least=1088 ;; *) least=1024 ;; esac
+case \$(tail -n 1 "\$RUNS.in") in
+  0400010100000003*) least=1088 ;;
+  1be5) [ \$(wc -l < "\$RUNS.in") -lt 100 ] && least=1024 || least=1088 ;;
+  *) least=1024 ;;
+esac
 [ "\$(ulimit -s)" = unlimited ] || [ "\$(ulimit -s)" -ge \$least ] || kill -SEGV \$\$
 $real < "\$RUNS.in"
 END_OF_SCRIPT
@@ -160,6 +164,9 @@ fails heavy 3 tests/stack.sh
 env PROGRAMS="$room/growing" RUNS="$room/growing.runs" bash tests/stack.sh counter > "$room/log" 2>&1
 [ "$(grep -c '^FAILED: .* KiB' "$room/log")" -eq 2 ]
 tried $? 'tests/stack.sh finds the stack that a removal needs for what it takes out' || show
+env PROGRAMS="$room/growing" RUNS="$room/growing.runs" bash tests/stack.sh desk > "$room/log" 2>&1
+[ "$(grep -c '^FAILED: .* KiB' "$room/log")" -eq 1 ]
+tried $? 'and the one that a tidying needs' || show
 
 # A page that is wrong, in a copy of the checkout: tests/page.sh has to find it.
 copied() { # a new copy, in $room/copy
@@ -205,6 +212,11 @@ mutants() {
   mutant strips page/say.mjs '; the saw takes ${eaten}' ''
   mutant reopen page/desk.mjs '${hintFor(line)}' ''
   mutant drill page/drill.mjs 'said.eaten === cut.eaten' 'true'
+  mutant frames page/frames.mjs '[TIDY]: (fields) => ({ count: fields.number(2) })' '[TIDY]: (fields) => ({ count: fields.number(1) + fields.number(1) })'
+  mutant reopen page/desk.mjs ' || !isOfSession(line)' ''
+  mutant tidy page/desk.mjs 'return this.send(write.tidy());' 'return this.#ask(write.tidy());'
+  mutant tidy page/glass.mjs 'return touched.refusal ? touched : this.#desk.tidy();' 'return touched.refusal ? touched : { refusal: 0, count: 0 };'
+  mutant tidy page/words.mjs "'1 structure was'" "'1 structures were'"
   if ! command -v chromium > /dev/null && ! command -v chromium-browser > /dev/null; then
     echo 'skipped: there is no chromium here, and no wrong page was opened in it'
     return
@@ -217,6 +229,8 @@ mutants() {
   mutant browser-blade page/saw_view.mjs "find('taken').textContent = takenBy(step);" ''
   mutant browser-blade page/saw_view.mjs "look: 'taken'" "look: 'veil'"
   mutant browser-blade page/draw.mjs '...strips.map((strip) => stripLine(strip, plan)),' ''
+  mutant browser-tidy page/kiosk_view.mjs "else tell('word', tidied(count));" ''
+  mutant browser-tidy page/kiosk_view.mjs ", find('tidy')]) button.disabled" ']) button.disabled'
   mutant browser-saw page/saw_view.mjs 'textContent = sentences[at]' 'textContent = sentences[0]'
   mutant browser-away page/app.mjs 'kiosk.tick() && tabs.again()' 'kiosk.tick()'
   mutant browser-drill page/drill_view.mjs 'this.#count(wrong.length === 0)' 'this.#count(true)'
@@ -274,4 +288,4 @@ compares 1 'fails where neither side says anything' mute "$room/silent" 20 1
 compares 1 'fails where the judge dies' failing '' 20 1
 compares 1 'fails on wrong programs' right "$room/wrong" 20 1
 compares 1 'fails on dying programs' right "$room/dying" 20 1
-finished $((meant + 21))
+finished $((meant + 22))

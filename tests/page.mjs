@@ -5,6 +5,7 @@
 //   day       a day at the kiosk: offers, why not, a booking, a timeout, a stale offer; FILE is written with the session
 //   blade     a day with a saw blade of 3: what it eats, a customer who walks away, panels taken out; FILE is written with the session
 //   blades    FILE is written with sessions of blades of many widths, and what the blades do in them is counted
+//   tidy      panels taken out, and the sheet tidied: what is joined, an offer that is stale then, a customer who walks away; FILE is written with the session
 //   reopen    a session that was saved, opened again; and files that are none (FILE is the saved one)
 //   located   whether every free piece of the recorded sessions is found in the diagram, and the sheet is the one that it was opened as
 //   picture   the cut diagram and the sentences of FILE's last sheet
@@ -26,7 +27,7 @@ import { piecesOf, treeOf } from '../page/pieces.mjs';
 import { sawn } from '../page/saw.mjs';
 import { called, say as sentences } from '../page/say.mjs';
 import { ownVoice } from '../page/voice.mjs';
-import { LIES, REASONS, REFUSALS, figured, marked, numberIn, refused, sized } from '../page/words.mjs';
+import { LIES, REASONS, REFUSALS, figured, marked, numberIn, refused, sized, tidied } from '../page/words.mjs';
 
 const [question, path, file, other] = process.argv.slice(2);
 const module = new WebAssembly.Module(readFileSync(path));
@@ -86,6 +87,7 @@ const questions = {
     const { used, held, sheetUsage } = read(right);
     say(`${used} ${held} ${sheetUsage}`);
     say(read('0405f7').refusal, read('1900000000000000012cba').eaten, read('1a0000020302df').amounts.join(' '));
+    say(write.tidy(), read('1b000102e2').count, read('1b09dc').refusal, thrown(() => read('1b0001e4')), thrown(() => read('1b00000001e4')));
     say(thrown(() => cutsAsked((line) => read(line === write.cuts() ? '18000000e8' : '1a0000020302df'))));
   },
 
@@ -209,12 +211,89 @@ const questions = {
     writeFileSync(file, desk.saved);
   },
 
+  tidy() {
+    const glass = new Glass(new Desk(module));
+    glass.patience = 1000;
+    const sheet = { layout: 1, width: 100, height: 60, cut: 1, stages: 2, blade: 0 };
+    const state = () => {
+      const { nodes, cuts, figures, sheet: opened } = glass.desk;
+      say(`  ${nodes.length} nodes. ${figured(figures, opened)} ${sentences(nodes, cuts)[0]}`);
+    };
+    const tidy = (now) => {
+      const { refusal, count } = glass.tidy(now);
+      say(refusal ? refused(refusal) : tidied(count));
+      if (!refusal) state();
+    };
+    const ask = (width, height, now) => {
+      glass.ask({ number: 9, width, height, turn: 1 }, now);
+      say(...glass.shown.pieces.map(({ mark, reasons }) => `for ${width} x ${height}: ${marked(mark)}: ${REASONS[reasons[0]]}`));
+    };
+    const choose = (now) => {
+      const piece = glass.shown.pieces.find(({ offers }) => offers.length > 0);
+      glass.choose({ piece, offer: piece.offers.at(-1) }, now);
+    };
+    const book = (number, width, height, now) => {
+      glass.ask({ number, width, height, turn: 1 }, now);
+      choose(now);
+      const { shape } = glass.shown.choice.offer;
+      const { refusal } = glass.confirm(now);
+      say(refusal ? refused(refusal) : `panel ${number}, ${width} x ${height}, is booked, ${SHAPES[shape]}`);
+    };
+    const takeOut = (number, now) => {
+      const { refusal } = glass.remove(glass.desk.held.find(({ part }) => part.number === number).mark, now);
+      say(refusal ? refused(refusal) : `panel ${number} is taken out`);
+      state();
+    };
+    tidy(0);
+    glass.open(sheet);
+    tidy(0);
+    // the board is whole again, a stage down, until it is tidied
+    book(1, 100, 20, 1);
+    tidy(2);
+    takeOut(1, 3);
+    ask(40, 30, 4);
+    tidy(5);
+    ask(40, 30, 6);
+    // an offer that is on the glass when the sheet is tidied
+    book(2, 40, 30, 7);
+    takeOut(2, 8);
+    ask(50, 60, 9);
+    choose(10);
+    tidy(11);
+    const { refusal } = glass.confirm(12);
+    say(refused(refusal));
+    glass.done();
+    // who walks away has tidied nothing
+    book(3, 40, 30, 2000);
+    takeOut(3, 2001);
+    glass.done();
+    tidy(5000);
+    glass.tick(6000);
+    say('the time is out');
+    state();
+    tidy(7000);
+    glass.done();
+    // two structures for one panel, with a blade, and beside another panel
+    glass.open({ ...sheet, layout: 2, stages: 3, blade: 3 });
+    book(4, 30, 60, 8000);
+    book(5, 40, 30, 8001);
+    takeOut(5, 8002);
+    tidy(8003);
+    say(`held: ${glass.desk.held.map(({ part }) => part.number).join(' ')}`);
+    const { saved, nodes } = glass.desk;
+    const again = new Desk(module).reopened(saved);
+    const alike = again.saved === saved && JSON.stringify(again.nodes) === JSON.stringify(nodes);
+    say(alike ? 'saved and opened again it is the same' : 'opened again it is another one');
+    writeFileSync(file, saved);
+  },
+
   reopen() {
     const text = readFileSync(file, 'latin1');
     const desk = new Desk(module);
     const again = desk.reopened(text);
     say(again.saved === text ? 'the same lines' : 'other lines', JSON.stringify(again.sheet), `${again.bookings.length} bookings, ${again.held.length} held`);
     const files = ['', '07f9', '\n', '07f9\n\n', 'hello\n', '07f9\r\n', `${text}17e9\n`, `${'00'.repeat(60)}\n`, '\u00ff\n', '010001000000640000003c01035a\n'];
+    files.push('1be5\n1ae6\n', '1be5\n1b00e5\n');
     for (const wrong of files) say(thrown(() => desk.reopened(wrong)));
     say(thrown(() => desk.reopened('')).length > 0 && desk.lines.length === 0 ? 'the desk that was there has what it had' : 'the desk was changed');
     try {

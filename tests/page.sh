@@ -45,19 +45,25 @@ printf '%s\n' 010001000007d0000004b00103036c 03000101000000020007000003200000025
 ! wanted strips || writes 'a sheet with a saw blade of 3, in the same way' tests/page/strips.txt ask picture "$module" "$room/bladed"
 says blade 'a day with a saw blade of 3, with a timeout, panels taken out, and its width back with what was kept' "$room/blade"
 says blades 'sheets with blades of many widths' "$room/blades"
+says tidy 'panels taken out and the sheet tidied, with an offer that is stale then, and with a timeout' "$room/tidied"
 says drill 'the drill, on 200 seeds, without a blade and with one'
 says voice "a voice of the machine's own"
 
-# A saved session, through the program: the same answers.
-in_program() { # NAME WHAT FILE
+# A saved session, through the program desk: the same answers; and through the program counter, which knows no tidying.
+in_program() { # NAME WHAT FILE [PROGRAM]: the program is counter unless it is given
   wanted "$1" || return
-  [ -s "$3" ] && timeout --foreground "$limit" node tests/wasm.mjs answers "$module" < "$3" > "$room/answers"
-  writes "$2" "$room/answers" run counter < "$3"
+  local program=${4:-counter} question=answers
+  [ $program = counter ] || question=desk
+  [ -s "$3" ] && timeout --foreground "$limit" node tests/wasm.mjs $question "$module" < "$3" > "$room/answers"
+  writes "$2" "$room/answers" run $program < "$3"
 }
 [ -e "$room/day" ] || : > "$room/day"
 in_program counter 'its session through the program counter' "$room/day"
 [ -e "$room/blade" ] || : > "$room/blade"
 in_program counter_blade 'and that of the day with a blade' "$room/blade"
+in_program desk_blade 'the same through the program desk' "$room/blade" desk
+[ -e "$room/tidied" ] || : > "$room/tidied"
+in_program desk_tidy 'and that of the sheet that is tidied' "$room/tidied" desk
 
 # Diagrams and sentences, beside those of the command.
 command=${COMMAND:-tools/nickelgrove}
@@ -97,6 +103,9 @@ fi
 shows touch 'the kiosk with a finger, at 320 pixels'
 shows keys 'the kiosk with keys alone'
 shows blade 'a day with a saw blade of 3, its cuts, a removal put back, a panel taken out'
+shows tidy 'panels taken out, the sheet tidied, an offer stale by that, the session saved and opened again'
+[ ! -e "$room/browser/nickelgrove-session.txt" ] ||
+  in_program browser-tidy 'that session, through the program desk' "$room/browser/nickelgrove-session.txt" desk
 ask sheet "$module" "$room/sheet" > "$room/sentences" 2> /dev/null
 { echo 'sheet is open: 13 lines were sent.'; cat "$room/sentences" tests/page/browser-saw.txt; } > "$room/saw"
 expected=$room/saw shows saw 'a saved session opened, its cuts stepped through' "$room/sheet"

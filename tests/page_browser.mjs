@@ -3,6 +3,8 @@
 //   touch    the same with a finger, at 320 pixels: sizes and digits that are tapped, an offer tapped in the diagram
 //   keys     the same with keys alone: a sheet, an offer, a booking, the views
 //   blade    a day with a saw blade of 3: what it takes on the sheet and cut by cut, a removal put back when the time is out, a panel taken out
+//   tidy     panels taken out, and the sheet tidied, with the mouse and with a key: what is said, and what has room then; the session saved in FOLDER and
+//            opened again
 //   saw      a saved SESSION is opened, and its cuts are stepped through, with keys and buttons: each sentence, and the last pile
 //   away     a customer's time runs out while the saw is looked at; a session is opened while an offer is tapped
 //   drill    a drill: an answer that is right, one that is wrong, one that was said aloud
@@ -190,6 +192,53 @@ const questions = {
     say(await page.text('#kiosk-diagram .taken'), await page.ask(`document.querySelectorAll('#kiosk-diagram rect[fill="#555"]:not(:has(title))').length === 0 ? 'no legend in the small picture' : 'a legend without words'`));
     await page.press('#tab-session');
     say(...(await page.ask('document.getElementById("lines").textContent')).split('\n'));
+  },
+
+  async tidy(page) {
+    const offcuts = () => page.ask(`document.querySelectorAll('#kiosk-diagram rect[fill="url(#free)"] > title').length`);
+    const told = async () => say(await page.text('#word'), await page.text('#kiosk-figures'), `offcuts drawn: ${await offcuts()}`);
+    const book = async (width, height) => {
+      await askFor(page, width, height);
+      await page.press('.piece.offered button.offer');
+      await page.press('#confirm');
+      say(await page.text('#word'));
+    };
+    say((await page.ask('document.getElementById("tidy").disabled')) ? 'nothing to tidy yet' : 'something to tidy before a sheet is open');
+    await openSheet(page, [1, 100, 60, 2]);
+    await page.press('#tidy');
+    await told();
+    await book(100, 20);
+    await page.press('#bookings li:nth-child(1) button');
+    await told();
+    await askFor(page, 40, 30);
+    await glass(page);
+    await page.press('#tidy');
+    await told();
+    await askFor(page, 40, 30);
+    await glass(page);
+    await page.press('.piece.offered button.offer');
+    await page.press('#confirm');
+    say(await page.text('#word'));
+    await page.press('#bookings li:nth-child(1) button');
+    await told();
+    await askFor(page, 50, 60);
+    await page.press('.piece.offered button.offer');
+    await page.ask('document.getElementById("tidy").focus()');
+    await page.key('Enter', 13);
+    await told();
+    // the offer was for a piece that is joined now
+    await page.press('#confirm');
+    say(await page.text('#word'));
+    await page.press('#done');
+    await page.press('#tab-session');
+    say(...(await page.ask('document.getElementById("lines").textContent')).split('\n'));
+    await page.press('#save');
+    say(await page.text('#session-word'));
+    await pause(1000);
+    await opened(page, `${folder}/nickelgrove-session.txt`);
+    say(await page.text('#session-word'));
+    await page.press('#tab-kiosk');
+    await told();
   },
 
   async saw(page) {

@@ -1,27 +1,31 @@
 #!/usr/bin/env bash
 # Programs on small stacks: they write what they write on any other. tests/stack.sh [PROGRAM...]
-# On 256 KiB: deep_chain holds the deepest sound tree, and takes it out. On 2 MiB, which is what a thread of the kiosk's Rust has: long.in has chains to level 253, the
-# deepest that calls can make. They are made, reported, taken out and restored by `counter`, and `inspect` also writes each tree, its lists and its figures.
-# A removal needs the same stack whatever it takes out (document 02, request 6): on the least one, to a KiB, on which `counter` takes one part out of a comb, it takes
-# the whole comb out, and the deepest chain (tests/deep.awk). The emulator alone takes some 50 KiB; built for the machine at hand, as the branch terminals have it, `counter`
-# does all three on 256 KiB.
+# On 256 KiB: deep_chain holds the deepest sound tree, takes it out, and tidies its 253 structures. On 2 MiB, which is what a thread of the kiosk's Rust has:
+# long.in has chains to level 253, the deepest that calls can make. They are made, reported, taken out and restored by `counter`, and `inspect` also writes each
+# tree, its lists and its figures. tidy.in has such chains that are tidied, by `desk` and by `inspect`.
+# A removal needs the same stack whatever it takes out (document 02, request 6): on the least one, to a KiB, on which `counter` takes one part out of a comb, it
+# takes the whole comb out, and the deepest chain (tests/deep.awk). So does a tidying (request 5): on the least one on which `desk` tidies one structure, it
+# tidies the deepest chain. The emulator alone takes some 50 KiB; built for the machine at hand, as the branch terminals have it, `counter` does all three on
+# 256 KiB.
 set -u
 cd "$(dirname "$0")/.." || exit 2
 . tests/run.bash
 kib=2048 meant=0
 
-# deep TREE WHAT: the lines that make the tree and take that out of it, and their answers, as files: $room/TREE-WHAT.in and .out
+# deep TREE WHAT [SIZE]: the lines that make the tree, with so many structures, and take that out of it, and their answers, as files: $room/TREE-WHAT.in and
+# .out, with the size behind WHAT if it is given
 deep() {
-  awk -v tree="$1" -v goes="$2" -v side=sent -f tests/deep.awk > "$room/$1-$2.in"
-  awk -v tree="$1" -v goes="$2" -v side=answered -f tests/deep.awk > "$room/$1-$2.out"
+  local name=$room/$1-$2${3:-}
+  awk -v tree="$1" -v goes="$2" -v size="${3:-}" -v side=sent -f tests/deep.awk > "$name.in"
+  awk -v tree="$1" -v goes="$2" -v size="${3:-}" -v side=answered -f tests/deep.awk > "$name.out"
 }
 
-# takes_out_on KIB TREE WHAT: whether it does so there
+# takes_out_on KIB PROGRAM FILES: whether it does so there
 takes_out_on() {
-  run_on_stack "$1" counter < "$room/$2-$3.in" > "$room/taken" 2> /dev/null && cmp -s "$room/taken" "$room/$2-$3.out"
+  run_on_stack "$1" "$2" < "$room/$3.in" > "$room/taken" 2> /dev/null && cmp -s "$room/taken" "$room/$3.out"
 }
 
-# least TREE WHAT: the least stack, in KiB, on which it does
+# least PROGRAM FILES: the least stack, in KiB, on which it does
 least() {
   local low=0 high=$kib middle
   while [ $((high - low)) -gt 1 ]; do
@@ -37,9 +41,20 @@ same_stack() {
   writes 'counter takes a part out of a comb, on a stack of 2 MiB' "$room/comb-last.out" run_on_stack $kib counter < "$room/comb-last.in"
   tail -n 1 "$room/tried" | grep -q '^ok' || return
   local part
-  part=$(least comb last)
+  part=$(least counter comb-last)
   writes "counter takes the comb out on $part KiB, the least on which it takes the part out" "$room/comb-all.out" run_on_stack "$part" counter < "$room/comb-all.in"
   writes "and the deepest chain on $part KiB" "$room/chain-all.out" run_on_stack "$part" counter < "$room/chain-all.in"
+}
+
+# A tidying goes from structure to structure with no call inside a call: what it takes out doesn't count.
+same_stack_tidying() {
+  deep chain tidy 1 && deep chain tidy
+  writes 'desk tidies one structure, on a stack of 2 MiB' "$room/chain-tidy1.out" run_on_stack $kib desk < "$room/chain-tidy1.in"
+  tail -n 1 "$room/tried" | grep -q '^ok' || return
+  local one
+  one=$(least desk chain-tidy1)
+  writes "desk tidies the deepest chain on $one KiB, the least on which it tidies one structure" "$room/chain-tidy.out" \
+    run_on_stack "$one" desk < "$room/chain-tidy.in"
 }
 
 # on_terminal TREE WHAT: the program for this machine, or a stand-in, on a stack of 256 KiB
@@ -56,7 +71,7 @@ on_terminals() {
   writes 'and the deepest chain' "$room/chain-all.out" on_terminal chain all
 }
 
-[ $# -gt 0 ] || set -- deep_chain counter inspect
+[ $# -gt 0 ] || set -- deep_chain counter desk inspect
 for name; do
   meant=$((meant + 1))
   case $name in
@@ -67,9 +82,16 @@ for name; do
       same_stack
       on_terminals
       ;;
+    desk)
+      meant=$((meant + 2))
+      writes 'desk, with chains to level 253 that are tidied, on a stack of 2 MiB' recorded/tidy.out run_on_stack $kib desk < recorded/tidy.in
+      same_stack_tidying
+      ;;
     inspect)
+      meant=$((meant + 1))
       writes 'inspect, with chains to level 253, on a stack of 2 MiB' "$(recorded_digest 'inspect on long.in')" \
         digest_of run_on_stack $kib inspect < recorded/long.in
+      writes 'inspect, with such chains that are tidied' "$(recorded_digest 'inspect on tidy.in')" digest_of run_on_stack $kib inspect < recorded/tidy.in
       ;;
     *) tried 1 "no such program on a small stack: $name" ;;
   esac

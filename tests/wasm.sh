@@ -51,11 +51,14 @@ fi
 
 command -v node > /dev/null || { echo 'skipped: there is no node here, and the module was not run'; finished $meant; }
 
-means 10
+means 11
 writes 'the long sessions' recorded/long.out ask answers "$module" < recorded/long.in
-cut -d ' ' -f 1,8 recorded/sessions.out > "$room/cuts"
-writes 'the short sessions, each line with its list of saw cuts' "$room/cuts" ask cuts "$module" < recorded/sessions.in
+# up to the first line that asks to tidy, which the counter doesn't know
+sed '/^1b/,$d' recorded/sessions.in > "$room/counters"
+cut -d ' ' -f 1,8 recorded/sessions.out | head -n "$(wc -l < "$room/counters")" > "$room/cuts"
+writes 'the short sessions, each line with its list of saw cuts' "$room/cuts" ask cuts "$module" < "$room/counters"
 writes 'the long sessions, at the desk' recorded/long.out ask desk "$module" < recorded/long.in
+writes 'the long sessions that tidy, at the desk' recorded/tidy.out ask desk "$module" < recorded/tidy.in
 writes 'the short sessions, with all that inspect shows, asked of the desk' recorded/sessions.out ask inspect "$module" < recorded/sessions.in
 echo alike > "$room/alike"
 writes 'why not, beside the offers of the short sessions' "$room/alike" ask reasons "$module" < recorded/sessions.in
@@ -66,8 +69,8 @@ writes 'lines that are no frames, and a report behind them, at the counter and a
   LC_ALL=C sort > "$room/calls"
 writes "it imports nothing, and exports nickelgrove.h's calls and its memory" "$room/calls" ask calls "$module"
 
-used=$(ask stack "$module" $kib < recorded/long.in) && [ "$used" -gt 0 ] && [ "$used" -le $((kib / 2)) ]
-tried $? "chains to level 253 take ${used:-no} KiB of its stack, which has $kib"
+used=$(cat recorded/long.in recorded/tidy.in | ask stack "$module" $kib) && [ "$used" -gt 0 ] && [ "$used" -le $((kib / 2)) ]
+tried $? "chains to level 253, tidied among others, take ${used:-no} KiB of its stack, which has $kib"
 printf '%s\n' 'stopped' 'nothing written over' 'refused: this counter was stopped in a call: open another one' > "$room/stopped"
 writes "on a stack of $small_kib KiB the engine stops it, and nothing is written over" "$room/stopped" ask overflow "$small" $small_kib < recorded/long.in
 engine=(--stack-size=256)

@@ -65,8 +65,13 @@ fn main() -> Result<(), Box<dyn Error>> {
         println!("      the free piece with serial {}: {}", piece.serial(), sheet.why_not(piece, beam)?.default);
     }
 
-    let removal = sheet.remove(annas.first)?;
+    let removal = sheet.remove(annas.part)?;
     println!("16:00 Anna has measured again; out come the parts {:?}: {}", removal.parts, usage(&sheet)?);
+    let (before, count) = (sheet.figures()?.nodes, sheet.tidy()?);
+    println!(
+        "16:05 the sheet is tidied: {count} structure is taken out, and {} of {before} nodes are left",
+        sheet.figures()?.nodes
+    );
 
     assert!(sheet.removable()?.contains(&carlas.part));
     println!("18:00 the saw's list for the parts {:?}:", sheet.part_numbers()?);

@@ -40,6 +40,8 @@ pub enum Answer {
     EatenArea(u64),
     /// 1a: what the blade eats with each of the saw cuts, in their order.
     CutAmounts(Vec<u8>),
+    /// 1b: the sheet is tidy; how many structures were taken out.
+    Tidied(u16),
 }
 
 impl Answer {
@@ -84,7 +86,7 @@ fn read(bytes: &[u8]) -> Option<Result<Answer, Refusal>> {
     match *bytes {
         [0xff, 14, _] => Some(Err(Refusal::NotUnderstood)),
         // a malformed line alone is said 14 to, and 255 is said by nobody
-        [0x01..=0x07 | 0x11..=0x1a, number @ 1..=13, _] => Refusal::from_number(number).map(Err),
+        [0x01..=0x07 | 0x11..=0x1b, number @ 1..=13, _] => Refusal::from_number(number).map(Err),
         [op, 0, ref fields @ .., _] => {
             let mut fields = Fields(fields);
             let answer = fields.answer(op)?;
@@ -150,6 +152,7 @@ impl Fields<'_> {
                 let count = self.u16()?;
                 Answer::CutAmounts(self.rest(count, 1)?.to_vec())
             }
+            0x1b => Answer::Tidied(self.u16()?),
             _ => return None,
         })
     }

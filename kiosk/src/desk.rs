@@ -5,9 +5,9 @@ use std::fmt;
 use crate::records::{SessionRecord, DESK_LONGEST};
 use crate::{archive, Answer, Refusal, Request};
 
-/// A desk: a counter that answers the questions about its sheet too. It has a sheet and a kept snapshot of it, none of both at the start.
+/// A desk: a counter that answers the questions about its sheet too, and tidies it. It has a sheet and a kept snapshot of it, none of both at the start.
 ///
-/// Its frames are the counter's and ten more (docs/DESK.md). A [`Sheet`](crate::Sheet) has the same calls with Rust's types; take a desk where frames come
+/// Its frames are the counter's and eleven more (docs/DESK.md). A [`Sheet`](crate::Sheet) has the same calls with Rust's types; take a desk where frames come
 /// from outside, or where sheets are opened one after another and share what was kept.
 ///
 /// It can't be copied: of two desks with one past, each would issue the other's marks for pieces of its own.

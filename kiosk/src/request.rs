@@ -93,6 +93,8 @@ pub enum Request {
     EatenArea,
     /// 1a: what the blade eats with each of the saw cuts.
     CutAmounts,
+    /// 1b: take out each structure that holds one free piece and nothing else, until there is none.
+    Tidy,
 }
 
 impl Request {
@@ -117,6 +119,7 @@ impl Request {
             Request::Cuts => 0x18,
             Request::EatenArea => 0x19,
             Request::CutAmounts => 0x1a,
+            Request::Tidy => 0x1b,
         }
     }
 
@@ -151,7 +154,8 @@ impl Request {
             | Request::Snapshot
             | Request::Cuts
             | Request::EatenArea
-            | Request::CutAmounts => (),
+            | Request::CutAmounts
+            | Request::Tidy => (),
         }
         // the check makes all bytes add to 0
         bytes.push(bytes.iter().fold(0, |check: u8, byte| check.wrapping_sub(*byte)));

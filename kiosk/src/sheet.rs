@@ -151,7 +151,8 @@ impl Sheet {
         answered!(self.desk.ask(&Request::Insert { piece, part, offer }), Answer::Booked(booking) => booking)
     }
 
-    /// Takes a part out, or a structure with all that is in it. What the blade ate behind it comes back with it.
+    /// Takes a part out, or a structure with all that is in it. What the blade ate behind it comes back with it. The structures that it lay in stay;
+    /// [`Sheet::tidy`] takes out those that hold nothing any more.
     ///
     /// ```
     /// use nickelgrove_kiosk::{Part, Refusal, Sheet, Way};
@@ -170,6 +171,37 @@ impl Sheet {
     /// [`Refusal::OtherSheet`], [`Refusal::Gone`], [`Refusal::WholeSheet`], [`Refusal::NothingToRemove`], [`Refusal::SerialsUsedUp`], in this order.
     pub fn remove(&mut self, piece: Mark) -> Result<Removal, Refusal> {
         answered!(self.desk.ask(&Request::Remove { piece }), Answer::Removed(removal) => removal)
+    }
+
+    /// Tidies the sheet. A structure that holds one free piece and nothing else is taken out, as [`Sheet::remove`] takes it out; then the next one, until there
+    /// is none. Gives how many were taken out: 0 where the sheet was tidy.
+    ///
+    /// A part that is removed leaves its structures behind, and their board, whole again, lies stages down, where it turns parts away. Tidying joins it with
+    /// the free piece of the row above. Parts stay, and so do their marks; the marks of the structures and of the free pieces that go are gone. Of a sheet that
+    /// was tidy, booking a part, removing it and tidying gives the same tree back (docs/RULES.md, "Tidying").
+    ///
+    /// ```
+    /// use nickelgrove_kiosk::{Part, Reason, Refusal, Sheet, Way};
+    ///
+    /// // two stages
+    /// let mut sheet = Sheet::open(1, 100, 60, Way::Vertical, 2)?;
+    /// let (free, shelf) = (sheet.free_pieces()?[0], Part::new(7, 100, 20));
+    /// let booking = sheet.insert(free, shelf, sheet.offers(free, shelf)?[0])?;
+    /// sheet.remove(booking.part)?;
+    /// // the board is whole again, but it lies in the shelf's structure, at the second stage
+    /// let (free, panel) = (sheet.free_pieces()?[0], Part::new(8, 40, 30));
+    /// assert_eq!(sheet.why_not(free, panel)?.default, Reason::StagesUsedUp);
+    /// assert_eq!(sheet.tidy()?, 1);
+    /// assert_eq!(sheet.offers(free, panel), Err(Refusal::Gone));
+    /// assert!(sheet.room_light(panel)?.is_some());
+    /// assert_eq!(sheet.tidy()?, 0);
+    /// # Ok::<(), Refusal>(())
+    /// ```
+    ///
+    /// # Errors
+    /// [`Refusal::SerialsUsedUp`]: each structure that is taken out takes a serial, and there are not enough for all of them. None is taken out then.
+    pub fn tidy(&mut self) -> Result<u16, Refusal> {
+        answered!(self.desk.ask(&Request::Tidy), Answer::Tidied(count) => count)
     }
 
     /// Remembers the sheet as it stands, in place of what was kept before.

@@ -11,7 +11,7 @@ use std::sync::mpsc;
 use std::time::Duration;
 use std::{env, process, thread};
 
-use common::lines_of;
+use common::{counters_lines_of, lines_of};
 
 fn command(words: &[&str]) -> Command {
     let mut command = Command::new(env!("CARGO_BIN_EXE_nickelgrove"));
@@ -76,8 +76,15 @@ fn counter_answers_as_the_program_does() {
     let fields = lines_of("recorded/sessions.out")
         .into_iter()
         .map(|line| line.split(|byte| *byte == b' ').next().expect("a field").to_vec());
-    let answers: Vec<u8> = fields.flat_map(|field| [field.as_slice(), b"\n"].concat()).collect();
-    assert!(run(&["counter"], &checkout("recorded/sessions.in")).stdout == answers);
+    let answers: Vec<Vec<u8>> = fields.map(|field| [field.as_slice(), b"\n"].concat()).collect();
+    // the counter doesn't know tidying: it gets the lines before the first that asks for it, and the desk gets all
+    let frames = counters_lines_of("recorded/sessions.in");
+    assert!(frames.len() > 5_000);
+    assert!(
+        run(&["counter"], &[frames.join(b"\n".as_slice()), b"\n".to_vec()].concat()).stdout == answers[..frames.len()].concat()
+    );
+    assert!(run(&["desk"], &checkout("recorded/sessions.in")).stdout == answers.concat());
+    assert!(run(&["desk"], &checkout("recorded/tidy.in")).stdout == checkout("recorded/tidy.out"));
 }
 
 /// Lines that are no frames, and the ends that an input may have: as tests/counter_lines.sh has them of the program.
@@ -180,6 +187,31 @@ fn a_session_is_said_and_drawn() {
     assert_eq!(svg.matches("http").count(), 1, "no more than the name of the language");
     let text = String::from_utf8(run(&["draw", "--text"], session.as_bytes()).stdout).expect("a picture");
     assert!(text.lines().all(|line| line.len() <= 78) && text.contains(" 1 panel 7 ") && text.contains("3 offcut"), "{text}");
+}
+
+/// Panel 7 is taken out of it, which leaves its strip, and the sheet is tidied: what is said and drawn then is the board of the opening.
+#[test]
+fn a_tidied_session_is_said_and_drawn() {
+    let untidy = format!("{OPEN}{BOOKING}0400010200000004f5\n");
+    let lines = "Sheet 100 by 60: 1 cut makes 2 pieces.\n\
+        1. Take board 1, 100 by 60. Cut down, 40 from the left. Left: offcut 40 by 60. Right: offcut 60 by 60.\n";
+    assert_eq!(String::from_utf8_lossy(&run(&["say"], untidy.as_bytes()).stdout), lines);
+    let tidy = format!("{untidy}1be5\n");
+    for (session, pieces) in [(untidy.as_str(), 2), (OPEN, 1), (tidy.as_str(), 1)] {
+        let svg = String::from_utf8(run(&["draw"], session.as_bytes()).stdout).expect("a picture");
+        assert_eq!(svg.matches(">offcut<").count(), pieces);
+    }
+    for words in [["say"].as_slice(), &["draw"], &["draw", "--text"]] {
+        let output = run(words, tidy.as_bytes());
+        assert!(output.status.success() && output.stderr.is_empty());
+        assert_eq!(output.stdout, run(words, OPEN.as_bytes()).stdout, "{words:?}");
+    }
+    let each = String::from_utf8(run(&["say", "--each"], tidy.as_bytes()).stdout).expect("words");
+    assert!(each.ends_with("After line 4:\nSheet 100 by 60: no cut. It is offcut 100 by 60.\n"), "{each}");
+    let desk = run(&["desk"], format!("1be5\n{tidy}1be5\n1b00e5\n").as_bytes());
+    assert!(desk.status.success() && desk.stdout.ends_with(b"\n1b000001e4\n1b000000e5\nff0ef3\n"));
+    assert!(desk.stdout.starts_with(b"1b01e4\n"));
+    assert!(run(&["counter"], tidy.as_bytes()).stdout.ends_with(b"\nff0ef3\n"));
 }
 
 const OPEN_WITH_BLADE: &str = "010001000000640000003c01030357\n";

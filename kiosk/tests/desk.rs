@@ -3,19 +3,19 @@
 mod common;
 
 use common::typed::{request_of, said, MALFORMED};
-use common::{line, lines_of, mark, numbers, part, Random, OPEN};
+use common::{counters_lines_of, line, lines_of, mark, numbers, part, Random, OPEN, TIDY};
 use nickelgrove_kiosk::{Answer, Counter, Desk, Mark, Offer, Part, Refusal, Request, Rotation, Shape, Sheet, Turn, Way};
 
 /// A line of one of the desk's own ops, however malformed.
 fn is_the_desks(line: &[u8]) -> bool {
-    matches!(line, [b'1', b'1'..=b'9' | b'a', ..])
+    matches!(line, [b'1', b'1'..=b'9' | b'a' | b'b', ..])
 }
 
 #[test]
 fn the_counters_lines_at_the_desk() {
     let (mut desk, mut counter) = (Desk::new(), Counter::default());
     for file in ["recorded/sessions.in", "recorded/long.in", "crates/counter/stdin"] {
-        for frame in lines_of(file) {
+        for frame in counters_lines_of(file) {
             let answer = counter.answer(&frame).to_string();
             assert_eq!(desk.answer(&frame), answer);
             assert_eq!(said(numbers(&answer)[0], &Answer::read(&answer)), answer);
@@ -23,10 +23,10 @@ fn the_counters_lines_at_the_desk() {
     }
 }
 
-/// A request is answered as its line is, over the recorded sessions and with the desk's questions behind each line.
+/// A request is answered as its line is, over the recorded sessions and with the desk's questions behind each line; then once more, and the sheet is tidied
+/// behind each line too, so that other lines are refused.
 #[test]
 fn a_request_is_its_line() {
-    let (mut desk, mut by_line) = (Desk::default(), Desk::new());
     let questions = [
         Request::PartNumbers,
         Request::Figures,
@@ -36,13 +36,16 @@ fn a_request_is_its_line() {
         Request::CutAmounts,
         Request::FreePiece { position: 0 },
     ];
-    for frame in lines_of("recorded/sessions.in") {
-        let Some(request) = request_of(&frame) else { continue };
-        assert_eq!(request.line().as_bytes(), frame);
-        for request in [request].into_iter().chain(questions) {
-            let answer = by_line.answer(request.line()).to_string();
-            assert_eq!(desk.ask(&request), Answer::read(&answer), "{request:?}");
-            assert_eq!(said(request.op(), &Answer::read(&answer)), answer);
+    for behind in [questions.to_vec(), [&questions[..], &[Request::Tidy]].concat()] {
+        let (mut desk, mut by_line) = (Desk::default(), Desk::new());
+        for frame in lines_of("recorded/sessions.in") {
+            let Some(request) = request_of(&frame) else { continue };
+            assert_eq!(request.line().as_bytes(), frame);
+            for request in [request].iter().chain(&behind) {
+                let answer = by_line.answer(request.line()).to_string();
+                assert_eq!(desk.ask(request), Answer::read(&answer), "{request:?}");
+                assert_eq!(said(request.op(), &Answer::read(&answer)), answer);
+            }
         }
     }
 }
@@ -53,7 +56,7 @@ fn the_desks_lines_at_the_counter() {
     let (mut desk, mut counter) = (Desk::new(), Counter::new());
     counter.answer(OPEN);
     desk.answer(OPEN);
-    for op in 0x11..=0x1a {
+    for op in 0x11..=0x1b {
         let fields = match op {
             0x11 => [mark(1, 2), part(40, 60)].concat(),
             0x12 => part(40, 60),
@@ -67,11 +70,11 @@ fn the_desks_lines_at_the_counter() {
 }
 
 /// Random bytes, random digits, and frames of random fields with a right check: each line has one answer, which can be read and is of its op; and where the counter
-/// knows the op, it is the counter's.
+/// knows the op, it is the counter's. A second desk is handed the same frames, and tidies behind each.
 #[test]
 fn random_lines_are_answered() {
     let (mut desk, mut counter, mut random) = (Desk::new(), Counter::new(), Random(8));
-    let mut carried_out = 0;
+    let (mut tidying, mut carried_out) = (Desk::new(), 0);
     for _ in 0..10_000 {
         let count = random.below(40) as usize;
         let bytes: Vec<u8> = (0..count).map(|_| random.below(256) as u8).collect();
@@ -112,6 +115,12 @@ fn random_lines_are_answered() {
         assert!(answer == MALFORMED || numbers(&answer)[0] == op);
         assert!(is_the_desks(frame.as_bytes()) || counter.answer(&frame) == answer);
         carried_out += usize::from(read.is_ok());
+        for frame in [&frame, TIDY] {
+            let answer = tidying.answer(frame);
+            assert_ne!(Answer::read(answer), Err(Refusal::Unreadable), "{frame}: {answer}");
+            assert!(answer == MALFORMED && frame != TIDY || answer[..2] == frame[..2]);
+        }
+        assert!(matches!(tidying.ask(&Request::Tidy), Ok(Answer::Tidied(0)) | Err(Refusal::NoSheet)));
     }
     assert!(carried_out > 2_000, "{carried_out}");
 }

@@ -36,5 +36,7 @@ fn an_archive_of_another_build_is_refused() {
     drop(Counter::new());
     // but what it answers can't be read: that is said, and is no sheet
     assert_eq!(open().err(), Some(Refusal::Unreadable));
-    assert_eq!(Desk::new().ask(&nickelgrove_kiosk::Request::Keep), Err(Refusal::Unreadable));
+    for request in [nickelgrove_kiosk::Request::Keep, nickelgrove_kiosk::Request::Tidy] {
+        assert_eq!(Desk::new().ask(&request), Err(Refusal::Unreadable));
+    }
 }

@@ -1,7 +1,8 @@
 //! Counts what recorded frames reach: each shape, cut and rotation, each kind of removal, each refusal, each answer of the light, each kind of
-//! saw cut, each thing that a blade does.
+//! saw cut, each thing that a blade does, each kind of tidying.
 
 mod blade;
+mod tidy;
 
 use std::collections::{BTreeMap, BTreeSet};
 
@@ -10,6 +11,7 @@ use crate::session::Session;
 use crate::sheet::Sheet;
 use crate::tree::Node;
 use blade::Before;
+use tidy::Tidying;
 
 const CUTS: [&str; 2] = ["Horizontal", "Vertical"];
 const ROTATIONS: [&str; 2] = ["Default", "Rotated"];
@@ -17,13 +19,16 @@ const SHAPES: [&str; 4] = ["AlongCurrentCut", "AcrossCurrentCut", "AlongThenAcro
 /// By their numbers; the last is what a cut says of siblings.
 const KINDS: [&str; 4] = ["free piece", "part", "structure", "several"];
 const LIGHTS: [&str; 5] = ["first free piece", "later free piece", "no", "no, though it fits", "refused"];
-const OPS: [&str; 7] = ["open", "offers", "insert", "remove", "keep", "restore", "report"];
+
+/// The counter's ops, from 1 on, and the desk's that tidies.
+const OPS: [&str; 8] = ["open", "offers", "insert", "remove", "keep", "restore", "report", "tidy"];
 
 /// The refusals of each op that frames can reach in a few thousand lines: all but 9.
-const REFUSALS: [&[u8]; 7] = [&[2], &[1, 3, 4, 5, 6], &[1, 3, 4, 5, 6, 7, 8], &[1, 4, 5, 10, 11], &[1], &[1, 4], &[1]];
+const REFUSALS: [&[u8]; 8] = [&[2], &[1, 3, 4, 5, 6], &[1, 3, 4, 5, 6, 7, 8], &[1, 4, 5, 10, 11], &[1], &[1, 4], &[1], &[1]];
 
 pub struct Coverage {
     counts: BTreeMap<String, u64>,
+    tidying: Tidying,
     calls: u64,
     most_nodes: usize,
     deepest: u8,
@@ -50,8 +55,9 @@ impl Default for Coverage {
         names.extend(CUTS.map(cut_of_way));
         names.extend(KINDS.map(cut_that_leaves));
         names.extend(blade::names());
+        names.extend(tidy::names());
         let counts = names.into_iter().map(|name| (name, 0)).collect();
-        Coverage { counts, calls: 0, most_nodes: 0, deepest: 0 }
+        Coverage { counts, tidying: Tidying::default(), calls: 0, most_nodes: 0, deepest: 0 }
     }
 }
 
@@ -61,13 +67,14 @@ impl Coverage {
         let read = Request::read(line);
         let before = read.map(|request| names_before(session, &request)).unwrap_or_default();
         let before_blade = read.map(|request| Before::of(session, &request)).unwrap_or_default();
+        let sheet_before = session.sheet().cloned();
         let reply = session.answer(line);
         self.calls += 1;
         let Some(request) = reply.request else {
             assert_eq!(reply.answer, MALFORMED);
             return self.reach("malformed".to_string());
         };
-        let op = OPS[usize::from(request.op()) - 1];
+        let op = *OPS.get(usize::from(request.op()) - 1).unwrap_or(&OPS[7]);
         let number = u8::from_str_radix(&reply.answer[2..4], 16).expect("an answer has a number");
         match number {
             0 => {
@@ -77,6 +84,7 @@ impl Coverage {
             number => self.reach(refused(op, number)),
         }
         before_blade.reached(session, &request, number).into_iter().for_each(|name| self.reach(name));
+        self.tidying.reached(sheet_before.as_ref(), session, &request, number).into_iter().for_each(|name| self.reach(name));
         if let Some(part) = request.part() {
             self.reach(light(light_of(session, part)));
         }

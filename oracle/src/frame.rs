@@ -1,5 +1,5 @@
-//! Counter frames, as document 01 sets them out, with the blade's width at the end of an opening (document 02, change request 4): a line read into
-//! a request, a request and an answer written as a line.
+//! Counter frames, as document 01 sets them out, with the blade's width at the end of an opening (document 02, change request 4), and the desk's frame that
+//! tidies (change request 5): a line read into a request, a request and an answer written as a line.
 
 use crate::core::entities::parttype::PartType;
 use crate::core::insertion::insertion_blueprint::InsertionShape;
@@ -126,7 +126,11 @@ pub enum Request {
     Keep,
     Restore,
     Report,
+    Tidy,
 }
+
+/// The op that tidies, at the desk and for `inspect`; at the counter it is malformed. The counter's ops are 1 to 7.
+const TIDY: u8 = 0x1b;
 
 impl Request {
     pub fn op(&self) -> u8 {
@@ -138,6 +142,7 @@ impl Request {
             Request::Keep => 5,
             Request::Restore => 6,
             Request::Report => 7,
+            Request::Tidy => TIDY,
         }
     }
 
@@ -168,6 +173,7 @@ impl Request {
             5 => Request::Keep,
             6 => Request::Restore,
             7 => Request::Report,
+            TIDY => Request::Tidy,
             _ => return None,
         };
         fields.0.is_empty().then_some(request)
@@ -188,7 +194,7 @@ impl Request {
                 bytes.extend([offer.rotation, offer.shape]);
             }
             Request::Remove { mark } => mark.write(&mut bytes),
-            Request::Keep | Request::Restore | Request::Report => {}
+            Request::Keep | Request::Restore | Request::Report | Request::Tidy => {}
         }
         bytes
     }

@@ -5,6 +5,7 @@
 
 mod faulty;
 mod long;
+mod tidy;
 
 use std::str::FromStr;
 
@@ -68,40 +69,55 @@ impl FromStr for Kind {
     }
 }
 
-/// A session that is to be made: its kind, and whether its sheets are opened with a blade. Without one their blade width is 0, which the Rust judges.
+/// A session that is to be made: its kind, whether its sheets are opened with a blade, and whether they are tidied. Without a blade their blade width is 0,
+/// which the Rust judges.
 #[derive(Clone, Copy)]
 struct Plan {
     kind: Kind,
     with_blade: bool,
+    tidies: bool,
 }
 
-/// The end of a word for sessions with a blade.
+/// The ends of a word: for sessions that tidy, and before it for sessions with a blade.
+const TIDY: &str = "+tidy";
 const BLADE: &str = "+blade";
 
 /// How often `all` goes through the short kinds before it goes through the long ones, whose sessions have ten times as many lines.
 const ROUNDS: usize = 10;
 
 /// The sessions that a word names, in turn: a kind; `mixed`, the short kinds; `long`, the long ones; each with `+blade` behind it for sessions with a
-/// blade. `all` are both, without a blade and with one.
+/// blade, and then `+tidy` for sessions that tidy. `all` are both, without a blade and with one; `all+tidy` the same, and they tidy.
 fn plans(word: &str) -> Result<Vec<Plan>, String> {
-    if word == "all" {
-        let short = [plans("mixed")?, plans("mixed+blade")?].concat();
-        return Ok([short.repeat(ROUNDS), plans("long")?, plans("long+blade")?].concat());
+    let (rest, tidies) = without(word, TIDY);
+    if rest == "all" {
+        let end = if tidies { TIDY } else { "" };
+        let of = |kinds: &str| plans(&format!("{kinds}{end}"));
+        let short = [of("mixed")?, of("mixed+blade")?].concat();
+        return Ok([short.repeat(ROUNDS), of("long")?, of("long+blade")?].concat());
     }
-    let (kinds, with_blade) = word.strip_suffix(BLADE).map_or((word, false), |kinds| (kinds, true));
+    let (kinds, with_blade) = without(rest, BLADE);
     let kinds = match kinds {
         "mixed" if with_blade => [MIXED.to_vec(), vec![Kind::Scraps]].concat(),
         "mixed" => MIXED.to_vec(),
         "long" => LONG.to_vec(),
         kind => vec![kind.parse()?],
     };
-    Ok(kinds.into_iter().map(|kind| Plan { kind, with_blade }).collect())
+    Ok(kinds.into_iter().map(|kind| Plan { kind, with_blade, tidies }).collect())
+}
+
+/// A word without this end, and whether it had it.
+fn without<'a>(word: &'a str, end: &str) -> (&'a str, bool) {
+    word.strip_suffix(end).map_or((word, false), |rest| (rest, true))
 }
 
 /// The frames of sessions: so many of the first word, then so many of the next.
 pub fn lines(seed: u64, asked: &[(u32, &str)]) -> Result<Vec<String>, String> {
     let mut generator = Generator::new(seed);
     generator.before_opening();
+    if let Some((_, word)) = asked.first() {
+        generator.tidies = plans(word)?[0].tidies;
+        generator.tidy_before_opening();
+    }
     for (sessions, word) in asked {
         for (_, plan) in (0..*sessions).zip(plans(word)?.iter().cycle()) {
             generator.session(*plan);
@@ -117,6 +133,8 @@ struct Generator {
     past: Vec<Mark>,
     /// Whether sheets are opened with a blade.
     with_blade: bool,
+    /// Whether they are tidied.
+    tidies: bool,
     /// The part size of an `Equal` session.
     unit: (u32, u32),
 }
@@ -124,7 +142,7 @@ struct Generator {
 impl Generator {
     fn new(seed: u64) -> Self {
         let (rng, session) = (Rng::new(seed), Session::default());
-        Generator { rng, session, lines: Vec::new(), past: Vec::new(), with_blade: false, unit: (1, 1) }
+        Generator { rng, session, lines: Vec::new(), past: Vec::new(), with_blade: false, tidies: false, unit: (1, 1) }
     }
 
     fn sheet(&self) -> &Sheet {
@@ -158,8 +176,9 @@ impl Generator {
         self.send(Request::Offers { mark, part });
     }
 
-    fn session(&mut self, Plan { kind, with_blade }: Plan) {
+    fn session(&mut self, Plan { kind, with_blade, tidies }: Plan) {
         self.with_blade = with_blade;
+        self.tidies = tidies;
         match kind {
             Kind::Chain => self.chain(),
             Kind::Deep => self.deep(),
@@ -236,6 +255,9 @@ impl Generator {
 
     fn call(&mut self, kind: Kind) {
         self.remember();
+        if self.tidies && self.rng.chance(20) {
+            return self.tidying(kind);
+        }
         if kind == Kind::Faulty && self.rng.chance(50) {
             return self.fault();
         }

@@ -9,6 +9,7 @@ mod frame;
 mod generate;
 mod inspect;
 mod marks;
+mod orders;
 mod records;
 mod rng;
 mod saw;
@@ -31,30 +32,49 @@ use session::Session;
 use sheet::Sheet;
 
 const USAGE: &str = "usage:
-  oracle run [--counter]                     answer the frames on standard input as inspect (or counter) does
+  oracle run [--counter | --desk]            answer the frames on standard input as inspect (or counter, or desk) does
   oracle run --judges                        say who judges each of them: rust (with the model beside it), model, or none before an opening
-  oracle check [--counter] FRAMES ANSWERS    replay recorded frames and report every answer that differs
+  oracle check [--counter | --desk] FRAMES ANSWERS    replay recorded frames and report every answer that differs
   oracle gen SEED SESSIONS [KIND]            write the frames of random sessions; more SESSIONS KIND may follow
   oracle offers SEED COUNT                   write records of what a free piece offers
   oracle blocks SEED COUNT                   write records of the nodes that a shape makes
   oracle coverage FRAMES...                  count what recorded frames reach; fails if something is never reached
+  oracle orders SEED SESSIONS KIND           tidy the states of random sessions in other orders too; panics where the trees differ
   oracle differences                         show by running where the Rust and document 01 differ";
 
-/// What is printed for a line: as `inspect` does; or the answer alone, as `counter` does; or who judges the sheet that is there after it.
+/// What is printed for a line: as `inspect` does; or the answer alone, as `counter` and `desk` do; or who judges the sheet that is there after it.
 #[derive(Clone, Copy)]
 enum View {
     Inspect,
     Counter,
+    Desk,
     Judges,
 }
 
 impl View {
+    /// The view that a word asks for.
+    fn named(word: &str) -> Option<Self> {
+        match word {
+            "--counter" => Some(View::Counter),
+            "--desk" => Some(View::Desk),
+            _ => None,
+        }
+    }
+
+    /// A session as the program of this view begins it.
+    fn session(self) -> Session {
+        match self {
+            View::Counter => Session::at_counter(),
+            _ => Session::default(),
+        }
+    }
+
     /// Answers one line, and gives what the program of this view prints for it.
     fn answer(self, session: &mut Session, line: &[u8]) -> String {
         let reply = session.answer(line);
         match self {
             View::Inspect => inspect::line(session, &reply),
-            View::Counter => reply.answer,
+            View::Counter | View::Desk => reply.answer,
             View::Judges => session.sheet().map_or("none", Sheet::judge).to_string(),
         }
     }
@@ -77,10 +97,10 @@ fn main() -> ExitCode {
 fn command(words: &[&str]) -> Result<bool, String> {
     match words {
         ["run"] => run(View::Inspect),
-        ["run", "--counter"] => run(View::Counter),
         ["run", "--judges"] => run(View::Judges),
+        ["run", word] => run(View::named(word).ok_or(USAGE)?),
         ["check", frames, answers] => check(View::Inspect, frames, answers),
-        ["check", "--counter", frames, answers] => check(View::Counter, frames, answers),
+        ["check", word, frames, answers] => check(View::named(word).ok_or(USAGE)?, frames, answers),
         ["gen", seed, sessions] => gen(seed, &[sessions, "mixed"]),
         ["gen", seed, asked @ ..] if !asked.is_empty() && asked.len() % 2 == 0 => gen(seed, asked),
         ["offers", seed, count] => {
@@ -92,6 +112,7 @@ fn command(words: &[&str]) -> Result<bool, String> {
             Ok(true)
         }
         ["coverage", files @ ..] if !files.is_empty() => cover(files),
+        ["orders", seed, sessions, kind] => orders(number(seed)?, number(sessions)?, kind),
         ["differences"] => {
             differences::show();
             Ok(true)
@@ -135,7 +156,7 @@ fn open(path: &str) -> Result<BufReader<File>, String> {
 }
 
 fn run(view: View) -> Result<bool, String> {
-    let mut session = Session::default();
+    let mut session = view.session();
     let mut out = BufWriter::new(io::stdout().lock());
     each_line(io::stdin().lock(), |line| writeln!(out, "{}", view.answer(&mut session, line)).map_err(words_of))?;
     out.flush().map_err(words_of)?;
@@ -157,7 +178,7 @@ fn gen(seed: &str, asked: &[&str]) -> Result<bool, String> {
 /// Replays frames and compares with the recorded answers, line by line and byte for byte.
 fn check(view: View, frames: &str, answers: &str) -> Result<bool, String> {
     let mut recorded = open(answers)?;
-    let mut session = Session::default();
+    let mut session = view.session();
     let (mut lines, mut different, mut surplus) = (0, 0, 0);
     each_line(open(frames)?, |line| {
         lines += 1;
@@ -187,6 +208,12 @@ fn first_difference(ours: &str, theirs: &str) -> String {
         }
     }
     "more fields than there are, or no newline".to_string()
+}
+
+fn orders(seed: u64, sessions: u32, kind: &str) -> Result<bool, String> {
+    let tried = orders::tried(seed, sessions, kind)?;
+    println!("{tried:?}");
+    Ok(tried.others_first > 0 && tried.bookings.iter().all(|count| *count > 0))
 }
 
 fn cover(files: &[&str]) -> Result<bool, String> {

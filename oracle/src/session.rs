@@ -1,6 +1,7 @@
-//! A session at the counter: the layout and the kept snapshot, and the answer to each line.
+//! A session at the counter or the desk: the layout and the kept snapshot, and the answer to each line.
 //!
-//! The refusals, which the Rust does not have, are tested in document 01's order ("What a call says no with"), each op's as far as they concern it.
+//! The refusals, which the Rust does not have, are tested in document 01's order ("What a call says no with"), each op's as far as they concern it. At
+//! the desk a line may also ask to tidy (document 02, change request 5); the desk's questions are not known here.
 
 use crate::frame::{self, Mark, Offer, Opening, Part, Request};
 use crate::marks::{LAST_SERIAL, PLACES};
@@ -28,6 +29,8 @@ type Outcome = Result<Vec<u8>, u8>;
 pub struct Session {
     sheet: Option<Sheet>,
     kept: Option<Sheet>,
+    /// Whether a line that asks to tidy is malformed, as it is at the counter.
+    at_counter: bool,
 }
 
 /// What a line was read as, none if malformed, and how it was answered.
@@ -37,6 +40,10 @@ pub struct Reply {
 }
 
 impl Session {
+    pub fn at_counter() -> Self {
+        Session { at_counter: true, ..Session::default() }
+    }
+
     /// The sheet on the table, if one was opened. Every opened sheet is sound.
     pub fn sheet(&self) -> Option<&Sheet> {
         self.sheet.as_ref()
@@ -44,7 +51,7 @@ impl Session {
 
     /// Answers one line, given without its newline.
     pub fn answer(&mut self, line: &[u8]) -> Reply {
-        let request = Request::read(line);
+        let request = Request::read(line).filter(|request| !self.at_counter || *request != Request::Tidy);
         let answer = match &request {
             Some(request) => frame::answer(request.op(), &self.call(request)),
             None => frame::MALFORMED.to_string(),
@@ -61,6 +68,7 @@ impl Session {
             Request::Keep => self.keep(),
             Request::Restore => self.restore(),
             Request::Report => self.report(),
+            Request::Tidy => self.tidy(),
         }
     }
 
@@ -121,6 +129,17 @@ impl Session {
         Ok(given)
     }
 
+    /// The whole is tidied on a copy first: where the serials don't last for all of it, nothing is changed.
+    fn tidy(&mut self) -> Outcome {
+        let sheet = self.opened()?;
+        let mut tidied = sheet.clone();
+        let count = tidied.tidy();
+        serials_left(sheet, count)?;
+
+        self.sheet = Some(tidied);
+        Ok(u16::try_from(count).expect("no more than there are places").to_be_bytes().to_vec())
+    }
+
     fn keep(&mut self) -> Outcome {
         self.kept = Some(self.opened()?.clone());
         Ok(Vec::new())
@@ -154,7 +173,7 @@ impl Session {
         Ok(sheet.room_for(part))
     }
 
-    fn sheet_mut(&mut self) -> &mut Sheet {
+    pub fn sheet_mut(&mut self) -> &mut Sheet {
         self.sheet.as_mut().expect("tested before")
     }
 }

@@ -76,6 +76,9 @@ pub trait Judge {
 
     /// Removes a part or a structure; gives the new free piece and the part numbers that came out.
     fn remove(&mut self, mark: Mark) -> (Mark, Vec<u16>);
+
+    /// The structures other than the top that have one child, a free piece, by place.
+    fn untidy(&self) -> Vec<Mark>;
 }
 
 #[derive(Clone)]
@@ -105,6 +108,13 @@ impl Sheet {
         });
         self.model = kept.model.as_ref().map(|kept| kept.restored(last));
         self.opening = kept.opening;
+    }
+
+    /// As if serials up to this one had been issued.
+    #[cfg(test)]
+    pub fn spend_serials_to(&mut self, last: u32) {
+        self.rust = self.rust.as_ref().map(|rust| rust.with_last_serial(last));
+        self.model = self.model.as_ref().map(|model| model.restored(last));
     }
 
     pub fn number(&self) -> u16 {
@@ -190,6 +200,22 @@ impl Sheet {
 
     pub fn remove(&mut self, mark: Mark) -> (Mark, Vec<u16>) {
         self.tell(|judge| judge.remove(mark))
+    }
+
+    pub fn untidy(&self) -> Vec<Mark> {
+        self.ask(|judge| judge.untidy())
+    }
+
+    /// While some structure other than the top has one child and that is free, it is taken out by the removal, lowest place first; gives how many were.
+    /// Each judge finds them among its own nodes and takes them out by its own removal.
+    pub fn tidy(&mut self) -> usize {
+        let mut count = 0;
+        while let Some(lowest) = self.untidy().first() {
+            let (_, numbers) = self.remove(*lowest);
+            assert_eq!(numbers, [], "no part is in an untidy structure");
+            count += 1;
+        }
+        count
     }
 
     /// The free pieces themselves, in the order of their list.

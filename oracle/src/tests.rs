@@ -2,6 +2,7 @@
 //! saw cuts (document 02, change request 3), by hand.
 
 mod blade;
+mod tidy;
 
 use crate::core::orientation::Orientation::{Horizontal, Vertical};
 use crate::frame::{self, hexadecimal, Mark, Offer, Opening, Part, Request};
@@ -380,6 +381,7 @@ fn a_frame_reads_back() {
         Request::Keep,
         Request::Restore,
         Request::Report,
+        Request::Tidy,
     ];
     for request in requests {
         assert_eq!(Request::read(frame::line(request.bytes()).as_bytes()), Some(request));

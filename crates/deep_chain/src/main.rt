@@ -1,6 +1,6 @@
 // The deepest sound tree, 254 levels below the top, is examined, snapshotted, measured and its saw cuts are listed; and those of the longest row, 254
-// parts under the top, since the cuts are listed call by call along a row too. Then the whole chain is taken out, and one part of the row. The proofs
-// know no stack: tests/stack.sh runs this on one of 256 KiB.
+// parts under the top, since the cuts are listed call by call along a row too. Then the whole chain is taken out, and one part of the row; and the chain
+// without its part is tidied. The proofs know no stack: tests/stack.sh runs this on one of 256 KiB.
 ghost use Prim.Native.Nat.{_<_};
 use layout::layout::Layout;
 use marks::Mark;
@@ -213,6 +213,24 @@ fn nodes_without(l: Layout, place: u16, out: &mut [u16]) -> u64 {
     number(next.held)
 }
 
+// The part of the chain is taken out, and what is left is tidied: each of its structures but the top goes.
+fn tidy_without_part(l: Layout, out: &mut [u16]) {
+    let part = Mark {
+        layout: 0,
+        place: 254,
+        serial: 255,
+    };
+    let removed = l.remove(part, out);
+    let bare = removed.layout;
+    let tidied = bare.tidy();
+    let left = tidied.layout;
+    say(
+        b"structures that tidying takes out without the part ",
+        number(tidied.count),
+    );
+    say(b"nodes then ", number(left.held));
+}
+
 fn main() {
     let l = chain();
     let mut out = [0u8; 3600];
@@ -256,4 +274,5 @@ fn main() {
         b"nodes without the row's last part ",
         nodes_without(r, 254, &mut numbers),
     );
+    tidy_without_part(l, &mut numbers);
 }

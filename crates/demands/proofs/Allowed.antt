@@ -1,5 +1,6 @@
 -- The other direction of Outcomes: a call whose mark names a piece that it may take is not refused, so that every answer that meets its contract
--- is an accepted one. It rests on layout's laws of marks (Marks), of the check (Exactly) and of the ways that `remove` ends (RemoveEnds). Assumes nothing.
+-- is an accepted one; and so a tidying of a sound layout whose serials last. It rests on layout's laws of marks (Marks), of the check (Exactly) and of the ways
+-- that `remove` ends (RemoveEnds). Assumes nothing.
 use mathlib.Core.Path.{_≡_, refl, ap, _∙_}
 use mathlib.Core.Bool.{false}
 use mathlib.Core.Option.{none}
@@ -11,23 +12,26 @@ use Rattle.piece.specs.declared.parttype.PartType.{PartType}
 use Rattle.piece.specs.declared.insertion_blueprint.InsertionShape.{InsertionShape}
 use Rattle.piece.specs.Insertion.{newNodes}
 use Rattle.piece.specs.Kinds.{isFree}
+use Rattle.tree.specs.Tidy.{empties}
 use Rattle.marks.specs.declared.Mark.{Mark}
 use Rattle.layout.specs.declared.layout.Layout.{Layout}
 use Rattle.layout.specs.declared.replies.Sought.the-variants as sought
 use Rattle.layout.specs.declared.insert.Inserted.{Inserted}
 use Rattle.layout.specs.declared.remove.Removed.{Removed}
+use Rattle.layout.specs.declared.tidy.Tidied.{Tidied}
 use Rattle.layout.specs.Check.{limit, maxSerial, tree}
 use Rattle.layout.specs.Asked.{freePieceOf, soughtOf}
-use Rattle.layout.specs.SoundLayout.{SoundLayout}
+use Rattle.layout.specs.SoundLayout.{Sized, SoundLayout}
 use Rattle.layout.specs.Insert.{InsertDone, InsertSays, bookNo, bookingFor, insertNo, pieceAt}
 use Rattle.layout.specs.Inner.{Insertable, Takeable}
 use Rattle.layout.specs.Remove.{RemoveDone, RemoveSays, goNo, numbersOut, removeNo}
+use Rattle.layout.specs.Tidy.{TidyDone, TidySays, tidyNo}
 use Rattle.layout.proofs.Exactly.{sound-shown}
 use Rattle.layout.proofs.Listed.{piece-is}
 use Rattle.layout.proofs.Marks.{names-sought}
 use Rattle.layout.proofs.RemoveEnds.{long-enough, may-go}
 use Rattle.demands.specs.Life.{NamesPiece}
-use Rattle.demands.specs.Calls.{InsertAccepted, RemoveAccepted}
+use Rattle.demands.specs.Calls.{InsertAccepted, RemoveAccepted, TidyAccepted}
 
 module _ (l : Layout) (m : Mark) (named : NamesPiece l m) where
   -- refusals 4 and 5 do not apply
@@ -76,3 +80,10 @@ module _ (l : Layout) (m : Mark) (named : NamesPiece l m) where
     remove-allowed a says =
         let d : RemoveDone l (m .place) a = rw none-refuses at says in
         record { says = says; done = d .outcome }
+
+module _ (l : Layout) (sized : Sized l) (sound : SoundLayout l) (enough : l .serial + empties (tree l) ≤ maxSerial) where
+  pub tidy-allowed : (a : Tidied) → TidySays l a → TidyAccepted l a
+  unfolding TidySays tidyNo
+  tidy-allowed a says =
+      let d : TidyDone l a = rw (sound-shown l sized sound, le-leb (l .serial + empties (tree l)) maxSerial enough) at says in
+      record { says = says; done = d .outcome }

@@ -1,6 +1,6 @@
--- Demand 3: "Part area plus free area is the sheet, throughout", and with a blade part area, free area and eaten area. On every sound layout; and so after an opening, after every `insert` and `remove` on
--- a sound layout, accepted or refused, and after a `restore`. It rests on tree's law `area-conserved`, by looks' FiguresSay, and on
--- what a call has done (Outcomes).
+-- Demand 3: "Part area plus free area is the sheet, throughout", and with a blade part area, free area and eaten area. On every sound layout; and so after an
+-- opening, after every `insert`, `remove` and `tidy` on a sound layout, accepted or refused, and after a `restore`. It rests on tree's law `area-conserved`,
+-- by looks' FiguresSay, and on what a call has done (Outcomes).
 use mathlib.Core.Path.{_≡_, refl, sym, ap, _∙_, subst}
 use mathlib.Core.Bool.{true}
 use mathlib.Core.List.{List}
@@ -19,6 +19,7 @@ use Rattle.layout.specs.declared.layout.Layout.{Layout}
 use Rattle.layout.specs.declared.open.Opened.{Opened}
 use Rattle.layout.specs.declared.insert.Inserted.{Inserted}
 use Rattle.layout.specs.declared.remove.Removed.{Removed}
+use Rattle.layout.specs.declared.tidy.Tidied.{Tidied}
 use Rattle.layout.specs.declared.restore.Restored.{Restored}
 use Rattle.layout.specs.Check.{tree, soundB}
 use Rattle.layout.specs.declared.open.OpenOutcome.the-variants.{Free, Refused}
@@ -27,6 +28,7 @@ use Rattle.layout.specs.Open.{freshLayout}
 use Rattle.layout.specs.Next.{Next}
 use Rattle.layout.specs.Insert.{InsertSays}
 use Rattle.layout.specs.Remove.{RemoveSays}
+use Rattle.layout.specs.Tidy.{TidySays}
 use Rattle.layout.specs.Restore.{greater, restoreOf, withSerial}
 use Rattle.layout.proofs.Exactly.{sound-says, sound-shown}
 use Rattle.layout.proofs.Opened.{fresh-sized, fresh-sound}
@@ -35,7 +37,7 @@ use Rattle.questions.specs.declared.replies.AreaAnswer.the-variants.{Area}
 use Rattle.questions.specs.Answers.{usedAreaOf, freeAreaOf, eatenAreaOf}
 use Rattle.questions.proofs.FiguresSay.{areas-cover}
 use Rattle.demands.specs.Calls.{AreasCover, OpenAccepted, RestoreAccepted}
-use Rattle.demands.proofs.Outcomes.{opened-so, inserted-so, removed-so, PutBack, restored-so}
+use Rattle.demands.proofs.Outcomes.{opened-so, inserted-so, removed-so, tidied-so, PutBack, restored-so}
 
 -- on every sound layout
 pub areas-cover-sound : (l : Layout) → Sized l → soundB l ≡ true → AreasCover l (l .settings .sheet)
@@ -75,6 +77,12 @@ pub areas-after-remove : (l : Layout) (m : Mark) (room : ℕ) (a : Removed) → 
     → RemoveSays l m room a → AreasCover (a .layout) (l .settings .sheet)
 areas-after-remove l m room a sized sound says =
     ⊎-elim (λ e. rw e (areas-cover-sound l sized sound)) (λ z. next-covers l (a .layout) (z .1 .next)) (removed-so l m room a sized says)
+
+pub areas-after-tidy : (l : Layout) (a : Tidied) → Sized l → soundB l ≡ true → TidySays l a → AreasCover (a .layout) (l .settings .sheet)
+areas-after-tidy l a sized sound says =
+    ⊎-elim (λ e. rw e (areas-cover-sound l sized sound))
+    (λ z. sound-covers (a .layout) (l .settings .sheet) (z .means .sized) (z .means .sound) (ap (λ (s : Settings). s .sheet) (z .means .settings)))
+    (tidied-so l a sized says)
 
 -- ---- after `restore` of the snapshot k
 

@@ -1,6 +1,7 @@
 -- Demand 1 at the counter: a run of lines is a life, from the opening of a number to the next opening, if that number is opened once; and so every mark of it
--- that an answer has written names its piece, or is refused with 5, or, once another layout was opened, with 4. Rests on specs/Counter, on what
--- an answer does (CounterWays, CounterSteps), and on the laws of a life (Lives, Marks, MarksGiven). Assumes nothing.
+-- that an answer has written names its piece, or is refused with 5, or, once another layout was opened, with 4. All is shown of runs of ways (`Ways`): a run
+-- of the counter is one, and so is a run of the desk (Desk). Rests on specs/Counter, on what an answer does (CounterWays, CounterSteps), and on the laws of
+-- a life (Lives, Marks, MarksGiven). Assumes nothing.
 use mathlib.Core.Path.{_≡_, refl, sym, ap, _∙_}
 use mathlib.Core.Bool.{Bool, true, false}
 use mathlib.Core.List.{List, [], _∷_, _++_, append-nil, append-assoc, List·Memᴰ, List·Memᴰ·head, Memᴰ·append-left, Memᴰ·append-right}
@@ -54,16 +55,31 @@ openings-append [] ys = refl
 openings-append (x ∷ xs) ys =
     ap (λ (ns : List ℕ). opens x ++ ns) (openings-append xs ys) ∙ sym (append-assoc (opens x) (openings xs) (openings ys))
 
+-- ---- runs of ways
+
+-- answers, one after another, each by its way, take the state s to the state u
+pub data Ways : Session → List Answer → Session → Type 0 where
+  stays : {s : Session} → Ways s [] s
+  goes : {s t u : Session} {a : Answer} {xs : List Answer} → Way s t a → Ways t xs u → Ways s (a ∷ xs) u
+
+-- a run of the counter is one
+counter-ways : {s t : Session} {lines : List Line} {xs : List Answer} → Runs s lines xs t → Ways s xs t
+counter-ways none = stays
+counter-ways (more {s} {t} {line = line} {a = a} answer run) = goes (way s (askedIn line) t a answer) (counter-ways run)
+
 -- ---- a life goes on as long as no opening is accepted
+
+ways-go-on : {s t : Session} {ls : List Layout} {xs : List Answer} → Lives s ls → Ways s xs t → openings xs ≡ [] → GoesOn s ls t
+ways-go-on h stays e = same-goes h refl
+ways-go-on h (goes {a = a} {xs = xs} w run) e =
+    let z = neither (opens a) (openings xs) e in
+    let g = goes-on h w (z .0) in
+    let f = ways-go-on (g .lives) run (z .1) in
+    record { then = f .then; lives = f .lives; holds = λ l o. f .holds l (g .holds l o) }
 
 pub the-life-goes-on : {s t : Session} {ls : List Layout} {lines : List Line} {xs : List Answer} → Lives s ls → Runs s lines xs t → openings xs ≡ []
     → GoesOn s ls t
-the-life-goes-on h none e = same-goes h refl
-the-life-goes-on {ls = ls} h (more {s} {t} {u} {line} {lines} {a} {xs} step run) e =
-    let z = neither (opens a) (openings xs) e in
-    let g = goes-on h (way s (askedIn line) t a step) (z .0) in
-    let f = the-life-goes-on (g .lives) run (z .1) in
-    record { then = f .then; lives = f .lives; holds = λ l o. f .holds l (g .holds l o) }
+the-life-goes-on h run e = ways-go-on h (counter-ways run) e
 
 -- before any opening the counter stays as it started, and refuses all
 pub before-any-opening : {t : Session} {lines : List Line} {xs : List Answer} → Runs started lines xs t → openings xs ≡ []
@@ -90,12 +106,10 @@ Last s ns t =
     ((ns ≡ []) × (t .layout .number ≡ s .layout .number) × (soundB (s .layout) ≡ true → soundB (t .layout) ≡ true))
     ⊎ (List·Memᴰ (t .layout .number) ns × (soundB (t .layout) ≡ true))
 
-last-opened : {s t : Session} {lines : List Line} {xs : List Answer} → Shaped s → Runs s lines xs t → Last s (openings xs) t
+last-opened : {s t : Session} {xs : List Answer} → Shaped s → Ways s xs t → Last s (openings xs) t
 unfolding Last
-last-opened h none = inl (refl, refl, λ x. x)
-last-opened {t = t} h (more {s} {t = w} {line = line} {a = a} {xs = xs} answer run) =
-    let v = way s (askedIn line) w a answer in
-    go (sound-after h v) (last-opened (shaped-after h v) run) (opens-or-not h v)
+last-opened h stays = inl (refl, refl, λ x. x)
+last-opened {t = t} h (goes {s} {t = w} {a = a} {xs = xs} v run) = go (sound-after h v) (last-opened (shaped-after h v) run) (opens-or-not h v)
   where
     go : (soundB (s .layout) ≡ true → soundB (w .layout) ≡ true) → Last w (openings xs) t → Opens s w a ⊎ ((opens a ≡ []) × Stepped s w)
         → Last s (opens a ++ openings xs) t
@@ -144,16 +158,14 @@ once-after n {s} {t} {a} ns g w (inl y) =
             let other : List·Memᴰ n (opens a) → ⊥ = λ h. eqb-false (o .mark .layout) n e (sym (List·Memᴰ·eq-of-singleton (rw (o .answer) at h))) in
             inl (unopened-after n g w other (y .0), z .1)
 
-once-run : (n : ℕ) {s t : Session} {lines : List Line} {xs : List Answer} (ns : List ℕ) → Shaped s → Runs s lines xs t
-    → Once n s (openings xs ++ ns) → Once n t ns
-once-run n ns g none h = h
-once-run n ns g (more {s} {t} {line = line} {a = a} {xs = xs} answer run) h =
-    let w = way s (askedIn line) t a answer in
+once-run : (n : ℕ) {s t : Session} {xs : List Answer} (ns : List ℕ) → Shaped s → Ways s xs t → Once n s (openings xs ++ ns) → Once n t ns
+once-run n ns g stays h = h
+once-run n ns g (goes {a = a} {xs = xs} w run) h =
     once-run n ns (shaped-after g w) run (once-after n (openings xs ++ ns) g w (rw (← append-assoc (opens a) (openings xs) ns) h))
 
-pub shaped-run : {s t : Session} {lines : List Line} {xs : List Answer} → Shaped s → Runs s lines xs t → Shaped t
-shaped-run g none = g
-shaped-run g (more {s} {t} {line = line} {a = a} answer run) = shaped-run (shaped-after g (way s (askedIn line) t a answer)) run
+pub shaped-run : {s t : Session} {xs : List Answer} → Shaped s → Ways s xs t → Shaped t
+shaped-run g stays = g
+shaped-run g (goes w run) = shaped-run (shaped-after g w) run
 
 -- ---- refusals
 
@@ -183,8 +195,7 @@ other-refused s k sound other =
 -- ---- THE LAW
 
 -- from the start to a state, with these openings still to come
-from-start : (n : ℕ) {t : Session} {lines : List Line} {xs : List Answer} (ns : List ℕ) → Runs started lines xs t → OpenedOnce n (openings xs ++ ns)
-    → Once n t ns
+from-start : (n : ℕ) {t : Session} {xs : List Answer} (ns : List ℕ) → Ways started xs t → OpenedOnce n (openings xs ++ ns) → Once n t ns
 unfolding Once
 from-start n ns run once = once-run n ns started-shaped run (inl (started-unopened n, once))
 
@@ -200,15 +211,19 @@ standing n {s} {ns} (inr y) e sound = go (y .0)
     go (away other) = absurd (other e)
 
 -- A RUN from the start IS A LIFE of the layout that stands, if its number was opened once (and else no opening was accepted)
-pub a-run-is-a-life : {t : Session} {lines : List Line} {xs : List Answer} → Runs started lines xs t → OpenedOnce (t .layout .number) (openings xs)
+pub ways-are-a-life : {t : Session} {xs : List Answer} → Ways started xs t → OpenedOnce (t .layout .number) (openings xs)
     → (openings xs ≡ []) ⊎ ((earlier : List Layout) × Lives t earlier)
 unfolding Last
-a-run-is-a-life {t} {xs = xs} run once =
+ways-are-a-life {t} {xs = xs} run once =
     ⊎-elim (λ z. inl (z .0)) (λ z. inr (standing (t .layout .number) (from-start _ [] run (rw (append-nil (openings xs)) once)) refl (z .1) .0))
     (last-opened started-shaped run)
 
+pub a-run-is-a-life : {t : Session} {lines : List Line} {xs : List Answer} → Runs started lines xs t → OpenedOnce (t .layout .number) (openings xs)
+    → (openings xs ≡ []) ⊎ ((earlier : List Layout) × Lives t earlier)
+a-run-is-a-life run once = ways-are-a-life (counter-ways run) once
+
 -- the mark k named a piece of the state u, whose number is not opened again
-module _ {u v : Session} {ls : List Layout} {lines : List Line} {ys : List Answer} (h : Lives u ls) (shaped : Shaped u) (run : Runs u lines ys v) (k : Mark)
+module _ {u v : Session} {ls : List Layout} {ys : List Answer} (h : Lives u ls) (shaped : Shaped u) (run : Ways u ys v) (k : Mark)
     (named : NamesPiece (u .layout) k) (never : List·Memᴰ (k .layout) (openings ys) → ⊥) where
   lasts : Lasts u ys v k
   unfolding Last
@@ -217,7 +232,7 @@ module _ {u v : Session} {ls : List Layout} {lines : List Line} {ys : List Answe
       -- no opening: a state of the same life
       one-life : openings ys ≡ [] → Lasts u ys v k
       one-life e =
-          let g = the-life-goes-on h run e in
+          let g = ways-go-on h run e in
           let c = states-sound (g .lives .life) (v .layout) (inl refl) in
           ⊎-elim (λ z. gone (is-refused v k Gone (sound-shown (v .layout) (c .1) (c .0)) z)) (λ z. names (z .0) (z .1))
           (marks-last (g .lives .life) (u .layout) (v .layout) (inl (refl, g .holds (u .layout) (inl refl))) k named)
@@ -227,28 +242,33 @@ module _ {u v : Session} {ls : List Layout} {lines : List Line} {ys : List Answe
       another z =
           elsewhere (λ e. List·Memᴰ·not-nil (rw e at (z .0))) (other-refused v k (z .1) (λ e. never (rw e (z .0))))
 
--- EVERY MARK that an answer has written, in any run of the counter from its start, lasts, if its number was opened once
-pub marks-last-at-the-counter : {t u v : Session} {before after : List Line} {xs ys : List Answer} → Runs started before xs t
-    → (q : Request) (a : Answer) → Answers t q u a → Runs u after ys v
-    → (k : Mark) → List·Memᴰ k (marksWritten a) → OpenedOnce (k .layout) (openings (xs ++ (a ∷ ys))) → Lasts u ys v k
-marks-last-at-the-counter {t} {u} {v} {xs = xs} {ys = ys} first q a answer run k h once =
-    let w = way t q u a answer in
+-- EVERY MARK that an answer has written, in any run of ways from the start, lasts, if its number was opened once
+pub a-written-mark-lasts : {t u v : Session} {xs ys : List Answer} → Ways started xs t → (a : Answer) → Way t u a → Ways u ys v
+    → (k : Mark) → List·Memᴰ k (marksWritten a) → OpenedOnce (k .layout) (openings xs ++ (opens a ++ openings ys)) → Lasts u ys v k
+a-written-mark-lasts {t} {u} {v} {xs} {ys} first a w run k h once =
     let g = shaped-run started-shaped first in
     let shaped = shaped-after g w in
     let y = writes (g .layout) w k h in
     let sound : soundB (u .layout) ≡ true = ⊎-elim opened-checked (sound-after g w) (y .sound) in
     let n = named (shaped .layout) (sound-says (u .layout) (shaped .layout) sound) (y .given) in
-    let before = from-start (k .layout) (opens a ++ openings ys) first (rw (openings-append xs (a ∷ ys)) at once) in
+    let before = from-start (k .layout) (opens a ++ openings ys) first once in
     let l = standing (k .layout) (once-after (k .layout) (openings ys) g w before) (sym (n .number)) sound in
     lasts {ls = l .0 .0} (l .0 .1) shaped run k n (l .1)
 
 -- and so does one that names a piece of a state of the run, whoever has written it
-pub a-named-mark-lasts : {t v : Session} {before after : List Line} {xs ys : List Answer} → Runs started before xs t → Runs t after ys v
-    → (k : Mark) → soundB (t .layout) ≡ true → NamesPiece (t .layout) k → OpenedOnce (k .layout) (openings (xs ++ ys)) → Lasts t ys v k
+pub a-named-mark-lasts : {t v : Session} {xs ys : List Answer} → Ways started xs t → Ways t ys v
+    → (k : Mark) → soundB (t .layout) ≡ true → NamesPiece (t .layout) k → OpenedOnce (k .layout) (openings xs ++ openings ys) → Lasts t ys v k
 a-named-mark-lasts {xs = xs} {ys = ys} first run k sound n once =
-    let before = from-start (k .layout) (openings ys) first (rw (openings-append xs ys) at once) in
+    let before = from-start (k .layout) (openings ys) first once in
     let l = standing (k .layout) before (sym (n .number)) sound in
     lasts {ls = l .0 .0} (l .0 .1) (shaped-run started-shaped first) run k n (l .1)
+
+-- so at the counter
+pub marks-last-at-the-counter : {t u v : Session} {before after : List Line} {xs ys : List Answer} → Runs started before xs t
+    → (q : Request) (a : Answer) → Answers t q u a → Runs u after ys v
+    → (k : Mark) → List·Memᴰ k (marksWritten a) → OpenedOnce (k .layout) (openings (xs ++ (a ∷ ys))) → Lasts u ys v k
+marks-last-at-the-counter {t} {u} {xs = xs} {ys = ys} first q a answer run k h once =
+    a-written-mark-lasts (counter-ways first) a (way t q u a answer) (counter-ways run) k h (rw (openings-append xs (a ∷ ys)) at once)
 
 -- ---- an input that arrives in chunks
 

@@ -41,7 +41,7 @@ use Rattle.demands.specs.Life.{Life, Given, byOpen, byInsertFirst, byIns
 use Rattle.demands.specs.Life as life
 use Rattle.demands.specs.Counter.{marksWritten, opens, Declines, GoesOn, Stale, Lives}
 use Rattle.demands.proofs.Lives.{newest-number}
-use Rattle.demands.proofs.CounterWays.{Quiet, Opens, Way, byOpening, byInsert, byRemoval, byRestore, byKeep, byNone, Shaped, Moved, Stepped}
+use Rattle.demands.proofs.CounterWays.{Quiet, Opens, Way, byOpening, byInsert, byRemoval, byTidying, byRestore, byKeep, byNone, Shaped, Moved, Stepped}
 use Rattle.demands.proofs.CounterWays.{says, stale-stays, opens-or-not, none-opened, opened-number}
 
 -- ---- before any opening the layout and what is kept are all zero, and stay so
@@ -136,6 +136,7 @@ module _ {s : Session} {ls : List Layout} (h : Lives s ls) where
   goes-on (byOpening o) f = none-opened o f
   goes-on (byInsert m p r k i says e b) f = next-goes (i .layout) e (life.Life.inserted (s .layout) ls (h .life) m p r k i says)
   goes-on (byRemoval m r says e b) f = next-goes (r .layout) e (life.Life.removed (s .layout) ls (h .life) m limit r says)
+  goes-on (byTidying d says e b) f = next-goes (d .layout) e (life.Life.tidied (s .layout) ls (h .life) d says)
   goes-on (byRestore e b) f = restored-goes e
   goes-on (byKeep e b) f = rw e (record { then = ls; lives = record { life = h .life; kept = inl (inl refl) }; holds = λ l o. o })
   goes-on (byNone e b) f = same-goes e
@@ -191,6 +192,7 @@ writes {s} {t} sized (byRemoval m r says e b) k h =
       given = rw (e, same) (byRemove (s .layout) m limit r sized says (z .0));
       sound = inr (passed (soundB (s .layout)) _ NotSound (remove-accepted (s .layout) m limit r says (z .0) .0) .0);
     }
+writes sized (byTidying d says e b) k h = quiet-marks b h
 writes sized (byRestore e b) k h = quiet-marks b h
 writes sized (byKeep e b) k h = quiet-marks b h
 writes sized (byNone e b) k h = quiet-marks b h

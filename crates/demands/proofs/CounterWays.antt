@@ -1,6 +1,7 @@
 -- What an answer of the counter does to the layout and to what is kept. Each op is looked at once (`Way`), and then by what matters to all: an opening is
--- accepted, or the layout stays or is renewed under its number, and what is kept stays or is the layout. Rests on the session's rule
--- (`Answers`) and on what a call has done (Outcomes). Assumes nothing.
+-- accepted, or the layout stays or is renewed under its number, and what is kept stays or is the layout. No op of the counter tidies, but one of the desk's
+-- does: that way is looked at here too, so that the laws are one for both. Rests on the session's rule (`Answers`) and on what a call has done (Outcomes).
+-- Assumes nothing.
 use mathlib.Core.Path.{_≡_, refl, sym, ap, _∙_}
 use mathlib.Core.Bool.{Bool, true, false}
 use mathlib.Core.List.{List, [], _∷_}
@@ -24,16 +25,19 @@ use Rattle.layout.specs.declared.replies.Outcome.{Outcome}
 use Rattle.layout.specs.declared.replies.Outcome.the-variants as outcomes
 use Rattle.layout.specs.declared.insert.Inserted.{Inserted}
 use Rattle.layout.specs.declared.remove.Removed.{Removed}
+use Rattle.layout.specs.declared.tidy.Tidied.{Tidied}
 use Rattle.layout.specs.Check.{limit, soundB}
 use Rattle.layout.specs.SoundLayout.{Sized, SoundLayout}
 use Rattle.layout.specs.Next.{Next}
 use Rattle.layout.specs.Open.{freshLayout, openOf}
 use Rattle.layout.specs.Insert.{InsertSays}
 use Rattle.layout.specs.Remove.{RemoveSays}
+use Rattle.layout.specs.Tidy.{TidySays}
 use Rattle.layout.specs.Restore.{greater, withSerial, restoreOf}
 use Rattle.layout.proofs.Exactly.{sound-says, sound-shown, zero-sized}
 use Rattle.layout.proofs.Opened.{fresh-sized, fresh-sound}
 use Rattle.layout.proofs.Restored.{restored-sound}
+use Rattle.layout.proofs.Tidying.{TidiesMeans}
 use Rattle.frames.specs.declared.Ask.the-variants.{Open, Offers, Insert, Remove, Report}
 use Rattle.frames.specs.declared.Request.{Request}
 use Rattle.frames.specs.declared.Request.the-variants.{OfLayout, Keep, Restore, Malformed}
@@ -43,7 +47,7 @@ use Rattle.questions.specs.Answers.{offersCall}
 use Rattle.session.specs.Session.{started, withLayout, Reply, reply, answerBy, openedBy, afterOpen, offersSaid, afterOffers, marksSaid, afterInsert}
 use Rattle.session.specs.Session.{numbersSaid, afterRemove, keptBy, afterKeep, afterRestore, reportBy, afterReport, Answers}
 use Rattle.demands.specs.Counter.{marksWritten, opens, Stale}
-use Rattle.demands.proofs.Outcomes.{opened-so, inserted-so, removed-so}
+use Rattle.demands.proofs.Outcomes.{opened-so, inserted-so, removed-so, tidied-so}
 
 -- ---- the ways of an answer
 
@@ -66,6 +70,7 @@ pub data Way (s t : Session) (a : Answer) : Type 0 where
       → t ≡ withLayout s (i .layout) → a ≡ answerBy 3 (marksSaid (i .marks)) (i .outcome) → Way s t a
   byRemoval : (m : Mark) (r : Removed) → RemoveSays (s .layout) m limit r → t ≡ withLayout s (r .layout)
       → a ≡ answerBy 4 (numbersSaid s m r) (r .outcome) → Way s t a
+  byTidying : (d : Tidied) → TidySays (s .layout) d → t ≡ withLayout s (d .layout) → Quiet a → Way s t a
   byRestore : t ≡ withLayout s (restoreOf (s .layout) (s .kept) .layout) → Quiet a → Way s t a
   byKeep : t ≡ record { layout = s .layout; kept = s .layout } → Quiet a → Way s t a
   byNone : t ≡ s → Quiet a → Way s t a
@@ -154,6 +159,13 @@ insert-moved l m p r f i h says = ⊎-elim inl (λ z. inr (next-renewed h (z .0 
 remove-moved : (l : Layout) (m : Mark) (room : ℕ) (r : Removed) → Sized l → RemoveSays l m room r → Moved l (r .layout)
 remove-moved l m room r h says = ⊎-elim inl (λ z. inr (next-renewed h (z .0 .sound) (z .1 .next))) (removed-so l m room r h says)
 
+tidy-moved : (l : Layout) (d : Tidied) → Sized l → TidySays l d → Moved l (d .layout)
+tidy-moved l d h says = ⊎-elim inl (λ z. inr (renewed (z .was) (z .means))) (tidied-so l d h says)
+  where
+    renewed : SoundLayout l → TidiesMeans l (d .count) (d .layout) → Renewed l (d .layout)
+    renewed s m =
+        record { was = sound-shown l h s; sound = sound-shown (d .layout) (m .sized) (m .sound); sized = m .sized; number = m .number }
+
 -- restore is refused, or k is put back: both are sound, and of one number
 record PutBack (l k : Layout) : Type 0 where
   was : soundB l ≡ true
@@ -211,6 +223,7 @@ opens-or-not {s} {t} g (byInsert m p r f i h e b) =
     inr (rw b (outcome-opens 3 _ (i .outcome) refl), changed s t (i .layout) e (insert-moved (s .layout) m p r f i (g .layout) h))
 opens-or-not {s} {t} g (byRemoval m r h e b) =
     inr (rw b (outcome-opens 4 _ (r .outcome) refl), changed s t (r .layout) e (remove-moved (s .layout) m limit r (g .layout) h))
+opens-or-not {s} {t} g (byTidying d h e b) = inr (b .number, changed s t (d .layout) e (tidy-moved (s .layout) d (g .layout) h))
 opens-or-not {s} {t} g (byRestore e b) = inr (b .number, changed s t _ e (restore-moved (s .layout) (s .kept) (g .layout) (g .kept)))
 opens-or-not {s} {t} g (byKeep e b) = inr (b .number, rw e (record { layout = inl refl; kept = inr refl }))
 opens-or-not {s} {t} g (byNone e b) = inr (b .number, rw e (record { layout = inl refl; kept = inl refl }))

@@ -1,10 +1,11 @@
--- THE THREE DEMANDS, as theorems over the calls of a layout and over the lines of the counter. Read this first, with document 01 at hand. The words are in
--- specs/Life.antt (the life of a layout, what a mark names), specs/Calls.antt (an accepted call, the same tree), specs/Examined.antt (what each call
--- answers to a layout that isn't sound) specs/Counter.antt (the counter's answers) and specs/Desk.antt (the desk's). A call is given by its contract alone, so what is said holds of every program that meets it;
--- each contract has one answer (UniqueAnswers, SomeAnswer). `Sized` is what the type of a layout says: its arrays have as many entries as there are places. Nothing is assumed.
+-- THE THREE DEMANDS, as theorems over the calls of a layout and over the lines of the counter; and the laws of tidying, which document 02 adds. Read this
+-- first, with document 01 at hand. The words are in specs/Life.antt (the life of a layout, what a mark names), specs/Calls.antt (an accepted call, the same
+-- tree), specs/Examined.antt (what each call answers to a layout that isn't sound), specs/Counter.antt (the counter's answers) and specs/Desk.antt (the
+-- desk's). A call is given by its contract alone, so what is said holds of every program that meets it; each contract has one answer (UniqueAnswers,
+-- SomeAnswer). `Sized` is what the type of a layout says: its arrays have as many entries as there are places. Nothing is assumed.
 use mathlib.Core.Path.{_≡_, refl}
 use mathlib.Core.List.{List, [], _∷_, _++_, List·Memᴰ}
-use mathlib.Core.Logic.{_⊎_}
+use mathlib.Core.Logic.{_↔_, _⊎_}
 use mathlib.Core.Option.{some}
 use mathlib.Core.Bool.{false, true}
 use Prim.Native.Nat.{ℕ}
@@ -12,21 +13,25 @@ use lib.ListN.{length}
 use Rattle.piece.specs.declared.rotation.Rotation.{Rotation}
 use Rattle.piece.specs.declared.parttype.PartType.{PartType}
 use Rattle.piece.specs.declared.node.Datum.{Datum}
+use Rattle.piece.specs.declared.node.Kind.the-variants.{Part}
 use Rattle.piece.specs.declared.insertion_blueprint.InsertionShape.{InsertionShape}
 use Rattle.piece.specs.declared.settings.Opening.{Opening}
 use Rattle.tree.specs.Tree.{At, Inside}
 use Rattle.tree.specs.Family.{parentOf}
+use Rattle.tree.specs.Figures.{partArea}
+use Rattle.tree.specs.Tidy.{Tidy, empties}
 use Rattle.marks.specs.Marks.{zeroMark}
 use Rattle.booking.specs.Marks.{zeroMarks}
 use Rattle.marks.specs.declared.Mark.{Mark}
 use Rattle.marks.specs.declared.Refusal.{Refusal}
-use Rattle.marks.specs.declared.Refusal.the-variants.{Gone}
+use Rattle.marks.specs.declared.Refusal.the-variants.{Gone, SerialsSpent}
 use Rattle.layout.specs.declared.layout.Layout.{Layout}
 use Rattle.layout.specs.declared.replies.Outcome.the-variants.{Refused}
 use Rattle.layout.specs.declared.replies.Sought.the-variants as sought
 use Rattle.layout.specs.declared.open.OpenOutcome.the-variants as opening
 use Rattle.layout.specs.declared.insert.Inserted.{Inserted}
 use Rattle.layout.specs.declared.remove.Removed.{Removed}
+use Rattle.layout.specs.declared.tidy.Tidied.{Tidied}
 use Rattle.layout.specs.Check.{limit, tree, soundB}
 use Rattle.layout.specs.SoundLayout.{Sized, SoundLayout}
 use Rattle.layout.specs.Zero.{zeroLayout}
@@ -34,6 +39,7 @@ use Rattle.layout.specs.Open.{openOf}
 use Rattle.layout.specs.Asked.{partB, soughtOf}
 use Rattle.layout.specs.Insert.{InsertSays, insertNo, pieceAt}
 use Rattle.layout.specs.Remove.{RemoveSays, numbersLeft, removeNo}
+use Rattle.layout.specs.Tidy.{Tidies, TidySays, tidyNo}
 use Rattle.layout.specs.Restore.{restoreOf}
 use Rattle.layout.proofs.Refusals as refusals
 use Rattle.questions.specs.declared.replies.CountAnswer.the-variants as counts
@@ -53,7 +59,7 @@ use Rattle.desk_frames.specs.declared.DeskRequest.{DeskRequest}
 use Rattle.desk_frames.specs.Desk.{DeskAnswer, DeskAnswers}
 use Rattle.desk_frames.specs.Listener.{DeskRuns, counterAnswers}
 use Rattle.demands.specs.Life.{Given, Later, Life, NamesPiece, OneOf, SamePiece, openedOn, stock}
-use Rattle.demands.specs.Calls.{AreasCover, InsertAccepted, RemoveAccepted, SameTree}
+use Rattle.demands.specs.Calls.{AreasCover, InsertAccepted, RemoveAccepted, SameTree, TakenOut, TidyAccepted}
 use Rattle.demands.specs.Examined.{Examined}
 use Rattle.demands.specs.Counter.{Lasts, Lives, OpenedOnce, marksWritten, openings}
 use Rattle.demands.specs.Desk.{WritesMark}
@@ -66,6 +72,7 @@ use Rattle.demands.proofs.Reopened as reopened
 use Rattle.demands.proofs.BookedThenRemoved as booked
 use Rattle.demands.proofs.BookingsCommute as bookings
 use Rattle.demands.proofs.RemovalsCommute as removals
+use Rattle.demands.proofs.Tidying as tidying
 use Rattle.demands.proofs.Areas as areas
 use Rattle.demands.proofs.Throughout as throughout
 use Rattle.demands.proofs.Examined as examined
@@ -112,7 +119,12 @@ pub a-mark-at-the-counter : {t u v : Session} {before after : List Line} {xs ys 
     → (k : Mark) → List·Memᴰ k (marksWritten a) → OpenedOnce (k .layout) (openings (xs ++ (a ∷ ys))) → Lasts u ys v k
 a-mark-at-the-counter = counter.marks-last-at-the-counter
 
--- the same at the desk, whose questions write marks too: the light's, and those of the two lists
+-- the same of a run at the desk, in which lines may tidy
+pub a-desk-run-is-a-life : {t : Session} {lines : List Line} {xs : List DeskAnswer} → DeskRuns started lines xs t
+    → OpenedOnce (t .layout .number) (openings (counterAnswers xs)) → (openings (counterAnswers xs) ≡ []) ⊎ ((earlier : List Layout) × Lives t earlier)
+a-desk-run-is-a-life = desk.a-desk-run-is-a-life
+
+-- and of a mark there: the desk's questions write marks too, the light's and those of the two lists
 pub a-mark-at-the-desk : {t u v : Session} {before after : List Line} {xs ys : List DeskAnswer} → DeskRuns started before xs t
     → (q : DeskRequest) (a : DeskAnswer) → DeskAnswers t q u a → DeskRuns u after ys v
     → (k : Mark) → WritesMark k t q a → OpenedOnce (k .layout) (openings (counterAnswers (xs ++ (a ∷ ys)))) → Lasts u (counterAnswers ys) v k
@@ -137,6 +149,9 @@ a-refused-remove l m room a e h says = rw (refusals.refused-remove l m room a e 
 
 pub its-buffer : (l : Layout) (m : Mark) (out : List ℕ) (e : Refusal) → removeNo l m (length out) ≡ some e → numbersLeft l m out ≡ out
 its-buffer = refusals.refused-numbers
+
+pub a-refused-tidy : (l : Layout) (a : Tidied) (e : Refusal) → tidyNo l ≡ some e → TidySays l a → (a .layout ≡ l) × (a .outcome ≡ Refused e) × (a .count ≡ 0)
+a-refused-tidy l a e h says = rw (refusals.refused-tidy l a e h says) (refl, refl, refl)
 
 pub a-refused-restore : (l s : Layout) (e : Refusal) → restoreOf l s .outcome ≡ Refused e → restoreOf l s .layout ≡ l
 a-refused-restore = refusals.refused-restore
@@ -183,3 +198,38 @@ areas-add-up = areas.areas-cover-sound
 -- and in every state of a life, where the number and the settings, the sheet among them, are those that the opening was asked for
 pub areas-throughout : {ls : List Layout} (life : Life ls) (l : Layout) → OneOf l ls → (stock l ≡ openedOn life) × AreasCover l (openedOn life .settings .sheet)
 areas-throughout = throughout.throughout
+
+-- ---- Document 02, No. 5, tidying: "While some structure other than the top has one child and that is free, it is taken out by the old removal, lowest place
+-- first." That is the contract of `tidy` (layout/specs/Tidy.antt), which has one answer on every layout. In the lives of the demands above it is called like
+-- the others.
+
+-- It comes to an end, and then the layout is sound and nothing is left to take out. As many went as there were structures, but the top, with no part inside;
+-- and the parts have the area that they had.
+pub tidying-ends-tidy : (l : Layout) → Sized l → (a : Tidied) → TidyAccepted l a
+    → SoundLayout (a .layout) × Tidy (tree (a .layout)) × (a .count ≡ empties (tree l)) × (partArea (tree (a .layout)) ≡ partArea (tree l))
+tidying-ends-tidy = tidying.ends-tidy
+
+-- each part stays as it is, where it is, and keeps its mark
+pub tidying-leaves-the-parts : (l : Layout) → Sized l → (a : Tidied) → TidyAccepted l a → (m : Mark) → NamesPiece l m → pieceAt l (m .place) .kind ≡ Part
+    → NamesPiece (a .layout) m × (pieceAt (a .layout) (m .place) ≡ pieceAt l (m .place))
+tidying-leaves-the-parts = tidying.parts-stay
+
+-- "The tree is the same whichever structure is taken first": n is what is there when the old removal has taken the untidy structures out one by one, in any
+-- order, and none is left
+pub tidying-in-any-order : (l n : Layout) → Sized l → TakenOut l n → Tidy (tree n) → (a : Tidied) → TidyAccepted l a → SameTree n (a .layout)
+tidying-in-any-order = tidying.any-order
+
+-- and so with any two orders of them, if the layout is sound
+pub whichever-is-taken-first : (l n k : Layout) → Sized l → SoundLayout l → TakenOut l n → Tidy (tree n) → TakenOut l k → Tidy (tree k) → SameTree n k
+whichever-is-taken-first = tidying.two-orders
+
+-- "For a layout that was tidy before, every call being accepted, booking by any of the four shapes, removing the *part* and tidying gives back the same tree."
+pub booking-removing-tidying : (l : Layout) → Sized l → (m : Mark) (p : PartType) (r : Rotation) (s : InsertionShape) (a : Inserted) (room : ℕ) (c : Removed)
+    (d : Tidied) → Tidy (tree l) → InsertAccepted l m p r s a → RemoveAccepted (a .layout) (a .marks .part) room c → TidyAccepted (c .layout) d
+    → SameTree (d .layout) l
+booking-removing-tidying = tidying.returned
+
+-- "Refusals: 1, then 9 if the whole tidying wouldn't find serials": a sound layout is refused with 9 exactly where no removals, one after the other and each
+-- with its serial, come to the end. "and then nothing is changed": `a-refused-tidy`.
+pub nine-if-serials-run-out : (l : Layout) → Sized l → soundB l ≡ true → (tidyNo l ≡ some SerialsSpent) ↔ ((k : ℕ) (n : Layout) → Tidies l k n → ⊥)
+nine-if-serials-run-out = tidying.nine-exactly

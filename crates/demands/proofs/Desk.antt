@@ -1,9 +1,10 @@
--- Demand 1 at the desk: every mark that an answer of the desk has written, the light's and those of the two lists among them, names its piece, or is refused
--- with 5, or, once another layout was opened, with 4. A run at the desk is one at the counter with the questions left out (desk_frames' proofs/Counter).
--- Rests on Counter, and on what a list and the light give (MarksGiven, questions' proofs/LightExactly). Assumes nothing.
+-- Demand 1 at the desk: a run of lines is a life, and every mark that an answer of the desk has written, the light's and those of the two lists among them,
+-- names its piece, or is refused with 5, or, once another layout was opened, with 4. A run at the desk is a run of ways (Counter): a question changes
+-- nothing, a tidying goes by its call's contract, and neither opens a sheet. Rests on Counter, and on what a list and the light give (MarksGiven, questions'
+-- proofs/LightExactly). Assumes nothing.
 use mathlib.Core.Path.{_≡_, refl, sym, ap, _∙_}
-use mathlib.Core.Bool.{Bool, true, false}
-use mathlib.Core.List.{List, [], _∷_, _++_, List·Memᴰ, List·Memᴰ·not-nil, List·Memᴰ·eq-of-singleton}
+use mathlib.Core.Bool.{true, false}
+use mathlib.Core.List.{List, [], _∷_, _++_, append-assoc, List·Memᴰ, List·Memᴰ·not-nil, List·Memᴰ·eq-of-singleton}
 use mathlib.Core.Logic.{_⊎_, inl, inr}
 use Prim.Native.Nat.{ℕ}
 use Rattle.piece.specs.declared.parttype.PartType.{PartType}
@@ -22,23 +23,23 @@ use Rattle.questions.specs.Answers.{freeMarkOf, removableMarkOf}
 use Rattle.questions.specs.Light.{lightOf}
 use Rattle.questions.proofs.LightExactly.{named-exactly}
 use Rattle.lines.specs.Text.{Line}
-use Rattle.frames.specs.Answers.{Answer}
+use Rattle.frames.specs.Answers.{Answer, done}
 use Rattle.session.specs.declared.Session.{Session}
 use Rattle.session.specs.Session.{started}
+use Rattle.session.specs.Listener.{none, more}
 use Rattle.desk_frames.specs.declared.Question.{Question}
 use Rattle.desk_frames.specs.declared.Question.the-variants.{WhyNot, RoomLight, FreePiece, RemovablePiece, PartNumbers, Figures, Snapshot, Cuts, EatenArea, Amounts}
 use Rattle.desk_frames.specs.declared.DeskRequest.{DeskRequest}
-use Rattle.desk_frames.specs.Desk.{DeskAnswer, counters, told, DeskAnswers, at-counter, question}
+use Rattle.desk_frames.specs.Desk.{DeskAnswer, counters, told, DeskAnswers, at-counter, question, tidying}
 use Rattle.desk_frames.specs.Listener.{DeskRuns, counterAnswers}
-use Rattle.desk_frames.proofs.Counter.{desk-run-at-counter}
 use Rattle.demands.specs.Life.{Given, byFreeList, byRemovableList}
-use Rattle.demands.specs.Counter.{openings, OpenedOnce, Lasts}
+use Rattle.demands.specs.Counter.{opens, openings, OpenedOnce, Lives, Lasts, names, gone, elsewhere}
 use Rattle.demands.specs.Desk.{markLit, markListed, marksTold, WritesMark}
 use Rattle.demands.specs.Desk as writes
 use Rattle.demands.proofs.Examined.{examined-first}
 use Rattle.demands.proofs.MarksGiven.{named}
-use Rattle.demands.proofs.CounterWays.{started-shaped}
-use Rattle.demands.proofs.Counter.{shaped-run, marks-last-at-the-counter, a-named-mark-lasts}
+use Rattle.demands.proofs.CounterWays.{Way, way, byTidying, byNone, started-shaped}
+use Rattle.demands.proofs.Counter.{Ways, stays, goes, shaped-run, ways-are-a-life, a-written-mark-lasts, a-named-mark-lasts}
 
 -- ---- the marks of questions
 
@@ -95,25 +96,62 @@ question-sound l q k h = go (test (soundB l))
     go (inl t) = t
     go (inr f) = absurd (List·Memᴰ·not-nil (rw (unsound-writes-none l f q) at h))
 
--- ---- THE LAW
+-- ---- a run at the desk is a run of ways
 
-counter-append : (xs ys : List DeskAnswer) → counterAnswers (xs ++ ys) ≡ counterAnswers xs ++ counterAnswers ys
+-- what the desk tells counts here as an answer that opens nothing and writes no mark: the marks of questions are looked at above
+abbrev asCounter : DeskAnswer → Answer
+asCounter (counters a) = a
+asCounter (told op f) = done op
+
+abbrev asCounters : List DeskAnswer → List Answer
+asCounters [] = []
+asCounters (x ∷ xs) = asCounter x ∷ asCounters xs
+
+desk-way : {s t : Session} {q : DeskRequest} {a : DeskAnswer} → DeskAnswers s q t a → Way s t (asCounter a)
+desk-way (at-counter {s} {t} {q} {a} g) = way s q t a g
+desk-way question = byNone refl (record { marks = refl; number = refl })
+desk-way (tidying d says) = byTidying d says refl (record { marks = refl; number = refl })
+
+desk-ways : {s t : Session} {lines : List Line} {xs : List DeskAnswer} → DeskRuns s lines xs t → Ways s (asCounters xs) t
+desk-ways none = stays
+desk-ways (more answer run) = goes (desk-way answer) (desk-ways run)
+
+-- with the same openings
+same-openings : (xs : List DeskAnswer) → openings (counterAnswers xs) ≡ openings (asCounters xs)
 unfolding counterAnswers
-counter-append [] ys = refl
-counter-append (counters a ∷ xs) ys = ap (λ (zs : List Answer). a ∷ zs) (counter-append xs ys)
-counter-append (told op f ∷ xs) ys = counter-append xs ys
+same-openings [] = refl
+same-openings (counters a ∷ xs) = ap (λ (ns : List ℕ). opens a ++ ns) (same-openings xs)
+same-openings (told op f ∷ xs) = same-openings xs
+
+both-openings : (xs ys : List DeskAnswer) → openings (counterAnswers (xs ++ ys)) ≡ openings (asCounters xs) ++ openings (asCounters ys)
+unfolding counterAnswers
+both-openings [] ys = same-openings ys
+both-openings (counters a ∷ xs) ys =
+    ap (λ (ns : List ℕ). opens a ++ ns) (both-openings xs ys) ∙ sym (append-assoc (opens a) (openings (asCounters xs)) (openings (asCounters ys)))
+both-openings (told op f ∷ xs) ys = both-openings xs ys
+
+lasts-so : {u v : Session} (ys : List DeskAnswer) {k : Mark} → Lasts u (asCounters ys) v k → Lasts u (counterAnswers ys) v k
+lasts-so ys (names n p) = names n p
+lasts-so ys (gone r) = gone r
+lasts-so ys (elsewhere o r) = elsewhere (λ e. o (sym (same-openings ys) ∙ e)) r
+
+-- ---- THE LAWS
+
+-- A RUN at the desk from the start IS A LIFE of the layout that stands, if its number was opened once (and else no opening was accepted)
+pub a-desk-run-is-a-life : {t : Session} {lines : List Line} {xs : List DeskAnswer} → DeskRuns started lines xs t
+    → OpenedOnce (t .layout .number) (openings (counterAnswers xs)) → (openings (counterAnswers xs) ≡ []) ⊎ ((earlier : List Layout) × Lives t earlier)
+a-desk-run-is-a-life {xs = xs} run once = rw (same-openings xs) (ways-are-a-life (desk-ways run) (rw (same-openings xs) at once))
 
 -- EVERY MARK that an answer of the desk has written, in any run from its start, lasts, if its number was opened once
 pub marks-last-at-the-desk : {t u v : Session} {before after : List Line} {xs ys : List DeskAnswer} → DeskRuns started before xs t
     → (q : DeskRequest) (a : DeskAnswer) → DeskAnswers t q u a → DeskRuns u after ys v
     → (k : Mark) → WritesMark k t q a → OpenedOnce (k .layout) (openings (counterAnswers (xs ++ (a ∷ ys)))) → Lasts u (counterAnswers ys) v k
-unfolding counterAnswers
-marks-last-at-the-desk {xs = xs} {ys = ys} first q a (at-counter {q = r} {a = b} g) run k (writes.atCounter h) once =
-    marks-last-at-the-counter (desk-run-at-counter first) r b g (desk-run-at-counter run) k h (rw (counter-append xs (a ∷ ys)) at once)
+marks-last-at-the-desk {xs = xs} {ys = ys} first q a (at-counter {s} {t} {q = r} {a = b} g) run k (writes.atCounter h) once =
+    lasts-so ys (a-written-mark-lasts (desk-ways first) b (way s r t b g) (desk-ways run) k h (rw (both-openings xs (a ∷ ys)) at once))
 marks-last-at-the-desk {t} {xs = xs} {ys = ys} first q a (question {q = r}) run k (writes.told h) once =
-    let there = desk-run-at-counter first in
+    let there = desk-ways first in
     let sized = shaped-run started-shaped there .layout in
     let sound = question-sound (t .layout) r k h in
     let s = sound-says (t .layout) sized sound in
-    a-named-mark-lasts there (desk-run-at-counter run) k sound (named sized s (question-gives (t .layout) sized s sound r k h))
-    (rw (counter-append xs (a ∷ ys)) at once)
+    lasts-so ys
+    (a-named-mark-lasts there (desk-ways run) k sound (named sized s (question-gives (t .layout) sized s sound r k h)) (rw (both-openings xs (a ∷ ys)) at once))

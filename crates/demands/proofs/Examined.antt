@@ -10,6 +10,7 @@ use Rattle.layout.specs.Asked.{freePieceOf}
 use Rattle.layout.specs.Zero.{zeroLayout}
 use Rattle.layout.proofs.Exactly.{zero-refused}
 use Rattle.layout.proofs.Refusals.{insert-unsound, remove-unsound, numbers-unsound, restore-unsound, snapshot-unsound}
+use Rattle.layout.proofs.Refusals.{tidy-unsound}
 use Rattle.questions.specs.Answers.{usedAreaOf, freeAreaOf, eatenAreaOf, nodesHeldOf, sheetUsageOf, treeUsageOf, isEmptyOf, freeMarkOf, removableMarkOf, offersCall}
 use Rattle.questions.specs.Light.{lightOf}
 use Rattle.questions.specs.Written.{heldNumbers, snapshotBytes}
@@ -48,6 +49,7 @@ module _ (l : Layout) (unsound : soundB l ≡ false) where
         insert = insert-unsound l unsound;
         remove = remove-unsound l unsound;
         removeBuffer = numbers-unsound l unsound;
+        tidy = tidy-unsound l unsound;
         restore = restore-unsound l unsound;
         restoreTo = snapshot-unsound l unsound;
         freePiece = λ m p. rw unsound refl;

@@ -8,6 +8,7 @@ pub mod Allowed
 pub mod BookedThenRemoved
 pub mod BookingsCommute
 pub mod RemovalsCommute
+pub mod Tidying
 pub mod Areas
 pub mod Throughout
 pub mod UniqueAnswers

@@ -1,6 +1,6 @@
--- Demand 1, the life of one layout: every state is sound and has the same number, the last serial issued never falls, and no serial is
--- issued twice. Each call's step is looked at once (`Step`), and what holds of all of them goes along the states (`Run`). It rests on what a call
--- has done (Outcomes) and on what an accepted one leaves (Leaves). Assumes nothing.
+-- Demand 1, the life of one layout: every state is sound and has the same number, the last serial issued never falls, and no serial is issued twice. Each
+-- call's step is looked at once (`Step`; a tidying is one removal after the other), and what holds of all of them goes along the states (`Run`). It rests on
+-- what a call has done (Outcomes) and on what an accepted one leaves (Leaves). Assumes nothing.
 use mathlib.Core.Path.{_≡_, refl, sym, ap, _∙_}
 use mathlib.Core.List.{List, [], _∷_}
 use mathlib.Core.Logic.{_⊎_, inl, inr, ⊎-elim}
@@ -16,6 +16,7 @@ use Rattle.piece.specs.declared.settings.Opening.{Opening}
 use Rattle.tree.specs.Family.{parentOf}
 use Rattle.tree.proofs.Bookings.{at-unique}
 use Rattle.tree.proofs.Parents.{SameParent}
+use Rattle.tree.proofs.Laws.TidyTree.{untidy-removable}
 use Rattle.table.specs.declared.Node.{Node}
 use Rattle.table.specs.Table.{zeroDatum, zeroNode}
 use Rattle.marks.specs.declared.Mark.{Mark}
@@ -23,19 +24,21 @@ use Rattle.layout.specs.declared.layout.Layout.{Layout}
 use Rattle.layout.specs.declared.open.OpenOutcome.the-variants as opening
 use Rattle.layout.specs.declared.insert.Inserted.{Inserted}
 use Rattle.layout.specs.declared.remove.Removed.{Removed}
+use Rattle.layout.specs.declared.tidy.Tidied.{Tidied}
 use Rattle.layout.specs.Check.{limit, tree}
 use Rattle.layout.specs.SoundLayout.{SoundLayout, Sized}
 use Rattle.layout.specs.Next.{Next}
 use Rattle.layout.specs.Open.{openOf}
 use Rattle.layout.specs.Insert.{pieceAt, InsertSays}
-use Rattle.layout.specs.Inner.{Insertable, Takeable}
-use Rattle.layout.specs.Remove.{RemoveSays}
+use Rattle.layout.specs.Inner.{Takeable}
+use Rattle.layout.specs.Remove.{RemoveDone, RemoveSays}
+use Rattle.layout.specs.Tidy.{Tidies, takes, tidy, TidySays}
 use Rattle.layout.specs.Restore.{greater, withSerial, restoreOf}
 use Rattle.layout.proofs.Listed.{piece-is}
 use Rattle.layout.proofs.Opened.{fresh-sized, fresh-sound}
 use Rattle.layout.proofs.Restored.{greater-left, restored-sound}
-use Rattle.demands.specs.Life.{OneOf, Life, opened, inserted, removed, restored, Later}
-use Rattle.demands.proofs.Outcomes.{opened-so, inserted-so, removed-so, restored-so}
+use Rattle.demands.specs.Life.{OneOf, Life, opened, inserted, removed, tidied, restored, Later}
+use Rattle.demands.proofs.Outcomes.{opened-so, inserted-so, removed-so, tidied-so, restored-so}
 use Rattle.demands.proofs.Leaves.{Leaves, insert-leaves, remove-leaves}
 
 -- ---- a piece in two layouts
@@ -69,6 +72,66 @@ kept-so k n hk hn i e y p = record { there = y; parent = p .same; parentPiece = 
     go (inl z) = none-shown n hn q z ∙ sym (none-shown k hk q z)
     go (inr o) = shown n hn q (o .0) (o .2) ∙ sym (shown k hk q (o .0) (o .1))
 
+-- so it stood in the layout before that one too
+kept-before : {l m n : Layout} {i : ℕ} {e : Datum} → Kept l m i e → Kept m n i e → Kept l n i e
+kept-before a b = record { there = a .there; parent = b .parent ∙ a .parent; parentPiece = b .parentPiece ∙ a .parentPiece }
+
+-- ---- one layout comes of another
+
+-- n comes of l: it is sound, the last serial does not fall, and each of its pieces stood in l as it is, or is new
+record Onward (l n : Layout) : Type 0 where
+  right : Right n
+  number : n .number ≡ l .number
+  rises : l .serial ≤ n .serial
+  pieces : (i : ℕ) (e : Datum) → At i e (tree n) → Kept l n i e ⊎ (l .serial < e .serial)
+
+-- refused, the layout is as it came
+onward-same : (l n : Layout) → Right l → n ≡ l → Onward l n
+onward-same l n h e =
+    rw e (record { right = h; number = refl; rises = omega arith; pieces = λ i f y. inl (record { there = y; parent = refl; parentPiece = refl }) })
+
+-- accepted, each piece was left or is new
+onward-leaves : (l : Layout) → Right l → {n : Layout} {w : Tree} → Leaves l n w → Sized n → l .serial ≤ n .serial → Onward l n
+onward-leaves l h {n} c sized rises =
+    let right : Right n = record { sound = c .after; sized = sized } in
+    record {
+      right = right;
+      number = c .number;
+      rises = rises;
+      pieces = λ i e y. ⊎-elim (λ z. inl (kept-so l n h right i e (c .was i e z) (c .parent i e z))) inr (c .pieces i e y);
+    }
+
+-- one call after the other
+onward-twice : (l m n : Layout) → Onward l m → Onward m n → Onward l n
+onward-twice l m n a b =
+    record {
+      right = b .right;
+      number = b .number ∙ a .number;
+      rises = omega (arith, a .rises, b .rises);
+      pieces = λ i e y.
+          ⊎-elim (λ z. ⊎-elim (λ x. inl (kept-before x z)) inr (a .pieces i e (z .there))) (λ z. inr (omega (arith, a .rises))) (b .pieces i e y);
+    }
+
+onward-next : {l n : Layout} {v w : Tree} {ys : List ℕ} {serial : ℕ} → Right l → Leaves l n v → Next l w ys serial n → l .serial ≤ serial → Onward l n
+onward-next {l} h c n rises = onward-leaves l h c (n .sized) (omega (arith, n .serial))
+
+-- a tidying is one removal after the other
+onward-remove : (l : Layout) (x : ℕ) (a : Removed) → Takeable l x → RemoveDone l x a → Onward l (a .layout)
+onward-remove l x a can done = onward-next (record { sound = can .sound; sized = can .sized }) (remove-leaves l x can a done) (done .next) (omega arith)
+
+onward-tidies : {l n : Layout} {k : ℕ} → Right l → Tidies l k n → Onward l n
+onward-tidies {l} h (tidy t) = onward-same l l h refl
+onward-tidies {l} {n} h (takes x a lowest done rest) =
+    let can : Takeable l x =
+    record {
+      sized = h .sized;
+      sound = h .sound;
+      removable = untidy-removable x (tree l) (lowest .untidy);
+      spent = omega (arith, done .next .sound .serials .spent, done .next .serial);
+    }
+    in
+    let first = onward-remove l x a can done in onward-twice l (a .layout) n first (onward-tidies (first .right) rest)
+
 -- ---- the step of a call
 
 -- n comes after the states ls, of which l is the newest: it is sound, the last serial does not fall, and each of its pieces stood in an
@@ -80,26 +143,14 @@ record Step (l : Layout) (ls : List Layout) (n : Layout) : Type 0 where
   pieces : (i : ℕ) (e : Datum) → At i e (tree n) → ((k : Layout) × OneOf k ls × Kept k n i e) ⊎ (l .serial < e .serial)
 
 module _ (l : Layout) (ls : List Layout) (h : Right l) (among : OneOf l ls) where
-  -- refused, the layout is as it came
-  same-step : (n : Layout) → n ≡ l → Step l ls n
-  same-step n e =
-      rw e
-      (record {
-        right = h;
-        number = refl;
-        rises = omega arith;
-        pieces = λ i f y. inl (l, among, record { there = y; parent = refl; parentPiece = refl });
-      })
-
-  -- accepted, each piece was left or is new
-  leaves-step : {n : Layout} {w : Tree} → Leaves l n w → Sized n → l .serial ≤ n .serial → Step l ls n
-  leaves-step {n} c sized rises =
-      let right : Right n = record { sound = c .after; sized = sized } in
+  -- it comes of the newest
+  onward-step : (n : Layout) → Onward l n → Step l ls n
+  onward-step n c =
       record {
-        right = right;
+        right = c .right;
         number = c .number;
-        rises = rises;
-        pieces = λ i e y. ⊎-elim (λ z. inl (l, among, kept-so l n h right i e (c .was i e z) (c .parent i e z))) inr (c .pieces i e y);
+        rises = c .rises;
+        pieces = λ i e y. ⊎-elim (λ z. inl (l, among, z)) inr (c .pieces i e y);
       }
 
   -- an earlier state is put back: its pieces are all there, and no other
@@ -219,29 +270,37 @@ module _ {l : Layout} {ls : List Layout} (run : Run (l ∷ ls)) where
   right : Right l
   right = run-right run l (inl refl)
 
-  accepted : {n : Layout} {v w : Tree} {ys : List ℕ} {serial : ℕ} → Leaves l n v → Next l w ys serial n → l .serial ≤ serial → Step l (l ∷ ls) n
-  accepted c n rises = leaves-step l (l ∷ ls) right (inl refl) c (n .sized) (omega (arith, n .serial))
+  onward : (n : Layout) → Onward l n → Step l (l ∷ ls) n
+  onward = onward-step l (l ∷ ls) right (inl refl)
+
+  refused : (n : Layout) → n ≡ l → Step l (l ∷ ls) n
+  refused n e = onward n (onward-same l n right e)
 
   inserts : (m : Mark) (p : PartType) (r : Rotation) (s : InsertionShape) (a : Inserted) → InsertSays l m p r s a
       → Step l (l ∷ ls) (a .layout)
   inserts m p r s a says =
-      ⊎-elim (same-step l (l ∷ ls) right (inl refl) (a .layout))
-      (λ z. accepted (insert-leaves l (m .place) p r s (z .0) a (z .1)) (z .1 .next) (omega arith)) (inserted-so l m p r s a (right .sized) says)
+      ⊎-elim (refused (a .layout))
+      (λ z. onward (a .layout) (onward-next right (insert-leaves l (m .place) p r s (z .0) a (z .1)) (z .1 .next) (omega arith)))
+      (inserted-so l m p r s a (right .sized) says)
 
   removes : (m : Mark) (room : ℕ) (a : Removed) → RemoveSays l m room a → Step l (l ∷ ls) (a .layout)
   removes m room a says =
-      ⊎-elim (same-step l (l ∷ ls) right (inl refl) (a .layout))
-      (λ z. accepted (remove-leaves l (m .place) (z .0) a (z .1)) (z .1 .next) (omega arith)) (removed-so l m room a (right .sized) says)
+      ⊎-elim (refused (a .layout)) (λ z. onward (a .layout) (onward-remove l (m .place) a (z .0) (z .1))) (removed-so l m room a (right .sized) says)
+
+  tidies : (a : Tidied) → TidySays l a → Step l (l ∷ ls) (a .layout)
+  tidies a says =
+      ⊎-elim (refused (a .layout)) (λ z. onward (a .layout) (onward-tidies right (z .done .tidies))) (tidied-so l a (right .sized) says)
 
   restores : (s : Layout) → OneOf s (l ∷ ls) → Step l (l ∷ ls) (restoreOf l s .layout)
   restores s o =
-      ⊎-elim (λ z. same-step l (l ∷ ls) right (inl refl) (restoreOf l s .layout) (z .1))
+      ⊎-elim (λ z. refused (restoreOf l s .layout) (z .1))
       (λ z. rw (z .is) (restore-step l (l ∷ ls) right (inl refl) s (run-right run s o) o (run-number run s l o (inl refl)))) (restored-so l s)
 
 life-run : {ls : List Layout} → Life ls → Run ls
 life-run (opened o m e) = start (open-right o m e)
 life-run (inserted l ls life m p r s a says) = let run = life-run life in next run (inserts run m p r s a says)
 life-run (removed l ls life m room a says) = let run = life-run life in next run (removes run m room a says)
+life-run (tidied l ls life a says) = let run = life-run life in next run (tidies run a says)
 life-run (restored l ls life s o) = let run = life-run life in next run (restores run s o)
 
 -- ---- The laws.

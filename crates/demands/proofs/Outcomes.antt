@@ -1,12 +1,12 @@
 -- What a call that hands a layout back has done: it was refused, and the layout is as it came, or it was accepted, and then all is known that
 -- it asks: its contract's refusals did not apply, so the layout is sound, the mark names a piece that the call may take, and the next layout is the one
--- that the contract says. Rests on layout's laws of an accepted call (Admitted, Inserted, Gone) and of marks (Marks), booking's Offering and tree's Family.
--- Assumes nothing.
+-- that the contract says. Rests on layout's laws of an accepted call (Admitted, Inserted, Gone, Tidying) and of marks (Marks), booking's Offering and
+-- tree's Family. Assumes nothing.
 use mathlib.Core.Path.{_≡_, refl, sym, ap, _∙_}
 use mathlib.Core.Bool.{Bool, true, false}
 use mathlib.Core.Logic.{_⊎_, inl, inr}
 use mathlib.Core.Option.{Option, none, some}
-use Prim.Native.Nat.{ℕ, _≤_}
+use Prim.Native.Nat.{ℕ, _+_, _≤_}
 use native.Mathlib.Omega.{arith}
 use lib.Dec.{eqb, leb}
 use lib.ListN.{length}
@@ -20,29 +20,34 @@ use Rattle.piece.specs.declared.settings.Opening.{Opening}
 use Rattle.piece.proofs.Offering.{offered-says}
 use Rattle.lists.proofs.Scan.{clash}
 use Rattle.tree.specs.Accepted.{Fresh}
+use Rattle.tree.specs.Tidy.{empties}
 use Rattle.tree.proofs.Family.{fresh-booking}
 use Rattle.marks.specs.declared.Mark.{Mark}
 use Rattle.marks.specs.declared.Refusal.{Refusal}
-use Rattle.marks.specs.declared.Refusal.the-variants.{BufferTooShort}
+use Rattle.marks.specs.declared.Refusal.the-variants.{BufferTooShort, NotSound, SerialsSpent}
 use Rattle.layout.specs.declared.layout.Layout.{Layout}
 use Rattle.layout.specs.declared.open.OpenOutcome.the-variants as opening
 use Rattle.layout.specs.declared.replies.Outcome.the-variants.{Done}
 use Rattle.layout.specs.declared.insert.Inserted.{Inserted}
 use Rattle.layout.specs.declared.remove.Removed.{Removed}
-use Rattle.layout.specs.Check.{limit, tree, domainB, soundB}
-use Rattle.layout.specs.SoundLayout.{Sized}
+use Rattle.layout.specs.declared.tidy.Tidied.{Tidied}
+use Rattle.layout.specs.Check.{limit, maxSerial, tree, domainB, soundB}
+use Rattle.layout.specs.SoundLayout.{Sized, SoundLayout}
 use Rattle.layout.specs.Open.{freshLayout, openOf}
 use Rattle.layout.specs.Insert.{bookingFor, insertIs, insertNo, InsertDone, InsertSays, pieceAt}
 use Rattle.layout.specs.Inner.{Insertable, Takeable}
 use Rattle.layout.specs.Remove.{removeIs, removeNo, RemoveDone, RemoveSays, numbersOut, roomNo}
+use Rattle.layout.specs.Tidy.{TidyDone, TidySays, tidyIs, tidyNo}
 use Rattle.layout.specs.Restore.{greater, withSerial, restoreOf}
+use Rattle.layout.proofs.Exactly.{sound-says}
 use Rattle.layout.proofs.Listed.{piece-is}
 use Rattle.layout.proofs.Marks.{sought-names}
 use Rattle.layout.proofs.Admitted.{admitted, insertable, passed}
 use Rattle.layout.proofs.Inserted.{insert-accepted}
 use Rattle.layout.proofs.Gone.{may-take, none-passes, remove-accepted}
+use Rattle.layout.proofs.Tidying.{TidiesMeans, tidies-means, tidy-accepted}
 use Rattle.demands.specs.Life.{NamesPiece}
-use Rattle.demands.specs.Calls.{InsertAccepted, RemoveAccepted}
+use Rattle.demands.specs.Calls.{InsertAccepted, RemoveAccepted, TidyAccepted}
 
 -- ---- the opening
 
@@ -155,6 +160,36 @@ remove-names {l} {m} i =
     let o = i .takeable .removable in
     let is = piece-is (l .nodes) (tree l) (i .takeable .sound .holds) (m .place) (o .piece) (o .there) in
     record { number = i .number; there = rw is (o .there); serial = i .serial }
+
+-- ---- `tidy`
+
+-- what an accepted `tidy` had before it, and what came of it
+pub record TidyMeans (l : Layout) (a : Tidied) : Type 0 where
+  pub was : SoundLayout l
+  pub enough : l .serial + empties (tree l) ≤ maxSerial
+  pub done : TidyDone l a
+  pub means : TidiesMeans l (a .count) (a .layout)
+
+-- refusals 1 and 9 do not apply
+not-refused : (l : Layout) (a : Tidied) → Sized l → tidyNo l ≡ none → TidyDone l a → TidyMeans l a
+unfolding tidyNo
+not-refused l a sized h done =
+    let sum = l .serial + empties (tree l) in
+    let p = passed (soundB l) _ NotSound h in
+    let was = sound-says l sized (p .0) in
+    let enough = leb-true sum maxSerial (passed (leb sum maxSerial) none SerialsSpent (p .1) .0) in
+    record { was = was; enough = enough; done = done; means = tidies-means was sized enough (done .tidies) }
+
+pub tidied-so : (l : Layout) (a : Tidied) → Sized l → TidySays l a → (a .layout ≡ l) ⊎ TidyMeans l a
+unfolding TidySays
+tidied-so l a sized says = go (tidyNo l) refl says
+  where
+    go : (o : Option Refusal) → tidyNo l ≡ o → tidyIs o l a → (a .layout ≡ l) ⊎ TidyMeans l a
+    go none e done = inr (not-refused l a sized e done)
+    go (some e) z refused = inl (ap (λ (n : Tidied). n .layout) refused)
+
+pub accepted-tidy : (l : Layout) (a : Tidied) → Sized l → TidyAccepted l a → TidyMeans l a
+accepted-tidy l a sized h = let d = tidy-accepted l a (h .says) (h .done) in not-refused l a sized (d .0) (d .1)
 
 -- ---- `restore`
 

@@ -1,13 +1,9 @@
--- The contracts of `insert` and `remove` can be met: on every layout, sound or not, with every mark and part there is an answer, so that what is
+-- The contracts of `insert`, `remove` and `tidy` can be met: on every layout, sound or not, with every mark and part there is an answer, so that what is
 -- said of each answer is said of one at least. There is no other (UniqueAnswers). `Sized` and the part's number in the domain are what the types say. It
--- rests on layout's laws of a booking that is accepted (Booked) and of a removal (TakenOut). Assumes nothing.
-use mathlib.Core.Path.{_≡_, refl, sym, ap, _∙_}
-use mathlib.Core.List.{List}
+-- rests on layout's laws of a booking that is accepted (Booked), of a removal (TakenOut) and of a tidying (Tidying, `some-tidy`). Assumes nothing.
+use mathlib.Core.Path.{_≡_, refl, sym}
 use mathlib.Core.Option.{Option, none, some}
 use Prim.Native.Nat.{ℕ, _+_, _-_, _≤_}
-use native.Mathlib.Nat.{le-refl}
-use lib.ListN.{length}
-use lib.Seq.{take-length}
 use Rattle.piece.specs.declared.size.Size.{Size}
 use Rattle.piece.specs.declared.rotation.Rotation.{Rotation}
 use Rattle.piece.specs.declared.parttype.PartType.{PartType}
@@ -16,16 +12,10 @@ use Rattle.piece.specs.Sides.{area}
 use Rattle.piece.specs.Offers.{turned}
 use Rattle.piece.specs.Insertion.{newNodes}
 use Rattle.tree.specs.Sound.{maxNumber}
-use Rattle.walks.proofs.Entries.{entries-take}
 use Rattle.booking.specs.declared.book.Booked.{Booked}
 use Rattle.booking.specs.NewNodes.{those}
 use Rattle.booking.specs.Marks.{newMarks}
 use Rattle.booking.specs.Book.{bookedNodes}
-use Rattle.removal.specs.declared.going.Going.{Going}
-use Rattle.removal.specs.declared.remove.Cleared.{Cleared}
-use Rattle.removal.specs.Going.{goingOf, places, areaAlong}
-use Rattle.removal.specs.Remove.{removedNodes}
-use Rattle.removal.proofs.Gone.{going-placed}
 use Rattle.marks.specs.declared.Mark.{Mark}
 use Rattle.marks.specs.declared.Refusal.{Refusal}
 use Rattle.layout.specs.declared.layout.Layout.{Layout}
@@ -35,12 +25,13 @@ use Rattle.layout.specs.declared.remove.Removed.{Removed}
 use Rattle.layout.specs.SoundLayout.{Sized}
 use Rattle.layout.specs.Parts.{nodesOf, withNodes}
 use Rattle.layout.specs.Insert.{InsertDone, InsertSays, bookingFor, insertNo, refusedInsert}
-use Rattle.layout.specs.Inner.{Insertable, Leaving, Takeable}
-use Rattle.layout.specs.Remove.{RemoveDone, RemoveSays, numbersOut, refusedRemove, removeNo}
+use Rattle.layout.specs.Inner.{Insertable}
+use Rattle.layout.specs.Remove.{RemoveSays, refusedRemove, removeNo}
 use Rattle.layout.proofs.Admitted.{done-says, insertable, refused-says}
 use Rattle.layout.proofs.Booked.{insert-done}
 use Rattle.layout.proofs.Gone.{may-take}
-use Rattle.layout.proofs.TakenOut.{goable, next-out, place-is}
+use Rattle.layout.proofs.TakenOut.{some-removed}
+pub use Rattle.layout.proofs.Tidying.{some-tidy}
 
 -- ---- `insert`
 
@@ -73,53 +64,10 @@ module _ (l : Layout) (m : Mark) (p : PartType) (r : Rotation) (s : InsertionSha
 
 -- ---- `remove`
 
-module _ (l : Layout) (m : Mark) (room : ℕ) where
-  abbrev x : ℕ
-  x = m .place
-
-  abbrev all : List ℕ
-  all = goingOf (l .nodes) x (l .held)
-
-  -- what goes, and what the steps of a removal leave
-  going : Going
-  going = record { order = all; count = length all }
-
-  left : Cleared
-  left = removedNodes (nodesOf l) (places going) x (l .serial)
-
-  reply : Removed
-  reply =
-      record {
-        outcome = Done;
-        free = record { layout = l .number; place = left .place; serial = l .serial + 1 };
-        count = length (numbersOut l x);
-        layout =
-            withNodes l (left .nodes) ((l .held + 1) - going .count) (l .used - areaAlong (l .nodes) (places going)) (l .serial + 1);
-      }
-
-  pub some-remove : Sized l → (a : Removed) × RemoveSays l m room a
-  unfolding RemoveSays going left reply
-  some-remove sized = go (removeNo l m room) refl
-    where
-      leaving : Takeable l x → Leaving l x going
-      leaving can =
-          let g = goable l x can in
-          record {
-            places = entries-take (length all) all (le-refl (length all)) ∙ take-length all;
-            room = g .3;
-            placed = going-placed (l .nodes) x (l .held) (g .0) (g .2);
-          }
-
-      done : Takeable l x → RemoveDone l x reply
-      done can =
-          record {
-            outcome = refl;
-            free =
-                ap (λ (q : ℕ). record { layout = l .number; place = q; serial = l .serial + 1 }) (place-is l x can going (leaving can) refl);
-            count = refl;
-            next = next-out l x can going (leaving can) refl refl refl;
-          }
-
-      go : (o : Option Refusal) → removeNo l m room ≡ o → (a : Removed) × RemoveSays l m room a
-      go (some e) h = (refusedRemove l e, rw h refl)
-      go none h = (reply, rw h (done (may-take l m room sized h)))
+pub some-remove : (l : Layout) (m : Mark) (room : ℕ) → Sized l → (a : Removed) × RemoveSays l m room a
+unfolding RemoveSays
+some-remove l m room sized = go (removeNo l m room) refl
+  where
+    go : (o : Option Refusal) → removeNo l m room ≡ o → (a : Removed) × RemoveSays l m room a
+    go (some e) h = (refusedRemove l e, rw h refl)
+    go none h = let z = some-removed l (m .place) (may-take l m room sized h) in (z .0, rw h (z .1))

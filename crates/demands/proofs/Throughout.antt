@@ -11,10 +11,11 @@ use Rattle.layout.specs.declared.layout.Layout.{Layout}
 use Rattle.layout.specs.SoundLayout.{Sized}
 use Rattle.layout.specs.Next.{Next}
 use Rattle.layout.specs.Open.{freshLayout}
-use Rattle.demands.specs.Life.{OneOf, Life, opened, inserted, removed, restored, Stock, openedOn, stock}
+use Rattle.layout.proofs.Tidying.{TidiesMeans}
+use Rattle.demands.specs.Life.{OneOf, Life, opened, inserted, removed, tidied, restored, Stock, openedOn, stock}
 use Rattle.demands.specs.Calls.{AreasCover}
 use Rattle.demands.proofs.Lives.{states-sound}
-use Rattle.demands.proofs.Outcomes.{opened-so, inserted-so, removed-so, restored-so}
+use Rattle.demands.proofs.Outcomes.{opened-so, inserted-so, removed-so, tidied-so, restored-so}
 use Rattle.demands.proofs.Areas.{sound-covers}
 
 fresh-stock : (o : Opening) → stock (freshLayout o) ≡ record { number = o .number; settings = o .settings }
@@ -24,6 +25,9 @@ fresh-stock o = refl
 -- an accepted call leaves the two as they were
 next-stock : {l n : Layout} {w : Tree} {ys : List ℕ} {last : ℕ} → Next l w ys last n → stock n ≡ stock l
 next-stock h i = record { number = h .number i; settings = h .settings i }
+
+tidy-stock : {l n : Layout} {k : ℕ} → TidiesMeans l k n → stock n ≡ stock l
+tidy-stock h i = record { number = h .number i; settings = h .settings i }
 
 -- the newest state's arrays are as long as their type says
 newest-sized : {l : Layout} {ls : List Layout} → Life (l ∷ ls) → Sized l
@@ -43,6 +47,9 @@ stock-stays (removed k ks life m room a says) l (inl e) =
     ∙ ⊎-elim (ap stock) (λ z. next-stock (z .1 .next)) (removed-so k m room a (newest-sized life) says)
     ∙ stock-stays life k (inl refl)
 stock-stays (removed k ks life m room a says) l (inr o) = stock-stays life l o
+stock-stays (tidied k ks life a says) l (inl e) =
+    ap stock e ∙ ⊎-elim (ap stock) (λ z. tidy-stock (z .means)) (tidied-so k a (newest-sized life) says) ∙ stock-stays life k (inl refl)
+stock-stays (tidied k ks life a says) l (inr o) = stock-stays life l o
 stock-stays (restored k ks life s o) l (inl e) =
     ap stock e
     ∙ ⊎-elim (λ z. ap stock (z .1) ∙ stock-stays life k (inl refl)) (λ z. ap stock (z .is) ∙ stock-stays life s o) (restored-so k s)

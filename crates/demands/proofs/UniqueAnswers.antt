@@ -12,6 +12,7 @@ use Rattle.layout.specs.Check.{domainB, sideB}
 use Rattle.layout.specs.Asked.{partB}
 pub use Rattle.layout.proofs.Determined.{open-is-one, insert-is-one, remove-is-one, remove-leaves-one, restore-is-one, zero-is-one}
 pub use Rattle.layout.proofs.Determined.{only, sound-is-one, free-piece-is-one}
+pub use Rattle.layout.proofs.Determined.{tidy-is-one}
 pub use Rattle.questions.proofs.Determined.{used-area-is-one, free-area-is-one, nodes-held-is-one, sheet-usage-is-one, tree-usage-is-one, is-empty-is-one}
 pub use Rattle.questions.proofs.Determined.{free-mark-is-one, removable-mark-is-one, room-light-is-one, offers-is-one}
 pub use Rattle.questions.proofs.Determined.{snapshot-is-one, snapshot-leaves-one, part-numbers-is-one, part-numbers-leaves-one}

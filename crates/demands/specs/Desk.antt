@@ -1,5 +1,5 @@
--- Demand 1 at the desk (docs/DESK.md). The desk's ops of its own ask and change nothing, so that its runs are the counter's with the questions left out. But
--- three of them write marks too: the room light, and the two lists by position. Here is what their law is said with.
+-- Demand 1 at the desk (docs/DESK.md). Three of the desk's questions write marks too: the room light, and the two lists by position. Tidying writes none, and
+-- changes the layout. Here is what their law is said with.
 use mathlib.Core.List.{List, [], _∷_, List·Memᴰ}
 use Rattle.marks.specs.declared.Mark.{Mark}
 use Rattle.layout.specs.declared.layout.Layout.{Layout}

@@ -13,8 +13,10 @@ use Rattle.marks.specs.declared.Refusal.the-variants.{NotSound}
 use Rattle.layout.specs.declared.layout.Layout.{Layout}
 use Rattle.layout.specs.declared.insert.Inserted.{Inserted}
 use Rattle.layout.specs.declared.remove.Removed.{Removed}
+use Rattle.layout.specs.declared.tidy.Tidied.{Tidied}
 use Rattle.layout.specs.Insert.{InsertSays, refusedInsert}
 use Rattle.layout.specs.Remove.{RemoveSays, numbersLeft, refusedRemove}
+use Rattle.layout.specs.Tidy.{TidySays, refusedTidy}
 use Rattle.layout.specs.Restore.{restoreOf, refusedRestore}
 use Rattle.layout.specs.declared.replies.Sought.the-variants as sought
 use Rattle.layout.specs.Asked.{freePieceOf}
@@ -49,6 +51,7 @@ pub record Examined (l : Layout) : Type 0 where
   pub insert : (m : Mark) (p : PartType) (r : Rotation) (s : InsertionShape) (a : Inserted) → InsertSays l m p r s a → a ≡ refusedInsert l NotSound
   pub remove : (m : Mark) (room : ℕ) (a : Removed) → RemoveSays l m room a → a ≡ refusedRemove l NotSound
   pub removeBuffer : (m : Mark) (out : List ℕ) → numbersLeft l m out ≡ out
+  pub tidy : (a : Tidied) → TidySays l a → a ≡ refusedTidy l NotSound
   pub restore : (snapshot : Layout) → restoreOf l snapshot ≡ refusedRestore l NotSound
   pub restoreTo : (k : Layout) → restoreOf k l ≡ refusedRestore k NotSound
   pub freePiece : (m : Mark) (p : PartType) → freePieceOf l m p ≡ sought.Refused NotSound

@@ -23,11 +23,13 @@ use Rattle.layout.specs.declared.open.OpenOutcome.the-variants.{Free}
 use Rattle.layout.specs.declared.replies.Outcome.the-variants.{Done}
 use Rattle.layout.specs.declared.insert.Inserted.{Inserted}
 use Rattle.layout.specs.declared.remove.Removed.{Removed}
+use Rattle.layout.specs.declared.tidy.Tidied.{Tidied}
 use Rattle.layout.specs.Check.{limit, tree}
 use Rattle.layout.specs.SoundLayout.{Sized}
 use Rattle.layout.specs.Open.{openOf}
 use Rattle.layout.specs.Insert.{InsertSays, pieceAt}
 use Rattle.layout.specs.Remove.{RemoveSays}
+use Rattle.layout.specs.Tidy.{TidySays}
 use Rattle.layout.specs.Restore.{restoreOf}
 use Rattle.questions.specs.declared.replies.MarkAnswer.the-variants.{Found}
 use Rattle.questions.specs.Answers.{freeMarkOf, removableMarkOf}
@@ -44,6 +46,7 @@ pub data Life : List Layout → Type 0 where
       → InsertSays l m p r s a → Life (a .layout ∷ l ∷ ls)
   removed : (l : Layout) (ls : List Layout) → Life (l ∷ ls) → (m : Mark) (room : ℕ) (a : Removed) → RemoveSays l m room a
       → Life (a .layout ∷ l ∷ ls)
+  tidied : (l : Layout) (ls : List Layout) → Life (l ∷ ls) → (a : Tidied) → TidySays l a → Life (a .layout ∷ l ∷ ls)
   restored : (l : Layout) (ls : List Layout) → Life (l ∷ ls) → (s : Layout) → OneOf s (l ∷ ls) → Life (restoreOf l s .layout ∷ l ∷ ls)
 
 -- the stock sheet that a layout is of: what stays of it as long as it lives
@@ -56,6 +59,7 @@ abbrev pub openedOn : {ls : List Layout} → Life ls → Stock
 openedOn (opened o m h) = record { number = o .number; settings = o .settings }
 openedOn (inserted l ls life m p r s a h) = openedOn life
 openedOn (removed l ls life m room a h) = openedOn life
+openedOn (tidied l ls life a h) = openedOn life
 openedOn (restored l ls life s o) = openedOn life
 
 -- as a layout has it

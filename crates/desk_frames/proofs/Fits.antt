@@ -36,8 +36,10 @@ use Rattle.layout.specs.declared.layout.Layout.{Layout}
 use Rattle.layout.specs.declared.replies.Outcome.{Outcome}
 use Rattle.layout.specs.declared.replies.Outcome.the-variants as outcomes
 use Rattle.layout.specs.Asked.{partB}
+use Rattle.layout.specs.declared.tidy.Tidied.{Tidied}
 use Rattle.layout.specs.Check.{limit, tree, soundB}
 use Rattle.layout.specs.SoundLayout.{SoundLayout, Sized}
+use Rattle.layout.specs.Tidy.{TidySays}
 use Rattle.layout.proofs.Areas.{used-small}
 use Rattle.layout.proofs.Exactly.{sound-says}
 use Rattle.layout.proofs.Listed.{piece-low, piece-is}
@@ -72,9 +74,10 @@ use Rattle.desk_frames.specs.declared.Question.{Question}
 use Rattle.desk_frames.specs.declared.Question.the-variants.{WhyNot, RoomLight, FreePiece, RemovablePiece, PartNumbers, Figures, Snapshot, Cuts, EatenArea, Amounts}
 use Rattle.desk_frames.specs.declared.DeskRequest.{DeskRequest}
 use Rattle.desk_frames.specs.Answers.{Found, found, refusedWith, ifSound, whyBy, lightFound, markFound, areaFound, numbersBytes, figuresBytes, figuresOf, yesNo}
-use Rattle.desk_frames.specs.Answers.{snapshotFound, cutsFound, amountsFound, foundIn, questionOp, contentFor}
+use Rattle.desk_frames.specs.Answers.{snapshotFound, cutsFound, amountsFound, foundIn, questionOp, tidyFound, tidyOp, contentFor}
 use Rattle.desk_frames.specs.Ranges.{DeskRequestFits}
-use Rattle.desk_frames.specs.Desk.{DeskAnswer, deskContent, DeskAnswers, at-counter, question}
+use Rattle.desk_frames.specs.Desk.{DeskAnswer, deskContent, DeskAnswers, at-counter, question, tidying}
+use Rattle.desk_frames.proofs.Tidying.{tidy-leaves}
 
 -- ---- bytes that are written as they stand
 
@@ -347,8 +350,20 @@ module _ (l : Layout) (sized : Sized l) (number : l .number < 2 ^ 16) where
   pub question-back : (q : Question) → pairs (charsOf (framed (contentFor (questionOp q) (foundIn l q)))) ≡ framed (contentFor (questionOp q) (foundIn l q))
   question-back q = content-back (question-fits q)
 
+  -- and so is that of a tidying: there are fewer structures than places
+  tidy-bytes : (v : Outcome) (k : ℕ) → k < 2 ^ 16 → BytesIn (tidyFound v k)
+  tidy-bytes outcomes.Done k h = are-two k h
+  tidy-bytes (outcomes.Refused e) k h = tt
+
+  pub tidy-back : (d : Tidied) → TidySays l d
+      → pairs (charsOf (framed (contentFor tidyOp (tidyFound (d .outcome) (d .count))))) ≡ framed (contentFor tidyOp (tidyFound (d .outcome) (d .count)))
+  tidy-back d t =
+      content-back
+      (content-bytes tidyOp (tidyFound (d .outcome) (d .count)) (omega arith) (tidy-bytes (d .outcome) (d .count) (tidy-leaves l d sized t .count)))
+
 -- and so does that of every answer of the desk, the counter's among them
 pub desk-back : (s : Session) → Sized (s .layout) → s .layout .number < 2 ^ 16 → {q : DeskRequest} {t : Session} {a : DeskAnswer} → DeskRequestFits q
     → DeskAnswers s q t a → pairs (charsOf (framed (deskContent a))) ≡ framed (deskContent a)
 desk-back s sized number f (at-counter {t = t} {q = q} {a = a} h) = answer-read s sized number q t a f h
 desk-back s sized number f (question {q = q}) = question-back (s .layout) sized number q
+desk-back s sized number f (tidying d h) = tidy-back (s .layout) sized number d h

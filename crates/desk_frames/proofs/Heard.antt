@@ -15,7 +15,7 @@ use Rattle.frames.proofs.Forms.{none, more}
 use Rattle.frames.proofs.Heard.{Meaning, HeardBy, bare-means, table-heard, heard, request-fits}
 use Rattle.desk_frames.specs.declared.Question.the-variants.{FreePiece, RemovablePiece, PartNumbers, Figures, Snapshot, Cuts, EatenArea, Amounts}
 use Rattle.desk_frames.specs.declared.DeskRequest.{DeskRequest}
-use Rattle.desk_frames.specs.declared.DeskRequest.the-variants.{Asks, AtCounter}
+use Rattle.desk_frames.specs.declared.DeskRequest.the-variants.{Asks, Tidy, AtCounter}
 use Rattle.desk_frames.specs.Requests.{isOwn, malformedLine, whyNotForm, lightForm, positionForm, questionForm, deskRequestOf, deskCarriedBy, deskFrameOf}
 use Rattle.desk_frames.specs.Ranges.{DeskRequestFits}
 
@@ -62,7 +62,8 @@ question-meant op =
     (λ e23. by-test (eqb op 24) (λ e. rw (eqb-true op 24 e) (bare-meant 24 (Asks Cuts) (inr refl) tt))
     (λ e24. by-test (eqb op 25) (λ e. rw (eqb-true op 25 e) (bare-meant 25 (Asks EatenArea) (inr refl) tt))
     (λ e25. by-test (eqb op 26) (λ e. rw (eqb-true op 26 e) (bare-meant 26 (Asks Amounts) (inr refl) tt))
-    (λ e26. rw (e17, e18, e19, e20, e21, e22, e23, e24, e25, e26) (bare-meant op malformedLine (inl refl) tt)))))))))))
+    (λ e26. by-test (eqb op 27) (λ e. rw (eqb-true op 27 e) (bare-meant 27 Tidy (inr refl) tt))
+    (λ e27. rw (e17, e18, e19, e20, e21, e22, e23, e24, e25, e26, e27) (bare-meant op malformedLine (inl refl) tt))))))))))))
 
 -- ---- every line
 module _ (line : List ℕ) where

@@ -1,5 +1,6 @@
 pub mod Told
 pub mod Figured
+pub mod Tidying
 pub mod Fits
 pub mod Reading
 pub mod Stepping

@@ -18,12 +18,12 @@ use Rattle.frames.proofs.Forms.{Fits, none, more, mark-fits, part-fits, are-wri
 use Rattle.frames.proofs.RequestLaws.{table-asks, request-back}
 use Rattle.desk_frames.specs.declared.Question.the-variants.{WhyNot, RoomLight, FreePiece, RemovablePiece, PartNumbers, Figures, Snapshot, Cuts, EatenArea, Amounts}
 use Rattle.desk_frames.specs.declared.DeskRequest.{DeskRequest}
-use Rattle.desk_frames.specs.declared.DeskRequest.the-variants.{Asks, AtCounter}
+use Rattle.desk_frames.specs.declared.DeskRequest.the-variants.{Asks, Tidy, AtCounter}
 use Rattle.desk_frames.specs.Requests.{isOwn, malformedLine, whyNotForm, lightForm, positionForm, questionForm, deskRequestOf, deskCarriedBy, deskFrameOf}
 use Rattle.desk_frames.specs.Ranges.{DeskRequestFits}
 use Rattle.desk_frames.proofs.Superset.{not-own, own-at-counter}
 
--- ---- a question
+-- ---- a question, or to tidy
 module _ (op : ℕ) (f : Form DeskRequest) (vs : List ℕ) (is : questionForm op ≡ f) (own : isOwn op ≡ true) (small : op < 256)
     (fits : Fits (f .fields) vs) where
   op-back : opIn (charsOf (framed (carried op f vs))) ≡ op
@@ -62,4 +62,5 @@ desk-request-back (Asks Snapshot) f = asks 23 (bareForm (Asks Snapshot)) [] refl
 desk-request-back (Asks Cuts) f = asks 24 (bareForm (Asks Cuts)) [] refl refl (omega arith) none (omega arith)
 desk-request-back (Asks EatenArea) f = asks 25 (bareForm (Asks EatenArea)) [] refl refl (omega arith) none (omega arith)
 desk-request-back (Asks Amounts) f = asks 26 (bareForm (Asks Amounts)) [] refl refl (omega arith) none (omega arith)
+desk-request-back Tidy f = asks 27 (bareForm Tidy) [] refl refl (omega arith) none (omega arith)
 desk-request-back (AtCounter q) f = not-own (frameOf q) (counters-op q f) ∙ ap AtCounter (request-back q f)

@@ -1,4 +1,4 @@
--- From what is answered to what a request gives at the desk: a question, or what the counter is asked. Rests on specs/Desk.
+-- From what is answered to what a request gives at the desk: a question, tidying, or what the counter is asked. Rests on specs/Desk.
 use mathlib.Core.Path.{_≡_, ap, _∙_}
 use mathlib.Core.List.{List}
 use Prim.Native.Nat.{ℕ, _≤_}
@@ -7,15 +7,18 @@ use lib.ListN.{length, take, replicate, length-take, length-replicate}
 use lib.Seq.{sets, length-sets}
 use Rattle.frames.specs.declared.Request.{Request}
 use Rattle.frames.specs.Answers.{answerLine}
+use Rattle.frames.specs.Writing.{LinePut}
+use Rattle.layout.specs.declared.tidy.Tidied.{Tidied}
+use Rattle.layout.specs.Tidy.{TidySays}
 use Rattle.session.specs.declared.Session.{Session}
 use Rattle.session.specs.declared.Stepped.{Stepped}
-use Rattle.session.specs.Session.{Steps, longest}
+use Rattle.session.specs.Session.{Steps, longest, withLayout}
 use Rattle.desk_frames.specs.declared.Question.{Question}
 use Rattle.desk_frames.specs.declared.DeskRequest.{DeskRequest}
-use Rattle.desk_frames.specs.declared.DeskRequest.the-variants.{Asks, AtCounter}
+use Rattle.desk_frames.specs.declared.DeskRequest.the-variants.{Asks, Tidy, AtCounter}
 use Rattle.desk_frames.specs.declared.DeskStepped.{DeskStepped}
-use Rattle.desk_frames.specs.Answers.{Tells}
-use Rattle.desk_frames.specs.Desk.{counters, at-counter, question, deskLongest, DeskSteps}
+use Rattle.desk_frames.specs.Answers.{Tells, contentFor, tidyFound, tidyOp}
+use Rattle.desk_frames.specs.Desk.{counters, at-counter, question, tidying, deskLongest, DeskSteps}
 use Rattle.desk_frames.specs.Inner.{copiedFrom}
 
 module _ {s : Session} {p : DeskRequest} {before after : List ℕ} where
@@ -26,6 +29,10 @@ module _ {s : Session} {p : DeskRequest} {before after : List ℕ} where
   pub question-steps : {q : Question} {n : ℕ} → p ≡ Asks q → Tells (s .layout) q before after n
       → DeskSteps s p before after (record { session = s; count = n })
   question-steps e t = rw e (record { answer = _; answers = question; put = t })
+
+  pub tidy-steps : (d : Tidied) {n : ℕ} → p ≡ Tidy → TidySays (s .layout) d → LinePut before (contentFor tidyOp (tidyFound (d .outcome) (d .count))) after n
+      → DeskSteps s p before after (record { session = withLayout s (d .layout); count = n })
+  tidy-steps d e t y = rw e (record { answer = _; answers = tidying d t; put = y })
 
   -- the counter's answer stands in the lent line
   pub counter-steps : {q : Request} {r : Stepped} {d : DeskStepped} → p ≡ AtCounter q → Steps s q r → d ≡ copiedFrom r

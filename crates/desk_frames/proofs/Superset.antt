@@ -15,7 +15,7 @@ use Rattle.frames.specs.Fields.{values, allListed, appliedTo}
 use Rattle.frames.specs.Requests.{Form, bareForm, formOf, formLength, madeBy, readBy, isFrame, opIn, fitsForms, lineAsks, requestOf}
 use Rattle.frames.proofs.Laws.{by-test, first-true}
 use Rattle.desk_frames.specs.declared.DeskRequest.{DeskRequest}
-use Rattle.desk_frames.specs.declared.DeskRequest.the-variants.{Asks, AtCounter}
+use Rattle.desk_frames.specs.declared.DeskRequest.the-variants.{Asks, Tidy, AtCounter}
 use Rattle.desk_frames.specs.Requests.{isOwn, malformedLine, questionForm, whyNotForm, lightForm, deskRequestOf}
 
 -- an op past the counter's asks nothing there
@@ -45,20 +45,21 @@ not-own line e = rw e refl
 pub own-at-counter : (line : List ℕ) → isOwn (opIn line) ≡ true → requestOf line ≡ Malformed
 unfolding requestOf
 own-at-counter line e =
-    let h : 17 ≤ opIn line = leb-true 17 (opIn line) (first-true (leb 17 (opIn line)) (leb (opIn line) 26) e) in
+    let h : 17 ≤ opIn line = leb-true 17 (opIn line) (first-true (leb 17 (opIn line)) (leb (opIn line) 27) e) in
     ap (λ (g : Form Request). cond (isFrame line && eqb (length (pairs line)) (formLength g)) (readBy Malformed g (pairs line)) Malformed)
     (form-none (opIn line) (omega arith))
     ∙ either-way (isFrame line && eqb (length (pairs line)) 2)
 
--- ---- what a request at the desk is at the counter: a question is malformed there
+-- ---- what a request at the desk is at the counter: a question is malformed there, and so is tidying
 abbrev pub atCounter : DeskRequest → Request
 atCounter (Asks q) = Malformed
+atCounter Tidy = Malformed
 atCounter (AtCounter q) = q
 
 made : (f : Form DeskRequest) (vs : List ℕ) → atCounter (appliedTo (f .fields) (f .asks) vs) ≡ Malformed → atCounter (madeBy malformedLine f vs) ≡ Malformed
 made f vs h = by-test (allListed (f .fields) vs) (λ e. rw e h) (λ e. rw e refl)
 
--- the desk's table asks a question, or nothing
+-- the desk's table asks a question, or to tidy, or nothing
 reads-question : (op : ℕ) (b : List ℕ) → atCounter (readBy malformedLine (questionForm op) b) ≡ Malformed
 unfolding questionForm
 reads-question op b =
@@ -72,7 +73,8 @@ reads-question op b =
     (λ e23. by-test (eqb op 24) (λ e. rw (eqb-true op 24 e) refl)
     (λ e24. by-test (eqb op 25) (λ e. rw (eqb-true op 25 e) refl)
     (λ e25. by-test (eqb op 26) (λ e. rw (eqb-true op 26 e) refl)
-    (λ e26. rw (e17, e18, e19, e20, e21, e22, e23, e24, e25, e26) refl))))))))))
+    (λ e26. by-test (eqb op 27) (λ e. rw (eqb-true op 27 e) refl)
+    (λ e27. rw (e17, e18, e19, e20, e21, e22, e23, e24, e25, e26, e27) refl)))))))))))
 
 line-question : (line : List ℕ) → atCounter (lineAsks malformedLine questionForm line) ≡ Malformed
 line-question line = by-test (fitsForms questionForm line) (λ e. rw e (reads-question (opIn line) (pairs line))) (λ e. rw e refl)

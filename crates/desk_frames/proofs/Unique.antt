@@ -7,6 +7,7 @@ use lib.ListN.{length}
 use lib.Seq.{sets}
 use Rattle.layout.proofs.Determined.{only}
 use Rattle.layout.specs.declared.layout.Layout.{Layout}
+use Rattle.layout.specs.declared.replies.Outcome.{Outcome}
 use Rattle.lines.specs.Stream.{Fed}
 use Rattle.frames.specs.Writing.{lineFor, LinePut}
 use Rattle.session.specs.declared.Session.{Session}
@@ -16,7 +17,7 @@ use Rattle.desk_frames.specs.declared.DeskRequest.{DeskRequest}
 use Rattle.desk_frames.specs.declared.DeskStepped.{DeskStepped}
 use Rattle.desk_frames.specs.declared.listener.DeskTurn.{DeskTurn}
 use Rattle.desk_frames.specs.Requests.{malformedLine, deskRequestOf}
-use Rattle.desk_frames.specs.Answers.{Tells}
+use Rattle.desk_frames.specs.Answers.{contentFor, tidyFound, tidyOp, Tells}
 use Rattle.desk_frames.specs.Desk.{deskContent, DeskSteps}
 use Rattle.desk_frames.specs.Listener.{deskTextOf, DeskTurned, DeskTakes, DeskEnds}
 use Rattle.desk_frames.proofs.Decided.{desk-answers-once, desk-runs-once}
@@ -30,6 +31,11 @@ module _ (before a b : List ℕ) where
   -- ---- a question
   pub answer-is-one : (l : Layout) (q : Question) (n m : ℕ) → Tells l q before a n → Tells l q before b m → (a ≡ b) × (n ≡ m)
   answer-is-one l q n m = same-line refl
+
+  -- ---- what is answered to a tidying
+  pub tidied-is-one : (v : Outcome) (k n m : ℕ) → LinePut before (contentFor tidyOp (tidyFound v k)) a n
+      → LinePut before (contentFor tidyOp (tidyFound v k)) b m → (a ≡ b) × (n ≡ m)
+  tidied-is-one v k n m = same-line refl
 
   -- ---- a request, a line, and a line that is malformed as it stands
   pub desk-asked-is-one : (s : Session) (q : DeskRequest) (r p : DeskStepped) → DeskSteps s q before a r → DeskSteps s q before b p → (a ≡ b) × (r ≡ p)

@@ -1,5 +1,5 @@
--- docs/DESK.md, "What is answered": what each question finds in a layout, as the bytes behind the op and 00, or the refusal. The rules are those of the
--- calls that the questions are for (`questions`, `saw`).
+-- docs/DESK.md, "What is answered": what each question finds in a layout, and what tidying gives, as the bytes behind the op and 00, or the refusal. The rules
+-- are those of the calls that the ops are for (`questions`, `saw`, `layout`).
 use mathlib.Core.Bool.{Bool, cond}
 use mathlib.Core.List.{List, [], _∷_, _++_}
 use Prim.Native.Nat.{ℕ}
@@ -134,6 +134,14 @@ questionOp Snapshot = 23
 questionOp Cuts = 24
 questionOp EatenArea = 25
 questionOp Amounts = 26
+
+-- of tidying, the answer is "how many 2": refusals 1, 9
+abbrev pub tidyFound : Outcome → ℕ → Found
+tidyFound outcomes.Done count = found (two count)
+tidyFound (outcomes.Refused e) count = refusedWith e
+
+abbrev pub tidyOp : ℕ
+tidyOp = 27
 
 -- the bytes of the answer, before their check: "A refusal is op, number, check"
 abbrev pub contentFor : ℕ → Found → List ℕ

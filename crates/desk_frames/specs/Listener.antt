@@ -9,6 +9,7 @@ use lib.Seq.{sets}
 use Rattle.lines.specs.Text.{Line, whole, long, cut}
 use Rattle.lines.specs.Stream.{takeOf, Fed}
 use Rattle.frames.specs.Answers.{Answer, each}
+use Rattle.frames.specs.Ranges.{Each}
 use Rattle.frames.specs.Writing.{lineFor}
 use Rattle.session.specs.declared.Session.{Session}
 use Rattle.session.specs.declared.listener.Listener.{Listener}
@@ -16,7 +17,7 @@ use Rattle.session.specs.Listener.{RunsBy, oneStep, lastStep}
 use Rattle.desk_frames.specs.declared.DeskRequest.{DeskRequest}
 use Rattle.desk_frames.specs.declared.listener.DeskTurn.{DeskTurn}
 use Rattle.desk_frames.specs.Requests.{malformedLine, deskRequestOf}
-use Rattle.desk_frames.specs.declared.DeskRequest.the-variants.{Asks, AtCounter}
+use Rattle.desk_frames.specs.declared.DeskRequest.the-variants.{Asks, Tidy, AtCounter}
 use Rattle.desk_frames.specs.Desk.{DeskAnswer, counters, told, DeskAnswers, deskContent}
 
 -- what a line asks
@@ -32,7 +33,12 @@ DeskRuns s lines answers u = RunsBy deskAskedIn DeskAnswers s lines answers u
 -- ---- the counter in it: the lines that ask no question; and the answers that are the counter's
 abbrev pub isQuestion : DeskRequest → Bool
 isQuestion (Asks q) = true
+isQuestion Tidy = false
 isQuestion (AtCounter q) = false
+
+-- no line tidies: what does is no line of the counter's
+abbrev pub NoneTidies : List Line → Type 0
+NoneTidies lines = Each (λ line. deskAskedIn line ≡ Tidy → ⊥) lines
 
 unfoldable pub counterLines : List Line → List Line
 counterLines [] = []

@@ -10,11 +10,11 @@ use Rattle.frames.specs.Requests.{Form, bareForm, formLength, readBy, opIn, lin
 use Rattle.desk_frames.specs.declared.Question.{Question}
 use Rattle.desk_frames.specs.declared.Question.the-variants.{WhyNot, RoomLight, FreePiece, RemovablePiece, PartNumbers, Figures, Snapshot, Cuts, EatenArea, Amounts}
 use Rattle.desk_frames.specs.declared.DeskRequest.{DeskRequest}
-use Rattle.desk_frames.specs.declared.DeskRequest.the-variants.{Asks, AtCounter}
+use Rattle.desk_frames.specs.declared.DeskRequest.the-variants.{Asks, Tidy, AtCounter}
 
--- the ops of the desk's own, 11 to 1a in hexadecimal
+-- the ops of the desk's own, 11 to 1b in hexadecimal
 abbrev pub isOwn : ℕ → Bool
-isOwn op = leb 17 op && leb op 26
+isOwn op = leb 17 op && leb op 27
 
 -- what is malformed at the desk is malformed at the counter
 abbrev pub malformedLine : DeskRequest
@@ -39,7 +39,8 @@ bareQuestion op =
     (cond (eqb op 24) (Asks Cuts)
     (cond (eqb op 25) (Asks EatenArea)
     (cond (eqb op 26) (Asks Amounts)
-    malformedLine)))))
+    (cond (eqb op 27) Tidy
+    malformedLine))))))
 
 unfoldable pub questionForm : ℕ → Form DeskRequest
 questionForm op =
@@ -62,7 +63,7 @@ readLight b = readBy malformedLine lightForm b
 unfoldable pub deskAskedBy : ℕ → List ℕ → DeskRequest
 deskAskedBy op b = readBy malformedLine (questionForm op) b
 
--- an op of the desk's own asks a question; every other line asks what it asks at the counter
+-- an op of the desk's own asks a question, or to tidy; every other line asks what it asks at the counter
 unfoldable pub deskRequestOf : List ℕ → DeskRequest
 deskRequestOf line = cond (isOwn (opIn line)) (lineAsks malformedLine questionForm line) (AtCounter (requestOf line))
 
@@ -78,6 +79,7 @@ deskCarriedBy (Asks Snapshot) = carried 23 (bareForm (Asks Snapshot)) []
 deskCarriedBy (Asks Cuts) = carried 24 (bareForm (Asks Cuts)) []
 deskCarriedBy (Asks EatenArea) = carried 25 (bareForm (Asks EatenArea)) []
 deskCarriedBy (Asks Amounts) = carried 26 (bareForm (Asks Amounts)) []
+deskCarriedBy Tidy = carried 27 (bareForm Tidy) []
 deskCarriedBy (AtCounter q) = carriedBy q
 
 abbrev pub deskFrameOf : DeskRequest → List ℕ

@@ -1,6 +1,6 @@
-// The desk's frames: all of the counter's, and an op for each question that the counter has none for. A line has the same form, the same check and the
-// same refusals (docs/DESK.md). Here is the answer to a line; read.rt says what a line asks, replies.rt what a question is answered with.
-// Rests on `session` for the counter's ops, and on `questions` and `saw` for the answers to the questions.
+// The desk's frames: all of the counter's, an op for each question that the counter has none for, and one that tidies. A line has the same form, the same
+// check and the same refusals (docs/DESK.md). Here is the answer to a line; read.rt says what a line asks, replies.rt what it is answered with.
+// Rests on `session` for the counter's ops, on `questions` and `saw` for the answers to the questions, and on `layout` for the tidying.
 ghost use mathlib.Core.Path.{_≡_};
 ghost use Prim.Native.Nat.{_≤_};
 ghost use lib.ListN.{length, take};
@@ -38,9 +38,10 @@ pub enum Question {
     Amounts,
 }
 
-// What a line asks at the desk: a question, or what it asks at the counter; a malformed line is malformed there.
+// What a line asks at the desk: a question, to tidy the layout, or what it asks at the counter; a malformed line is malformed there.
 pub enum DeskRequest {
     Asks(Question),
+    Tidy,
     AtCounter(Request),
 }
 
@@ -66,6 +67,23 @@ fn copied(stepped: Stepped, out: &mut [u8]) -> DeskStepped
     DeskStepped { session, count }
 }
 
+// The layout is tidied; what is kept stays.
+fn tidied(session: Session, out: &mut [u8]) -> DeskStepped
+    requires { ⌜ deskLongest ≤ length (now out) ⌝ }
+    ensures { λ r. ⌜ DeskSteps session requests.Tidy (now (out .entry)) (now (out .exit)) r ⌝ }
+{
+    let layout = session.layout;
+    let kept = session.kept;
+    let answer = layout.tidy();
+    let outcome = answer.outcome;
+    let left = answer.layout;
+    let count = replies::tidied(outcome, answer.count, out);
+    DeskStepped {
+        session: Session { layout: left, kept },
+        count,
+    }
+}
+
 pub fn asked(session: Session, request: DeskRequest, out: &mut [u8]) -> DeskStepped
     requires { ⌜ deskLongest ≤ length (now out) ⌝ }
     ensures { λ r. ⌜ DeskSteps session request (now (out .entry)) (now (out .exit)) r ⌝ }
@@ -76,6 +94,7 @@ pub fn asked(session: Session, request: DeskRequest, out: &mut [u8]) -> DeskStep
             let count = replies::answer(layout, question, out);
             DeskStepped { session, count }
         }
+        DeskRequest::Tidy => tidied(session, out),
         DeskRequest::AtCounter(at_counter) => copied(session.asked(at_counter), out),
     }
 }

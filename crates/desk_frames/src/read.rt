@@ -37,6 +37,8 @@ pub const EATEN_AREA: u8 = 25;
 
 pub const AMOUNTS: u8 = 26;
 
+pub const TIDY: u8 = 27;
+
 // Where the fields of an op stand behind it, and how many bytes its frame has.
 const WHY_PART: usize = FIRST + MARK;
 
@@ -56,7 +58,7 @@ fn no() -> DeskRequest
 fn own(op: u8) -> bool
     ensures { λ r. ⌜ r ≡ isOwn op ⌝ }
 {
-    WHY_NOT <= op && op <= AMOUNTS
+    WHY_NOT <= op && op <= TIDY
 }
 
 // One function for each op that carries something; it tests that a turn is listed.
@@ -117,6 +119,7 @@ fn asked_by(op: u8, b: &[u8; 32]) -> DeskRequest
         24 => DeskRequest::Asks(Question::Cuts),
         25 => DeskRequest::Asks(Question::EatenArea),
         26 => DeskRequest::Asks(Question::Amounts),
+        27 => DeskRequest::Tidy,
         _ => no(),
     }
 }

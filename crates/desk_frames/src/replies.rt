@@ -6,7 +6,7 @@ ghost use lib.ListN.{length};
 ghost use Rattle.desk_frames.specs.declared.Question.the-variants as questions;
 ghost use Rattle.marks.specs.declared.Refusal.the-variants as refusals;
 ghost use Rattle.frames.specs.Writing.{LinePut};
-ghost use Rattle.desk_frames.specs.Answers.{Tells, contentFor, refusedWith, yesNo};
+ghost use Rattle.desk_frames.specs.Answers.{Tells, contentFor, refusedWith, tidyFound, tidyOp, yesNo};
 ghost use Rattle.desk_frames.specs.Desk.{deskLongest};
 use crate::Question;
 use crate::read::AMOUNTS;
@@ -18,6 +18,7 @@ use crate::read::PART_NUMBERS;
 use crate::read::REMOVABLE_PIECE;
 use crate::read::ROOM_LIGHT;
 use crate::read::SNAPSHOT;
+use crate::read::TIDY;
 use crate::read::WHY_NOT;
 use crate::write;
 use crate::write::FigureList;
@@ -190,6 +191,17 @@ fn amounts(layout: Layout, out: &mut [u8]) -> usize
     match saw::cuts::amounts(layout, &mut bytes) {
         CountAnswer::Count(n) => write::entries(out, AMOUNTS, n, &bytes, n as usize),
         CountAnswer::Refused(refusal) => refused(out, AMOUNTS, refusal),
+    }
+}
+
+// The answer to a tidying: how many structures were taken out, or its refusal.
+pub fn tidied(outcome: Outcome, count: u16, out: &mut [u8]) -> usize
+    requires { ⌜ deskLongest ≤ length (now out) ⌝ }
+    ensures { λ r. ⌜ LinePut (now (out .entry)) (contentFor tidyOp (tidyFound outcome count)) (now (out .exit)) r ⌝ }
+{
+    match outcome {
+        Outcome::Done => write::count(out, TIDY, count),
+        Outcome::Refused(refusal) => refused(out, TIDY, refusal),
     }
 }
 

@@ -83,6 +83,16 @@ pub fn area(out: &mut [u8], op: u8, area: u64) -> usize
     end(out, next)
 }
 
+// How many.
+pub fn count(out: &mut [u8], op: u8, count: u16) -> usize
+    requires { ⌜ 11 ≤ length (now out) ⌝ }
+    ensures { λ r. ⌜ LinePut (now (out .entry)) (op ∷ 0 ∷ two count) (now (out .exit)) r ⌝ }
+{
+    let pen = begin(out, op, 0);
+    let next = put_two(out, pen, count);
+    end(out, next)
+}
+
 // How many entries, and the first n bytes of a list, which are theirs.
 pub fn entries(out: &mut [u8], op: u8, count: u16, bytes: &[u8], n: usize) -> usize
     requires { ⌜ (n ≤ length (now bytes)) × (11 + 2 * n ≤ length (now out)) ⌝ }

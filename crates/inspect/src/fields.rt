@@ -17,7 +17,6 @@ use questions::replies::CountAnswer;
 use questions::replies::LightAnswer;
 use questions::replies::MarkAnswer;
 use questions::replies::UsageAnswer;
-use session::LONGEST_ANSWER;
 use table::LIMIT;
 
 // The bytes of the longest snapshot: 14 for each place.
@@ -32,11 +31,11 @@ fn missing(out: &mut [u8; ROOM], pen: Pen) -> Pen {
     put(out, pen, b'-')
 }
 
-// The counter's line, without its newline.
-pub fn answer(out: &mut [u8; ROOM], pen: Pen, line: [u8; LONGEST_ANSWER], count: usize) -> Pen {
+// The answer's line, without its newline.
+pub fn answer(out: &mut [u8; ROOM], pen: Pen, line: &[u8], count: usize) -> Pen {
     let mut p = pen;
     let mut i: usize = 0;
-    while i < LONGEST_ANSWER {
+    while i < line.len() {
         if count <= i + 1 {
             break;
         }

@@ -1,7 +1,7 @@
 -- The laws of the step: the record and the request decide what comes of them; a refusal leaves the record as it was, whatever it holds; a record with an
 -- unlisted kind or cut is refused with 1; the next record stands for the next session. And of the list of saw cuts: the record and the bytes decide it,
--- and there is none of an unlisted record. And of the desk: the same is decided, and a question changes nothing. Rests on `session`'s proofs/Decided,
--- proofs/Kept and proofs/Refused, and on Listed.
+-- and there is none of an unlisted record. And of the desk: the same is decided, a question changes nothing, and a refused tidying changes nothing in the
+-- record. Rests on `session`'s proofs/Decided, proofs/Kept and proofs/Refused, on what `layout` proves of a tidying, and on Listed.
 use mathlib.Core.Path.{_≡_, refl, sym, ap, _∙_}
 use mathlib.Core.Bool.{Bool, true, false, cond}
 use mathlib.Core.List.{List}
@@ -11,16 +11,24 @@ use Prim.Native.Nat.{ℕ}
 use lib.ListN.{length}
 use lib.Seq.{sets}
 use Rattle.lists.proofs.Scan.{test, clash}
+use Rattle.marks.specs.declared.Refusal.{Refusal}
 use Rattle.marks.specs.declared.Refusal.the-variants.{NotSound}
 use Rattle.frames.specs.declared.Ask.{Ask}
 use Rattle.frames.specs.declared.Request.{Request}
 use Rattle.frames.specs.declared.Request.the-variants.{OfLayout, Keep, Restore, Malformed}
 use Rattle.frames.specs.Answers.{Answer, refused, answerLine, contentOf}
-use Rattle.frames.specs.Writing.{lineFor}
+use Rattle.frames.specs.Writing.{lineFor, LinePut}
 use Rattle.layout.specs.declared.layout.Layout.{Layout}
+use Rattle.layout.specs.declared.replies.Outcome.{Outcome}
+use Rattle.layout.specs.declared.replies.Outcome.the-variants as outcomes
+use Rattle.layout.specs.declared.tidy.Tidied.{Tidied}
 use Rattle.layout.specs.Check.{soundB}
+use Rattle.layout.specs.Tidy.{TidySays, tidyNo}
+use Rattle.layout.proofs.Determined.{tidy-is-one}
+use Rattle.layout.proofs.Refusals.{refused-tidy}
+use Rattle.layout.proofs.Tidying.{tidy-refused}
 use Rattle.session.specs.declared.Session.{Session}
-use Rattle.session.specs.Session.{Reply, reply, paddedLine, keptBy, afterKeep, Answers, opOf}
+use Rattle.session.specs.Session.{Reply, reply, withLayout, paddedLine, keptBy, afterKeep, Answers, opOf}
 use Rattle.session.specs.Replies.{refusal}
 use Rattle.session.proofs.Decided.{answers-once}
 use Rattle.session.proofs.Kept.{kept-after}
@@ -28,12 +36,13 @@ use Rattle.session.proofs.Refused.{refused-stays, unsound-refused, unsound-kept
 use Rattle.kiosk.specs.declared.records.LayoutRecord.{LayoutRecord}
 use Rattle.kiosk.specs.declared.records.SessionRecord.{SessionRecord}
 use Rattle.kiosk.specs.Records.{layoutOf, sessionOf, layoutRecord, AllListed, allListedB}
-use Rattle.kiosk.specs.Step.{keptRecord, recordAfter, Answered}
+use Rattle.kiosk.specs.Step.{keptRecord, recordAfter, Answered, recordWithLayout}
 use Rattle.desk_frames.specs.declared.Question.{Question}
 use Rattle.desk_frames.specs.declared.DeskRequest.{DeskRequest}
-use Rattle.desk_frames.specs.declared.DeskRequest.the-variants.{Asks}
+use Rattle.desk_frames.specs.declared.DeskRequest.the-variants.{Asks, Tidy}
+use Rattle.desk_frames.specs.Answers.{contentFor, refusedWith, tidyFound, tidyOp}
 use Rattle.kiosk.specs.Cuts.{Handed}
-use Rattle.kiosk.specs.Desk.{blank, DeskAnswered, question, at-counter}
+use Rattle.kiosk.specs.Desk.{blank, isRefused, recordTidied, DeskAnswered, question, tidying, at-counter}
 use Rattle.kiosk.proofs.Listed.{unlisted-unsound, layout-listed, layout-back, sound-stays}
 
 -- ---- decided
@@ -155,6 +164,14 @@ module _ {before next : SessionRecord} {q : Request} {answer : List ℕ} {count 
 pub desk-answered-once : {before n m : SessionRecord} {q : DeskRequest} {xs ys : List ℕ} {j k : ℕ} → DeskAnswered before q n xs j
     → DeskAnswered before q m ys k → (n ≡ m) × (xs ≡ ys) × (j ≡ k)
 desk-answered-once (question t) (question u) = (refl, t .line ∙ sym (u .line), t .count ∙ sym (u .count))
+desk-answered-once {before} (tidying d g t) (tidying e h u) =
+    let same = tidy-is-one (layoutOf (before .layout)) d e g h in
+    let said : contentFor tidyOp (tidyFound (d .outcome) (d .count)) ≡ contentFor tidyOp (tidyFound (e .outcome) (e .count)) =
+    ap (λ (x : Tidied). contentFor tidyOp (tidyFound (x .outcome) (x .count))) same in (
+      ap (recordTidied before) same,
+      t .line ∙ ap (λ (c : List ℕ). sets blank 0 (lineFor c)) said ∙ sym (u .line),
+      t .count ∙ ap (λ (c : List ℕ). length (lineFor c)) said ∙ sym (u .count),
+    )
 desk-answered-once {before} (at-counter {q = q} a t) (at-counter b u) =
     let same = answered-once a b in
     let e = answers-once (sessionOf before) q (a .steps .answers) (b .steps .answers) in
@@ -165,3 +182,43 @@ desk-answered-once {before} (at-counter {q = q} a t) (at-counter b u) =
 pub desk-question-stays : {before next : SessionRecord} {q : Question} {answer : List ℕ} {count : ℕ} → DeskAnswered before (Asks q) next answer count
     → next ≡ before
 desk-question-stays (question t) = refl
+
+-- A REFUSED TIDYING leaves the record as it was, whatever it holds; the answer is its refusal
+pub desk-refused-tidy-stays : {before next : SessionRecord} {answer : List ℕ} {count : ℕ} → DeskAnswered before Tidy next answer count → (e : Refusal)
+    → tidyNo (layoutOf (before .layout)) ≡ some e → (next ≡ before) × LinePut blank (contentFor tidyOp (refusedWith e)) answer count
+desk-refused-tidy-stays {before} (tidying d g t) e h =
+    let came = refused-tidy (layoutOf (before .layout)) d e h g in (ap (recordTidied before) came, rw came at t)
+
+unsound-no : (l : Layout) → soundB l ≡ false → tidyNo l ≡ some NotSound
+unfolding tidyNo
+unsound-no l h = rw h refl
+
+-- a record with an unlisted kind or cut is refused with 1
+pub desk-unlisted-tidy : {before next : SessionRecord} {answer : List ℕ} {count : ℕ} → DeskAnswered before Tidy next answer count
+    → allListedB (before .layout .nodes) ≡ false → (next ≡ before) × LinePut blank (contentFor tidyOp (refusedWith NotSound)) answer count
+desk-unlisted-tidy {before} a unlisted = desk-refused-tidy-stays a NotSound (unsound-no (layoutOf (before .layout)) (unlisted-unsound (before .layout) unlisted))
+
+-- TIDIED, the next record stands for the session with the layout that the tidying leaves; the record of what is kept stays
+pub desk-tidied-stands : {before next : SessionRecord} {answer : List ℕ} {count : ℕ} → DeskAnswered before Tidy next answer count
+    → (d : Tidied) × TidySays (layoutOf (before .layout)) d × (sessionOf next ≡ withLayout (sessionOf before) (d .layout)) × (next .kept ≡ before .kept)
+desk-tidied-stands {before} (tidying d g t) = (d, g, stands (d .outcome) refl, kept (isRefused (d .outcome)))
+  where
+    stands : (v : Outcome) → d .outcome ≡ v
+        → sessionOf (cond (isRefused v) before (recordWithLayout before (d .layout))) ≡ withLayout (sessionOf before) (d .layout)
+    stands outcomes.Done e = let back = layout-back (d .layout) in λ i. record { layout = back i; kept = layoutOf (before .kept) }
+    stands (outcomes.Refused r) e =
+        let same = ap (λ (x : Tidied). x .layout) (tidy-refused (layoutOf (before .layout)) d g r e .1) in
+        λ i. record { layout = sym same i; kept = layoutOf (before .kept) }
+
+    kept : (b : Bool) → cond b before (recordWithLayout before (d .layout)) .kept ≡ before .kept
+    kept true = refl
+    kept false = refl
+
+-- what is listed stays so
+pub desk-tidied-listed : {before next : SessionRecord} {answer : List ℕ} {count : ℕ} → DeskAnswered before Tidy next answer count
+    → AllListed (before .layout .nodes) → AllListed (next .layout .nodes)
+desk-tidied-listed {before} (tidying d g t) h = go (isRefused (d .outcome))
+  where
+    go : (b : Bool) → AllListed (cond b before (recordWithLayout before (d .layout)) .layout .nodes)
+    go true = h
+    go false = layout-listed (d .layout)

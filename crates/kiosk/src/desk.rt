@@ -1,5 +1,5 @@
 // The desk's frames for programs in C and Rust (docs/DESK.md), on the session record of the counter's step. Rests on lib.rt for the counter's ops and on
-// `desk_frames` for the questions.
+// `desk_frames` for the questions and the tidying.
 ghost use mathlib.Core.Path.{_≡_};
 ghost use Rattle.desk_frames.specs.declared.DeskRequest.the-variants as asks;
 ghost use Rattle.desk_frames.specs.Requests.{deskRequestOf};
@@ -8,12 +8,15 @@ ghost use Rattle.kiosk.specs.Desk.{DeskAnswered};
 use crate::asked;
 use crate::records::SessionRecord;
 use crate::records::layout_of;
+use crate::records::layout_record;
 use desk_frames::DeskRequest;
 use desk_frames::LONGEST_ANSWER;
 use desk_frames::Question;
 use desk_frames::read::request;
 use desk_frames::replies::answer;
+use desk_frames::replies::tidied;
 use frames::Request;
+use layout::replies::Outcome;
 use saw::cuts::copy_first;
 
 // The next state, and the answer: the first count characters of line, its newline among them; the rest is zero.
@@ -35,6 +38,34 @@ fn told(given: SessionRecord, question: Question) -> DeskRecord
         session: given,
         line,
         count,
+    }
+}
+
+// The layout is tidied; what is kept stays, and where it is refused all does.
+fn tidy(mut given: SessionRecord) -> DeskRecord
+    ensures { λ r. ⌜ DeskAnswered given asks.Tidy (r .session) (r .line) (r .count) ⌝ }
+{
+    let stood = given.layout;
+    let layout = layout_of(stood);
+    let after = layout.tidy();
+    let outcome = after.outcome;
+    let mut line = [0u8; LONGEST_ANSWER];
+    let count = tidied(outcome, after.count, &mut line);
+    match outcome {
+        Outcome::Done => {
+            let left = after.layout;
+            given.layout = layout_record(left);
+            DeskRecord {
+                session: given,
+                line,
+                count,
+            }
+        }
+        Outcome::Refused(_) => DeskRecord {
+            session: given,
+            line,
+            count,
+        },
     }
 }
 
@@ -61,6 +92,7 @@ fn desk_stepped(given: SessionRecord, line: &[u8]) -> DeskRecord
 {
     match request(line) {
         DeskRequest::Asks(question) => told(given, question),
+        DeskRequest::Tidy => tidy(given),
         DeskRequest::AtCounter(request) => at_counter(given, request),
     }
 }

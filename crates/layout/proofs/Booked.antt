@@ -110,7 +110,7 @@ module _ (l : Layout) (x : ℕ) (p : PartType) (r : Rotation) (s : InsertionShap
 
   -- the number is in the domain, as the type says
   module _ (numbered : p .number ≤ maxNumber) where
-    fitting : Fitting (l .settings) d b
+    pub fitting : Fitting (l .settings) d b
     fitting =
         record { inside = offers .inside; offered = offers .shaped; sided = part-sided p r (can .part); numbered = numbered; bladed = refl }
 

@@ -18,6 +18,7 @@ use Rattle.layout.specs.declared.replies.Sought.{Sought}
 use Rattle.layout.specs.declared.restore.Restored.{Restored}
 use Rattle.layout.specs.declared.insert.Inserted.{Inserted}
 use Rattle.layout.specs.declared.remove.Removed.{Removed}
+use Rattle.layout.specs.declared.tidy.Tidied.{Tidied}
 use Rattle.layout.specs.Check.{soundB}
 use Rattle.layout.specs.Zero.{zeroLayout}
 use Rattle.layout.specs.Open.{openOf}
@@ -25,7 +26,9 @@ use Rattle.layout.specs.Restore.{restoreOf}
 use Rattle.layout.specs.Asked.{freePieceOf}
 use Rattle.layout.specs.Insert.{InsertSays, bookingFor, insertIs, insertNo}
 use Rattle.layout.specs.Remove.{RemoveSays, numbersLeft, removeIs, removeNo}
+use Rattle.layout.specs.Tidy.{TidySays, tidyIs, tidyNo}
 use Rattle.layout.proofs.Changed.{next-is-one}
+use Rattle.layout.proofs.Tidying.{tidies-once}
 
 -- what is the same as one thing is the same
 pub only : {A : Type 0} {x : A} (r s : A) → r ≡ x → s ≡ x → r ≡ s
@@ -81,3 +84,15 @@ module _ (l : Layout) (m : Mark) where
 
   pub remove-leaves-one : (out a b : List ℕ) → a ≡ numbersLeft l m out → b ≡ numbersLeft l m out → a ≡ b
   remove-leaves-one out = only
+
+-- accepted, the steps are the same, each the lowest in its turn
+tidied-is-one : (o : Option Refusal) (l : Layout) (a b : Tidied) → tidyIs o l a → tidyIs o l b → a ≡ b
+tidied-is-one (some e) l a b p q = only a b p q
+tidied-is-one none l a b p q =
+    let outcome = only (a .outcome) (b .outcome) (p .outcome) (q .outcome) in
+    let same = tidies-once (p .tidies) (q .tidies) in
+    λ i. record { outcome = outcome i; count = same .0 i; layout = same .1 i }
+
+pub tidy-is-one : (l : Layout) (a b : Tidied) → TidySays l a → TidySays l b → a ≡ b
+unfolding TidySays
+tidy-is-one l = tidied-is-one (tidyNo l) l

@@ -17,5 +17,7 @@ pub mod Inserted
 pub mod TakenOut
 pub mod RemoveEnds
 pub mod Gone
+pub mod TidyEnds
+pub mod Tidying
 pub mod Answered
 pub mod Refusals

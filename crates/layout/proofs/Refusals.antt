@@ -1,6 +1,6 @@
 -- A refused call changes nothing: it hands back the layout as it came, answers zero, and leaves a lent buffer as it was. (Of `insert` and `remove` that
--- they answer a refusal only there: Inserted and Gone, `insert-refused` and `remove-refused`.) And what isn't sound is refused with 1, whatever else a
--- call is handed. Assumes nothing.
+-- they answer a refusal only there: Inserted and Gone, `insert-refused` and `remove-refused`; of `tidy`: Tidying, `tidy-refused`.) And what isn't sound is
+-- refused with 1, whatever else a call is handed. Assumes nothing.
 use mathlib.Core.Path.{_≡_, refl}
 use mathlib.Core.Bool.{Bool, true, false}
 use mathlib.Core.List.{List}
@@ -21,6 +21,7 @@ use Rattle.layout.specs.declared.open.OpenOutcome.the-variants as openin
 use Rattle.layout.specs.declared.replies.Outcome.the-variants.{Refused}
 use Rattle.layout.specs.declared.insert.Inserted.{Inserted}
 use Rattle.layout.specs.declared.remove.Removed.{Removed}
+use Rattle.layout.specs.declared.tidy.Tidied.{Tidied}
 use Rattle.layout.specs.Check.{domainB, soundB}
 use Rattle.layout.specs.Zero.{zeroLayout}
 use Rattle.layout.specs.Asked.{freePieceOf}
@@ -28,6 +29,7 @@ use Rattle.layout.specs.Open.{openOf}
 use Rattle.layout.specs.Insert.{insertNo, InsertSays, refusedInsert}
 use Rattle.layout.specs.Remove.{numbersLeft, removeNo, RemoveSays, refusedRemove}
 use Rattle.layout.specs.Restore.{restoreOf, refusedRestore}
+use Rattle.layout.specs.Tidy.{tidyNo, TidySays, refusedTidy}
 
 -- ---- a refused call
 
@@ -45,6 +47,10 @@ refused-remove l m room a e h says = rw h at says
 pub refused-numbers : (l : Layout) (m : Mark) (out : List ℕ) (e : Refusal) → removeNo l m (length out) ≡ some e → numbersLeft l m out ≡ out
 unfolding numbersLeft
 refused-numbers l m out e h = rw h refl
+
+pub refused-tidy : (l : Layout) (a : Tidied) (e : Refusal) → tidyNo l ≡ some e → TidySays l a → a ≡ refusedTidy l e
+unfolding TidySays
+refused-tidy l a e h says = rw h at says
 
 pub refused-restore : (l s : Layout) (e : Refusal) → restoreOf l s .outcome ≡ Refused e → restoreOf l s .layout ≡ l
 unfolding restoreOf
@@ -80,6 +86,10 @@ module _ (l : Layout) (unsound : soundB l ≡ false) where
   pub numbers-unsound : (m : Mark) (out : List ℕ) → numbersLeft l m out ≡ out
   unfolding removeNo
   numbers-unsound m out = refused-numbers l m out NotSound (rw unsound refl)
+
+  pub tidy-unsound : (a : Tidied) → TidySays l a → a ≡ refusedTidy l NotSound
+  unfolding tidyNo
+  tidy-unsound a says = refused-tidy l a NotSound (rw unsound refl) says
 
   -- `restore` tests the snapshot too, and answers the same whichever of the two isn't sound
   pub restore-unsound : (k : Layout) → restoreOf l k ≡ refusedRestore l NotSound

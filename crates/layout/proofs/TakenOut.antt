@@ -4,8 +4,10 @@ use mathlib.Core.Path.{_≡_, refl, sym, ap, _∙_}
 use mathlib.Core.List.{List, [], _∷_}
 use mathlib.Core.Bool.{cond}
 use Prim.Native.Nat.{ℕ, zero, suc, _+_, _-_, _≤_, _<_}
+use native.Mathlib.Nat.{le-refl}
 use native.Mathlib.Omega.{arith}
 use lib.ListN.{length, getD, length-append}
+use lib.Seq.{take-length}
 use Rattle.piece.specs.declared.node.Kind.{Kind}
 use Rattle.piece.specs.declared.node.Kind.the-variants.{Free, Part, Structure}
 use Rattle.piece.specs.Row.{nil, grow}
@@ -23,6 +25,7 @@ use Rattle.walks.specs.Inner.{Hangs}
 use Rattle.walks.specs.Along.{numbersAlong, parts, PartsEnd}
 use Rattle.lists.specs.Lists.{entries}
 use Rattle.walks.proofs.Meaning.{length-order}
+use Rattle.walks.proofs.Entries.{entries-take}
 use Rattle.walks.proofs.Along.{each-subtree, sound-ends, length-numbers, parts-most}
 use Rattle.layout_nodes.specs.Listings.{entriesOf}
 use Rattle.layout_nodes.specs.Standing.{Stands}
@@ -33,14 +36,17 @@ use Rattle.removal.specs.Remove.{removedNodes}
 use Rattle.removal.specs.Inner.{Clearable}
 use Rattle.removal.proofs.Row.{row-of}
 use Rattle.removal.proofs.Goes.{leaving-is, going-is}
+use Rattle.removal.proofs.Gone.{going-placed}
 use Rattle.removal.proofs.Pieces.{parent-low, last-low}
 use Rattle.removal.proofs.Stands.{remove-clearable, remove-stands, remove-place, remove-list}
 use Rattle.removal.proofs.Sums.{left-count, removed-count, removed-area, going-most, removed-numbers, removed-few}
 use Rattle.layout.specs.declared.layout.Layout.{Layout}
+use Rattle.layout.specs.declared.replies.Outcome.the-variants.{Done}
+use Rattle.layout.specs.declared.remove.Removed.{Removed}
 use Rattle.layout.specs.Check.{limit, tree}
 use Rattle.layout.specs.Parts.{nodesOf, withNodes}
 use Rattle.layout.specs.Next.{Next, removables}
-use Rattle.layout.specs.Remove.{numbersOut, placeFor}
+use Rattle.layout.specs.Remove.{RemoveDone, numbersOut, placeFor}
 use Rattle.layout.specs.Inner.{Leaving, Takeable}
 use Rattle.layout.proofs.Areas.{used-small}
 use Rattle.layout.proofs.Changed.{layout-stands, stands-next}
@@ -70,7 +76,7 @@ module _ (l : Layout) (x : ℕ) (t : Takeable l x) where
   held-there = at-in x (t .removable .piece) (tree l) (t .removable .there)
 
   -- what the code finds to go is what the tree says
-  goes-is : goingOf (l .nodes) x (l .held) ≡ going (l .nodes) x (tree l)
+  pub goes-is : goingOf (l .nodes) x (l .held) ≡ going (l .nodes) x (tree l)
   goes-is = rw (t .sound .held) (going-is (l .nodes) (tree l) x (t .sound .holds) held-there)
 
   -- what `going_with` asks
@@ -193,3 +199,45 @@ module _ (l : Layout) (x : ℕ) (t : Takeable l x) where
           rw (← list-is)
           (stands-next l (l .serial + 1) (remove x p (l .serial + 1) (tree l)) (c .nodes) stands-again _ _
           (omega (arith, h, n, count-is, s .held)) (omega (arith, u, a, ap (areaAlong (l .nodes)) places-are, s .used)))
+
+-- ---- an answer: what the steps leave is one, so there is one
+
+module _ (l : Layout) (x : ℕ) where
+  abbrev all : List ℕ
+  all = goingOf (l .nodes) x (l .held)
+
+  all-going : Going
+  all-going = record { order = all; count = length all }
+
+  left : Cleared
+  left = removedNodes (nodesOf l) (places all-going) x (l .serial)
+
+  reply : Removed
+  reply =
+      record {
+        outcome = Done;
+        free = record { layout = l .number; place = left .place; serial = l .serial + 1 };
+        count = length (numbersOut l x);
+        layout = withNodes l (left .nodes) ((l .held + 1) - all-going .count) (l .used - areaAlong (l .nodes) (places all-going)) (l .serial + 1);
+      }
+
+  pub some-removed : Takeable l x → (a : Removed) × RemoveDone l x a
+  unfolding all-going left reply
+  some-removed can = (
+    reply,
+    record {
+      outcome = refl;
+      free = ap (λ (q : ℕ). record { layout = l .number; place = q; serial = l .serial + 1 }) (place-is l x can all-going leaves refl);
+      count = refl;
+      next = next-out l x can all-going leaves refl refl refl;
+    },
+  )
+    where
+      leaves : Leaving l x all-going
+      leaves =
+          let g = goable l x can in
+          record {
+            places = entries-take (length all) all (le-refl (length all)) ∙ take-length all;
+            room = g .3;
+            placed = going-placed (l .nodes) x (l .held) (g .0) (g .2);
+          }

@@ -9,4 +9,5 @@ pub mod Refusing
 pub mod Parts
 pub mod Insert
 pub mod Remove
+pub mod Tidy
 pub mod Inner

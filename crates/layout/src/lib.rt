@@ -11,3 +11,4 @@ pub mod parts;
 pub mod remove;
 pub mod replies;
 pub mod restore;
+pub mod tidy;

@@ -1,5 +1,5 @@
--- What `going_with` writes: the places are places, and those of the subtree and of the free last child are written one after the other. It rests on
--- what `walks` says of what is written from the start of an array on. Assumes nothing.
+-- What `going_with` writes: the places are places, and those of the subtree and of the free last child are written one after the other. And what `going_bare`
+-- writes. It rests on what `walks` says of what is written from the start of an array on. Assumes nothing.
 use mathlib.Core.Path.{_≡_, refl, sym, ap, _∙_}
 use mathlib.Core.List.{List, [], _∷_, _++_}
 use mathlib.Core.Bool.{Bool, true, false, cond}
@@ -21,6 +21,7 @@ use Rattle.walks.specs.Walk.{gathered, walkOf}
 use Rattle.walks.specs.Order.{itself, orderOf}
 use Rattle.walks.proofs.Entries.{written-entries, written-placed}
 use Rattle.removal.specs.Going.{goingOf}
+use Rattle.removal.specs.Untidy.{bareGoing}
 
 -- ---- all are places
 
@@ -113,3 +114,29 @@ module _ (t : List Node) (x held : ℕ) where
 
       pub gone-placed : x < limit → at t (at t x .parent) .last < limit → Placed limit n order
       gone-placed h l = written-placed (zeros limit) (goingOf t x held) wrote many fits limit (going-placed h l)
+
+-- ---- what goes with a structure that tidying takes out
+
+module _ (t : List Node) (x : ℕ) where
+  pub bare-length : (2 ≤ length (bareGoing t x)) × (length (bareGoing t x) ≤ 3)
+  unfolding bareGoing freeLastPlace
+  bare-length = go (freeLast t (at t x .parent))
+    where
+      go : (b : Bool) → let l = at t x .first ∷ x ∷ cond b (at t (at t x .parent) .last ∷ []) [] in (2 ≤ length l) × (length l ≤ 3)
+      go true = (omega arith, omega arith)
+      go false = (omega arith, omega arith)
+
+  pub bare-gone : {order : List ℕ} {n : ℕ} → x < limit → at t (at t x .parent) .last < limit → at t x .first < limit
+      → order ≡ sets (zeros limit) 0 (bareGoing t x) → n ≡ length (bareGoing t x)
+      → (entries n order ≡ bareGoing t x) × ((n ≡ length (bareGoing t x)) × Placed limit n order)
+  unfolding bareGoing
+  bare-gone {order} {n} h l f w m =
+      let n-is : n ≡ 0 + length (bareGoing t x) = omega (arith, m) in
+      let fits : length (bareGoing t x) ≤ length (zeros limit) = omega (arith, bare-length .1, length-replicate {A = ℕ} limit 0) in (
+        written-entries (zeros limit) (bareGoing t x) w n-is fits,
+        (m, written-placed (zeros limit) (bareGoing t x) w n-is fits limit bare-placed),
+      )
+    where
+      bare-placed : Placed limit (length (bareGoing t x)) (bareGoing t x)
+      bare-placed =
+          low-placed limit (at t x .first ∷ x ∷ freeLastPlace t (at t x .parent)) (f, (h, low-free-last limit t (at t x .parent) l))

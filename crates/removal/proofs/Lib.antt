@@ -11,3 +11,4 @@ pub mod Boards
 pub mod Gone
 pub mod Struck
 pub mod Stands
+pub mod Bare

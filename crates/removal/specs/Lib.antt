@@ -1,3 +1,4 @@
 pub mod Going
 pub mod Remove
+pub mod Untidy
 pub mod Inner

@@ -3,3 +3,4 @@
 // `layout_nodes` for the steps, and on `tree` for what a removal is.
 pub mod going;
 pub mod remove;
+pub mod untidy;

@@ -143,7 +143,7 @@ fn board_with(d: Datum, end: Datum) -> Size
 }
 
 // The free piece that comes where d was, where `end` is the last piece of its row.
-fn new_free(d: Datum, end: Datum, last: u32) -> Datum
+pub(crate) fn new_free(d: Datum, end: Datum, last: u32) -> Datum
     requires { ⌜ (board d (ifFree end) .width ≤ 4294967295) × (board d (ifFree end) .height ≤ 4294967295) × (last ≤ 1000000) ⌝ }
     ensures { λ r. ⌜ r ≡ freed (last + 1) d (board d (ifFree end)) ⌝ }
 {
@@ -161,7 +161,7 @@ fn new_free(d: Datum, end: Datum, last: u32) -> Datum
 }
 
 // The free list without the pieces that go and with the new one, which stands at `place` of the table.
-fn free_list(free: Listing, g: Going, nodes: [Node; LIMIT], place: u16) -> Listing
+pub(crate) fn free_list(free: Listing, g: Going, nodes: [Node; LIMIT], place: u16) -> Listing
     requires { ⌜ Kept free × (g .count ≤ limit) × (length (omitAll (entriesOf free) (places g)) < limit)
         × Single (entriesOf free) ⌝ }
     ensures { λ r. ⌜ r ≡ listing (put (areaIn nodes) (omitAll (entriesOf free) (places g)) place) ⌝ }
@@ -174,7 +174,7 @@ fn free_list(free: Listing, g: Going, nodes: [Node; LIMIT], place: u16) -> Listi
 }
 
 // The removable list without the pieces that go. A parent that has lost its last child is taken out, and returns at once: it stands at q.
-fn removable_list(removable: Listing, g: Going, parent: Node, q: u16) -> Listing
+pub(crate) fn removable_list(removable: Listing, g: Going, parent: Node, q: u16) -> Listing
     requires { ⌜ Kept removable × (g .count ≤ limit) × (length (strikeAll (entriesOf removable) (places g)) < limit)
         × Single (entriesOf removable) ⌝ }
     ensures { λ r. ⌜ r ≡ listing (returned parent q (strikeAll (entriesOf removable) (places g))) ⌝ }

@@ -121,7 +121,7 @@ at-unique i d e (grow p f k r) n (inr (inr g)) (inr (inr h)) = at-unique i d e r
 
 module _ (settings : Settings) (x n s : ℕ) (b : Booking) where
   -- a piece in which b can be booked
-  abbrev Takes : Datum → Type 0
+  abbrev pub Takes : Datum → Type 0
   Takes d = (d .kind ≡ Free) × (fits (d .size) (b .size) ≡ true)
 
   -- the tree is as it was
@@ -129,7 +129,7 @@ module _ (settings : Settings) (x n s : ℕ) (b : Booking) where
   Back t = shape (remove (b .place 0) n s (book x b t)) ≡ shape t
 
   -- a free piece is the last of its row, childless, without a number and with nothing eaten behind it
-  back-here : (p : ℕ) (d : Datum) (k r : Tree) → p ≡ x → Takes d → FreePiece d k r → d .eaten ≡ 0 → Back (grow p d k r)
+  pub back-here : (p : ℕ) (d : Datum) (k r : Tree) → p ≡ x → Takes d → FreePiece d k r → d .eaten ≡ 0 → Back (grow p d k r)
   unfolding block blockOf
   back-here p d k r e t f z =
       let c = d .cut in

@@ -22,7 +22,7 @@ abbrev pub Where : ℕ → (Datum → Tree → Tree → Type 0) → Tree → Typ
 Where x P nil = Unit {0}
 Where x P (grow y d k r) = (y ≡ x → P d k r) × Where x P k × Where x P r
 
-where-absent : (x : ℕ) (P : Datum → Tree → Tree → Type 0) (t : Tree) → (In x t → ⊥) → Where x P t
+pub where-absent : (x : ℕ) (P : Datum → Tree → Tree → Type 0) (t : Tree) → (In x t → ⊥) → Where x P t
 where-absent x P nil n = tt
 where-absent x P (grow y d k r) n =
     ((λ e. absurd (n (inl (sym e)))), where-absent x P k (λ h. n (inr (inl h))), where-absent x P r (λ h. n (inr (inr h))))

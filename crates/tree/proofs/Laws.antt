@@ -1,6 +1,7 @@
 -- The laws of the cut tree, one to a file.
 pub mod Worked
 pub mod WorkedBlade
+pub mod WorkedTidy
 pub mod SameTree
 pub mod OpenSound
 pub mod BookingSound
@@ -15,3 +16,5 @@ pub mod AreaConserved
 pub mod SheetUsageOne
 pub mod TreeUsageOne
 pub mod NothingEaten
+pub mod TidyTree
+pub mod BookRemoveTidy

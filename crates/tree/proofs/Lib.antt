@@ -29,4 +29,8 @@ pub mod BookPieces
 pub mod Pigeon
 pub mod Family
 pub mod Parents
+pub mod Tidying
+pub mod Tidied
+pub mod Takings
+pub mod Returned
 pub mod Laws

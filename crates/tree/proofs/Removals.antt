@@ -41,25 +41,25 @@ without-last nil n s d z = refl
 without-last (grow p e k r) n s d z = rw (longer r n (freed s d z), and-false (isFree (e .kind)), without-last r n s d z)
 
 -- pieces that are not free stay before the board that settles
-settled-past : (n s : ℕ) (d : Datum) (z : ℕ) (e : Datum) (k r : Tree) → isFree (e .kind) ≡ false
+pub settled-past : (n s : ℕ) (d : Datum) (z : ℕ) (e : Datum) (k r : Tree) → isFree (e .kind) ≡ false
     → settled n s d (grow z e k r) ≡ grow z e k (settled n s d r)
 unfolding settled
 settled-past n s d z e k r h = rw h
 
 -- the free piece joins it
-settled-join : (n s : ℕ) (d : Datum) (z : ℕ) (e : Datum) → isFree (e .kind) ≡ true
+pub settled-join : (n s : ℕ) (d : Datum) (z : ℕ) (e : Datum) → isFree (e .kind) ≡ true
     → settled n s d (grow z e nil nil) ≡ grow n (freed s d (board d (some e))) nil nil
 unfolding settled
 settled-join n s d z e h = rw h
 
 -- a row after one of its pieces went, but for the marks
-shape-settled : (n s : ℕ) (d : Datum) (r : Tree)
+pub shape-settled : (n s : ℕ) (d : Datum) (r : Tree)
     → shape (settled n s d r) ≡ after (shape (withoutLast r)) (grow 0 (unmarked (freed 0 d (board d (lastFree r)))) nil nil)
 unfolding settled
 shape-settled n s d r = shape-after (withoutLast r) (grow n (freed s d (board d (lastFree r))) nil nil)
 
 -- the new piece's marks do not count
-settled-alike : (n s n′ s′ : ℕ) (d : Datum) (r : Tree) → shape (settled n s d r) ≡ shape (settled n′ s′ d r)
+pub settled-alike : (n s n′ s′ : ℕ) (d : Datum) (r : Tree) → shape (settled n s d r) ≡ shape (settled n′ s′ d r)
 settled-alike n s n′ s′ d r = shape-settled n s d r ∙ sym (shape-settled n′ s′ d r)
 
 -- Two boards of one row.
@@ -86,7 +86,7 @@ settled-twice n s m s′ d e r =
     shape-settled m s′ e (settled n s d r) ∙ rw (without-last (withoutLast r) n s d z, last-free (withoutLast r) n s d z)
 
 -- the children of q are at one level, have one cut and lie side by side, so that it is one piece whichever went first
-twice : (settings : Settings) (n s m s′ n′ u m′ u′ : ℕ) (q d e : Datum) (r : Tree) → Child settings q d → Child settings q e
+pub twice : (settings : Settings) (n s m s′ n′ u m′ u′ : ℕ) (q d e : Datum) (r : Tree) → Child settings q d → Child settings q e
     → shape (settled m s′ e (settled n s d r)) ≡ shape (settled n′ u d (settled m′ u′ e r))
 twice settings n s m s′ n′ u m′ u′ q d e r a b =
     let c = other (q .cut) in

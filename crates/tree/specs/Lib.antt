@@ -12,5 +12,7 @@ pub mod ListSteps
 pub mod Pieces
 pub mod Family
 pub mod Enrolment
+pub mod Tidy
 pub mod Worked
 pub mod WorkedBlade
+pub mod WorkedTidy

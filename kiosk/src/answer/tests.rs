@@ -44,6 +44,7 @@ fn one_of_each() -> Vec<(String, Answer)> {
         ("18 00 0001 0102 00 03040506 02 03", Answer::Cuts(vec![cut])),
         ("19 00 0102030405060708", Answer::EatenArea(used_area)),
         ("1a 00 0003 00 03 64", Answer::CutAmounts(vec![0, 3, 100])),
+        ("1b 00 0102", Answer::Tidied(0x0102)),
     ];
     pairs.into_iter().map(|(words, answer)| (line(&numbers(&words.replace(' ', ""))), answer)).collect()
 }
@@ -64,7 +65,7 @@ fn each_answer_is_read() {
 
 #[test]
 fn each_refusal_is_read() {
-    for op in (0x01..=0x07).chain(0x11..=0x1a) {
+    for op in (0x01..=0x07).chain(0x11..=0x1b) {
         for number in 1..=13 {
             assert_eq!(Answer::read(line(&[op, number])).err().map(Refusal::number), Some(number));
         }
@@ -82,11 +83,12 @@ fn what_is_no_answer() {
         vec![0, 0],
         vec![8, 0],
         vec![0x10, 0],
-        vec![0x1b, 0],
+        vec![0x1c, 0],
         vec![0xff, 0],
         vec![0xff, 13],
         vec![0xff, 15],
         vec![8, 1],
+        vec![0x1c, 1],
         vec![3, 14],
         vec![3, 15],
         vec![3, 255],
@@ -118,6 +120,10 @@ fn what_is_no_answer() {
         // an amount too few, and one too many
         vec![0x1a, 0, 0, 2, 3],
         vec![0x1a, 0, 0, 1, 3, 3],
+        // how many were taken out: nothing, a byte, three bytes
+        vec![0x1b, 0],
+        vec![0x1b, 0, 1],
+        vec![0x1b, 0, 0, 0, 1],
         // an area of seven bytes
         [&[0x19, 0], [0; 7].as_slice()].concat(),
         // neither empty nor not
@@ -163,16 +169,14 @@ fn damaged_answers() {
 #[test]
 fn random_bytes() {
     let (mut random, mut read) = (Random(21), 0);
+    let ops: Vec<u8> = (0x01..=0x07).chain(0x11..=0x1b).collect();
     for _ in 0..200_000 {
         let mut bytes: Vec<u8> = (0..random.below(40))
             .map(|_| if random.below(4) == 0 { random.below(256) as u8 } else { random.below(4) as u8 })
             .collect();
         assert_eq!(Answer::read(&bytes), Err(Refusal::Unreadable));
         // with the op and the 00 of an answer
-        bytes.splice(
-            0..0,
-            [[1, 2, 3, 4, 5, 6, 7, 0x11, 0x12, 0x13, 0x14, 0x15, 0x16, 0x17, 0x18, 0x19, 0x1a][random.below(17) as usize], 0],
-        );
+        bytes.splice(0..0, [ops[random.below(18) as usize], 0]);
         read += usize::from(says_again(&bytes));
     }
     assert!(read > 1_000, "{read}");

@@ -4,7 +4,9 @@
 use super::*;
 use crate::archive;
 use crate::common::typed::MALFORMED;
-use crate::common::{insert, line, lines_of, mark, numbers, part, remove, Random, KEEP, OPEN, OPEN_WITH_BLADE, REPORT, RESTORE};
+use crate::common::{
+    insert, line, lines_of, mark, numbers, part, remove, Random, KEEP, OPEN, OPEN_WITH_BLADE, REPORT, RESTORE, TIDY,
+};
 
 /// Document 01's booking on its sheet: part 7 of 40 x 60 along the cut.
 const BOOKING: &str = "03000101000000020007000000280000003c0000018d";
@@ -35,7 +37,7 @@ fn answer(session: &mut SessionRecord, line: impl AsRef<[u8]>) -> String {
     let mut answer = [7; DESK_LONGEST];
     let desk_count = archive::desk(session, line, &mut answer);
     assert!(answer[desk_count - 1] == b'\n' && answer[desk_count..].iter().all(|byte| *byte == 0));
-    if matches!(line, [b'1', b'1'..=b'9' | b'a', ..]) {
+    if matches!(line, [b'1', b'1'..=b'9' | b'a' | b'b', ..]) {
         assert_eq!(said[..count - 1], *MALFORMED.as_bytes(), "an op of the desk alone");
     } else {
         assert_eq!(answer[..desk_count], said[..count]);
@@ -53,15 +55,15 @@ fn booked() -> SessionRecord {
     session
 }
 
-/// A line for each op that looks at the sheet, with its op: part 1 x 1 into the free piece, and part 7 out; then the desk's.
+/// A line for each op that looks at the sheet, with its op: part 1 x 1 into the free piece, and part 7 out; then the desk's questions, and tidying.
 fn looks() -> Vec<(u8, String)> {
     let (free, small) = (mark(2, 4), part(1, 1));
     let offers = line(&[&[2], free.as_slice(), &small].concat());
     let lines = [offers, insert(&free, &small, 3), remove(&mark(1, 3)), KEEP.into(), RESTORE.into(), REPORT.into()];
-    (2..).zip(lines).chain(questions()).collect()
+    (2..).zip(lines).chain(questions()).chain([(0x1b, TIDY.into())]).collect()
 }
 
-/// A line for each op of the desk's own, with its op. None of them changes anything.
+/// A line for each question of the desk's own, with its op. None of them changes anything.
 fn questions() -> Vec<(u8, String)> {
     let (free, small) = (mark(2, 4), part(1, 1));
     let fields = [[free.as_slice(), &small].concat(), small, vec![0, 0], vec![0, 0]];
@@ -155,7 +157,7 @@ fn the_archive_writes_within_what_is_lent() {
 }
 
 /// The same of the desk, whose longest answer has 7,151 characters: a snapshot of 255 nodes. Each of its questions is asked behind every line of the long sessions,
-/// of which some fill the table.
+/// of which some fill the table; then the sheet is tidied, and put back as it was.
 #[test]
 fn the_desk_writes_within_what_is_lent() {
     #[repr(C)]
@@ -171,7 +173,7 @@ fn the_desk_writes_within_what_is_lent() {
     let mut lent = Box::new(Lent { before, session: SessionRecord::ZERO, between, answer: [7; DESK_LONGEST], behind: [7; 4096] });
     assert_eq!(DESK_LONGEST, 7151);
     let questions: Vec<Vec<u8>> = questions().into_iter().map(|(_, line)| line.into_bytes()).collect();
-    let mut longest = 0;
+    let (mut longest, mut untidy) = (0, 0);
     for line in lines_of("recorded/long.in").iter().chain([&b"no frame".to_vec()]) {
         for line in [line].into_iter().chain(&questions) {
             let count = archive::desk(&mut lent.session, line, &mut lent.answer);
@@ -179,8 +181,16 @@ fn the_desk_writes_within_what_is_lent() {
             assert!(lent.answer[count - 1] == b'\n' && lent.answer[count..].iter().all(|byte| *byte == 0));
             longest = longest.max(count);
         }
+        let as_it_was = lent.session.clone();
+        let count = archive::desk(&mut lent.session, TIDY.as_bytes(), &mut lent.answer);
+        assert!(lent.before == before && lent.between == between && lent.behind == [7; 4096]);
+        assert!(lent.answer[count - 1] == b'\n' && lent.answer[count..].iter().all(|byte| *byte == 0));
+        assert!(lent.session.kept == as_it_was.kept);
+        untidy += usize::from(lent.session != as_it_was);
+        lent.session = as_it_was;
     }
     assert_eq!(longest, DESK_LONGEST);
+    assert!(untidy > 20, "{untidy}");
 }
 
 /// Each way to spoil a record by one number that document 01 doesn't list, at a place that is held and at one that isn't.
@@ -225,7 +235,7 @@ fn an_unlisted_kind_or_cut_is_not_restored() {
         spoil(&mut session.kept);
         stays(&mut session, RESTORE, &refused(6, 1));
         let kept = session.kept;
-        let lines = questions().into_iter().chain(looks().into_iter().filter(|(op, _)| [2, 3, 4, 7].contains(op)));
+        let lines = questions().into_iter().chain(looks().into_iter().filter(|(op, _)| [2, 3, 4, 7, 0x1b].contains(op)));
         for (op, line) in lines {
             assert_eq!(answer(&mut session, line)[..4], format!("{op:02x}00"));
             assert!(session.kept == kept);
@@ -270,7 +280,8 @@ fn amounts_that_are_not_sound_are_refused() {
     }
 }
 
-/// Offers, report and the desk's questions change nothing where they accept either; each other refusal of document 01 that a few lines can reach leaves the session as it was.
+/// Offers, report and the desk's questions change nothing where they accept either, and tidying nothing where all is tidy; each other refusal of document 01
+/// that a few lines can reach leaves the session as it was.
 #[test]
 fn what_refuses_and_what_only_looks_changes_nothing() {
     let mut session = booked();
@@ -318,9 +329,54 @@ fn what_refuses_and_what_only_looks_changes_nothing() {
             stays(&mut session, line(&[&fields[..fields.len() - 1], &[3]].concat()), MALFORMED);
         }
     }
-    for op in (8..=0x10).chain(0x1b..=255).chain([0]) {
+    stays(&mut session, line(&[0x1b, 0]), MALFORMED);
+    for op in (8..=0x10).chain(0x1c..=255).chain([0]) {
         stays(&mut session, line(&[op]), MALFORMED);
     }
+}
+
+/// Document 01's sheet, kept, on which part 7 of 40 x 30 was booked by AcrossThenAlong and taken out again: a structure with a strip in it, and no part. 8
+/// serials are issued.
+fn untidy() -> SessionRecord {
+    let mut session = SessionRecord::ZERO;
+    for line in [OPEN.to_string(), KEEP.into(), insert(&mark(1, 2), &part(40, 30), 4), remove(&mark(3, 5))] {
+        assert_eq!(answer(&mut session, line)[2..4], *"00");
+    }
+    assert_eq!((session.layout.held, session.layout.serial), (5, 8));
+    session
+}
+
+/// Tidying writes the layout alone: the sheet is the one of the opening, with two serials more, and what was kept stays.
+#[test]
+fn tidying_writes_the_layout() {
+    let mut session = untidy();
+    let kept = session.kept;
+    assert_eq!(answer(&mut session, TIDY), line(&[0x1b, 0, 0, 2]));
+    assert!(session.kept == kept);
+    let mut right = kept;
+    right.serial = 10;
+    right.nodes[1].datum.serial = 10;
+    assert!(session.layout == right);
+    stays(&mut session, TIDY, &line(&[0x1b, 0, 0, 0]));
+}
+
+/// It takes a serial for each structure that goes, also for one that holds one free piece alone only when another has gone. Where these don't last for all of
+/// them it is refused with 9, and none goes. Where all is tidy it takes none.
+#[test]
+fn tidying_wants_serials_for_all_that_goes() {
+    for (serial, lasts) in [(8, true), (999_997, true), (999_998, true), (999_999, false), (1_000_000, false)] {
+        let mut session = untidy();
+        session.layout.serial = serial;
+        if lasts {
+            assert_eq!(answer(&mut session, TIDY), line(&[0x1b, 0, 0, 2]), "{serial}");
+            assert_eq!((session.layout.serial, session.layout.held), (serial + 2, 2));
+        } else {
+            stays(&mut session, TIDY, &refused(0x1b, 9));
+        }
+    }
+    let mut session = booked();
+    session.layout.serial = 1_000_000;
+    stays(&mut session, TIDY, &line(&[0x1b, 0, 0, 0]));
 }
 
 fn why_not(mark: &[u8], part: &[u8]) -> String {

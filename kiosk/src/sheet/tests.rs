@@ -49,6 +49,7 @@ fn call(sheet: &mut Sheet, request: &Request) -> Result<Answer, Refusal> {
         Request::Cuts => sheet.cuts().map(|cuts| Answer::Cuts(cuts.iter().map(listed).collect())),
         Request::EatenArea => sheet.eaten_area().map(Answer::EatenArea),
         Request::CutAmounts => sheet.cuts().map(|cuts| Answer::CutAmounts(cuts.iter().map(|cut| cut.eaten).collect())),
+        Request::Tidy => sheet.tidy().map(Answer::Tidied),
     }
 }
 
@@ -112,17 +113,19 @@ fn on_a_small_stack(test: impl FnOnce() + Send + 'static) {
     thread.expect("a thread").join().expect("every answer was right");
 }
 
-/// The Rust's recorded answers to the long sessions.
+/// The Rust's recorded answers to the long sessions, and to those that tidy.
 #[test]
 fn long_sessions_by_typed_calls() {
     on_a_small_stack(|| {
-        let (frames, answers) = (lines_of("recorded/long.in"), texts_of("recorded/long.out"));
-        assert_eq!(frames.len(), answers.len());
-        let mut session = Session::new();
-        for (place, (frame, answer)) in frames.iter().zip(answers).enumerate() {
-            assert_eq!(session.turn(frame).0, answer, "line {}", place + 1);
+        for name in ["long", "tidy"] {
+            let (frames, answers) = (lines_of(&format!("recorded/{name}.in")), texts_of(&format!("recorded/{name}.out")));
+            assert_eq!(frames.len(), answers.len());
+            let mut session = Session::new();
+            for (place, (frame, answer)) in frames.iter().zip(answers).enumerate() {
+                assert_eq!(session.turn(frame).0, answer, "{name}, line {}", place + 1);
+            }
+            assert!(frames.len() > 1_900 && session.malformed > 0, "{name}: {} of {}", session.malformed, frames.len());
         }
-        assert!(frames.len() > 1_900 && session.malformed > 0, "{} of {}", session.malformed, frames.len());
     });
 }
 
@@ -159,10 +162,12 @@ fn compare(frames: &[String], ours: &[String]) {
 #[test]
 fn long_sessions_by_inspect() {
     on_a_small_stack(|| {
-        let frames = texts_of("recorded/long.in");
-        let mut session = Session::new();
-        let lines: Vec<String> = frames.iter().map(|frame| session.inspected(frame.as_bytes())).collect();
-        compare(&frames, &lines);
+        for file in ["recorded/long.in", "recorded/tidy.in"] {
+            let frames = texts_of(file);
+            let mut session = Session::new();
+            let lines: Vec<String> = frames.iter().map(|frame| session.inspected(frame.as_bytes())).collect();
+            compare(&frames, &lines);
+        }
     });
 }
 
@@ -236,7 +241,7 @@ impl Caller {
 
     fn request(&mut self, sheet: &Sheet) -> Request {
         let (free, removable) = (sheet.free_pieces().unwrap_or_default(), sheet.removable().unwrap_or_default());
-        match self.below(40) {
+        match self.below(42) {
             0 => self.opening(),
             1 | 2 => Request::Offers { piece: self.mark(&free), part: self.part(sheet) },
             3..=17 => {
@@ -257,16 +262,17 @@ impl Caller {
             36 => Request::RemovablePiece { position: self.one_of(&[0, 1, removable.len() as u16, u16::MAX]) },
             37 => Request::PartNumbers,
             38 => Request::Figures,
+            39 | 40 => Request::Tidy,
             _ => self.one_of(&[Request::Snapshot, Request::Cuts, Request::EatenArea, Request::CutAmounts]),
         }
     }
 }
 
-/// How often each op was answered so: 0 where it was carried out, else the refusal's number. And how often the blade did this.
+/// How often each op was answered so: 0 where it was carried out, else the refusal's number. And how often the blade and tidying did this.
 #[derive(Default)]
 struct Counts {
     answers: BTreeMap<(u8, u8), usize>,
-    blade: BTreeMap<&'static str, usize>,
+    done: BTreeMap<&'static str, usize>,
 }
 
 impl Counts {
@@ -275,7 +281,7 @@ impl Counts {
     }
 
     fn did(&mut self, what: &'static str) {
-        *self.blade.entry(what).or_default() += 1;
+        *self.done.entry(what).or_default() += 1;
     }
 }
 
@@ -340,6 +346,103 @@ fn gives_back(before: &[Node], removed: usize, after: &[Node]) -> &'static str {
     }
 }
 
+/// What is below a node, behind it in a snapshot.
+fn inside(nodes: &[Node], at: usize) -> &[Node] {
+    let behind = &nodes[at + 1..];
+    &behind[..behind.iter().take_while(|below| below.level > nodes[at].level).count()]
+}
+
+/// Where a snapshot has the structures but the top that hold one free piece and nothing else.
+fn untidy(nodes: &[Node]) -> Vec<usize> {
+    let one_free = |at: &usize| matches!(inside(nodes, *at), [Node { kind: Kind::Free, .. }]);
+    (1..nodes.len()).filter(|at| nodes[*at].kind == Kind::Structure).filter(one_free).collect()
+}
+
+/// The tree that tidying leaves, and how many structures go, by a rule of this test's own, which takes none out one by one: those but the top with no part
+/// inside.
+fn tidied(nodes: &[Node]) -> (Vec<Node>, u16) {
+    let (row, gone) = tidied_row(nodes[0].cut, &nodes[1..]);
+    ([&nodes[..1], &row].concat(), gone)
+}
+
+/// The same of the children of a node with this cut. A structure with no part inside goes; it gives its length, and what is eaten behind it, to the free piece
+/// at the end of the row, which is there then.
+fn tidied_row(cut: Way, nodes: &[Node]) -> (Vec<Node>, u16) {
+    let (mut row, mut given, mut gone) = (vec![], None::<Node>, 0);
+    let mut at = 0;
+    while at < nodes.len() {
+        let (node, inside) = (nodes[at], inside(nodes, at));
+        at += 1 + inside.len();
+        let structures = inside.iter().filter(|below| below.kind == Kind::Structure).count() as u16;
+        let empty = node.kind == Kind::Structure && inside.iter().all(|below| below.part_number().is_none());
+        if empty || node.kind == Kind::Free {
+            gone += if empty { 1 + structures } else { 0 };
+            let before = given.map_or(0, |given| laid(&given, cut).0);
+            let length = before + laid(&node, cut).0 + u32::from(node.eaten);
+            let free = Node { kind: Kind::Free, eaten: 0, ..node };
+            given = Some(match cut {
+                Way::Horizontal => Node { height: length, ..free },
+                Way::Vertical => Node { width: length, ..free },
+            });
+        } else {
+            let (below, taken) = tidied_row(node.cut, inside);
+            row.push(node);
+            row.extend(below);
+            gone += taken;
+        }
+    }
+    row.extend(given);
+    (row, gone)
+}
+
+/// Takes the structures that are untidy out one by one, by the old removal, each time the one that `choose` gives the number of, until there is none. They are
+/// handed to it as places. Gives how many there were.
+fn one_by_one(sheet: &mut Sheet, mut choose: impl FnMut(&[u16]) -> usize) -> u16 {
+    for count in 0.. {
+        let (nodes, places) = (sheet.snapshot().expect("a sheet"), sheet.desk.places());
+        let untidy: Vec<u16> = untidy(&nodes).into_iter().map(|at| places[at]).collect();
+        if untidy.is_empty() {
+            return count;
+        }
+        let place = untidy[choose(&untidy)];
+        let mark = sheet.removable().expect("a sheet").into_iter().find(|mark| mark.place() == place).expect("a structure");
+        assert_eq!(sheet.remove(mark).map(|removal| removal.parts), Ok(vec![]));
+    }
+    unreachable!("a sheet has an end");
+}
+
+/// Tidying of a sheet, of which a copy was made before: the tree of the rule above; on the copy the same sheet, with all its marks, if the lowest place goes
+/// first; and the same tree and as many, whichever goes first. Parts stay, and so do their marks. Gives what it was.
+fn tidies(before: &Desk, count: u16, sheet: &Sheet, random: &mut Random) -> &'static str {
+    let copy = || Sheet { desk: before.copy() };
+    let nodes = copy().snapshot().expect("a sheet");
+    let after = sheet.snapshot().expect("a sheet");
+    assert_eq!((after.clone(), count), tidied(&nodes), "{nodes:?}");
+    assert_eq!(untidy(&after), []);
+    let mut lowest = copy();
+    assert_eq!(one_by_one(&mut lowest, |places| (0..places.len()).min_by_key(|at| places[*at]).expect("a place")), count);
+    assert_eq!(fields(&lowest, None), fields(sheet, None));
+    for _ in 0..3 {
+        let mut other = copy();
+        assert_eq!(one_by_one(&mut other, |places| random.below(places.len() as u64) as usize), count);
+        assert_eq!(other.snapshot().as_ref(), Ok(&after));
+    }
+    let parts = |sheet: &Sheet, nodes: &[Node]| -> Vec<(Mark, u16)> {
+        let (places, marks) = (sheet.desk.places(), sheet.removable().expect("a sheet"));
+        let mark = |place| marks.iter().copied().find(|mark| mark.place() == place);
+        places.into_iter().zip(nodes).filter_map(|(place, node)| Some((mark(place)?, node.part_number()?))).collect()
+    };
+    assert_eq!(parts(&copy(), &nodes), parts(sheet, &after));
+    let (figures, figures_before) = (sheet.figures().expect("a sheet"), copy().figures().expect("a sheet"));
+    assert_eq!(figures.used_area, figures_before.used_area);
+    match (count, untidy(&nodes).len()) {
+        (0, _) => "tidy already",
+        (count, at_first) if usize::from(count) > at_first => "tidied, and one came after another",
+        _ if figures.free_area > figures_before.free_area => "tidied, and what was eaten came back",
+        _ => "tidied",
+    }
+}
+
 /// A random session: each typed call answers the bytes that its frame is answered with, and what is behind it are the fields of `inspect`.
 fn random_session(seed: u64, calls: usize, counts: &mut Counts) {
     let mut caller = Caller { random: Random(seed), seen: vec![] };
@@ -348,7 +451,7 @@ fn random_session(seed: u64, calls: usize, counts: &mut Counts) {
     let (mut blade, mut kept) = (0, 0);
     for _ in 0..calls {
         let request = caller.request(&session.sheet);
-        let before = session.sheet.snapshot();
+        let (before, desk_before) = (session.sheet.snapshot(), session.sheet.desk.copy());
         // where the snapshot has what is to be removed
         let places = session.sheet.desk.places();
         let asked = |piece: Mark| places.iter().position(|place| *place == piece.place());
@@ -376,11 +479,24 @@ fn random_session(seed: u64, calls: usize, counts: &mut Counts) {
                 let mut copy = Sheet { desk: session.sheet.desk.copy() };
                 copy.remove(booking.first).expect("it is there");
                 assert_eq!(copy.snapshot(), before, "{request:?}");
+                // and if the part is, and the sheet tidied: then it is as tidy as it would have been before, and the same if it was tidy
+                let mut copy = Sheet { desk: session.sheet.desk.copy() };
+                copy.remove(booking.part).expect("it is there");
+                copy.tidy().expect("there are serials");
+                let before = before.expect("a sheet");
+                assert_eq!(copy.snapshot(), Ok(tidied(&before).0), "{request:?}");
+                assert!(!untidy(&before).is_empty() || tidied(&before) == (before, 0));
+                counts.did("booked, removed and tidied");
             }
+            (_, Ok(Answer::Tidied(count))) => counts.did(tidies(&desk_before, count, &session.sheet, &mut caller.random)),
             (Request::Remove { piece }, Ok(Answer::Removed(removal))) => {
                 caller.seen.push(removal.free);
                 let after = session.sheet.snapshot().expect("a sheet");
                 counts.did(gives_back(&before.expect("a sheet"), asked(piece).expect("it was there"), &after));
+                // and tidied, on a copy
+                let mut copy = Sheet { desk: session.sheet.desk.copy() };
+                let count = copy.tidy().expect("there are serials");
+                counts.did(tidies(&session.sheet.desk, count, &copy, &mut caller.random));
             }
             // a reason is "offered" exactly where there is an offer in that rotation
             (Request::WhyNot { piece, part }, Ok(Answer::Reasons(reasons))) => {
@@ -400,8 +516,8 @@ fn random_session(seed: u64, calls: usize, counts: &mut Counts) {
         if session.sheet.snapshot().is_ok_and(all) {
             counts.did("all that was left is eaten");
         }
-        // `inspect` knows the counter's frames
-        if request.op() <= 7 {
+        // `inspect` knows the counter's frames, and tidying
+        if request.op() <= 7 || request == Request::Tidy {
             lines.push(format!("{answer} {}", fields(&session.sheet, part).join(" ")));
             frames.push(frame);
         }
@@ -416,7 +532,7 @@ fn random_sessions_by_frames_and_by_inspect() {
         random_session(seed, 200, &mut counts);
     }
     // each op, with each refusal that a few calls can reach
-    let mut wanted: Vec<(u8, u8)> = (1..=7).chain(0x11..=0x1a).map(|op| (op, 0)).collect();
+    let mut wanted: Vec<(u8, u8)> = (1..=7).chain(0x11..=0x1b).map(|op| (op, 0)).collect();
     wanted.extend([(1, 2), (6, 1), (6, 4), (0x12, 3), (0x13, 12), (0x14, 12)]);
     wanted.extend([2, 3, 0x11].into_iter().flat_map(|op| [3, 4, 5, 6].map(|number| (op, number))));
     wanted.extend([4, 5, 10, 11].map(|number| (4, number)));
@@ -432,7 +548,12 @@ fn random_sessions_by_frames_and_by_inspect() {
         "given back and merged",
         "restored",
         "another width restored",
+        "tidy already",
+        "tidied",
+        "tidied, and one came after another",
+        "tidied, and what was eaten came back",
+        "booked, removed and tidied",
     ] {
-        assert!(counts.blade.get(what).is_some_and(|times| *times >= 5), "{what}: {:?}", counts.blade);
+        assert!(counts.done.get(what).is_some_and(|times| *times >= 5), "{what}: {:?}", counts.done);
     }
 }

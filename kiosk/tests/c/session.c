@@ -1,5 +1,5 @@
-/* The archive from a program in C, by nickelgrove.h: its sizes, document 01's session, the desk's questions, the list of saw cuts, a blade, and refusals that leave the
- * session as it was. kiosk/test compiles and runs it. The last line counts as cargo's does. */
+/* The archive from a program in C, by nickelgrove.h: its sizes, document 01's session, the desk's questions, the list of saw cuts, a blade, tidying, and
+ * refusals that leave the session as it was. kiosk/test compiles and runs it. The last line counts as cargo's does. */
 #include <stdio.h>
 #include <string.h>
 
@@ -16,6 +16,7 @@ static const char BOOKING_BEHIND[] = "03000102000000040007000000280000003c000001
 static const char KEEP[] = "05fb";
 static const char RESTORE[] = "06fa";
 static const char REPORT[] = "07f9";
+static const char TIDY[] = "1be5";
 
 /* What is lent, each with bytes behind it that nobody may write. */
 enum { BEHIND = 256 };
@@ -167,6 +168,27 @@ static void blade(void) {
   check(stays(REPORT, "0701f8") && stays(BOOKING, "0301fc"), "a layout with a blade that is 101 wide");
 }
 
+/* Part 7 of 40 x 30 is booked by AcrossThenAlong and taken out: a structure and a strip stay, and tidying takes both out. What is kept stays. */
+static void tidying(void) {
+  struct nickelgrove_layout kept;
+  start();
+  check(desk_stays(TIDY, "1b01e4") && stays(TIDY, "ff0ef3"), "tidying before an opening, and at the counter");
+  check(desk_says(OPEN_WITH_BLADE, "010000010100000002fb") && desk_says(KEEP, "0500fb") && desk_stays(TIDY, "1b000000e5"), "a sheet that is tidy stays");
+  kept = lent.session.kept;
+  check(desk_says("03000101000000020007000000280000001e000004a8", "03000001010000000300010300000005020001040000000600010500000007d5") &&
+            desk_stays(TIDY, "1b000000e5"),
+        "and so does one with a part in each structure");
+  check(desk_says("0400010300000005f3", "040000010300000008010007e8") && lent.session.layout.held == 5, "the part is out, and its structures stay");
+  lent.session.layout.serial = 999999;
+  check(desk_stays(TIDY, "1b09dc"), "two serials are wanted, and there is one");
+  lent.session.layout.serial = 8;
+  check(stays(TIDY, "ff0ef3") && desk_stays("1b00e5", "ff0ef3"), "it is malformed at the counter, and with a byte too many");
+  check(desk_says(TIDY, "1b000002e3") && lent.session.layout.held == 2 && lent.session.layout.serial == 10 && same_layout(&lent.session.kept, &kept),
+        "both are taken out");
+  kept.serial = kept.nodes[1].datum.serial = 10;
+  check(same_layout(&lent.session.layout, &kept) && desk_stays(TIDY, "1b000000e5"), "and the sheet is that of the opening, with another serial");
+}
+
 static void unlisted(void) {
   start();
   says(OPEN, "010000010100000002fb");
@@ -178,8 +200,8 @@ static void unlisted(void) {
   check(stays(BOOKING, "0301fc") && stays(KEEP, "0501fa") && stays(RESTORE, "0601f9") && stays(REPORT, "0701f8"),
         "a layout with an unlisted kind");
   check(desk_stays("130000ed", "1301ec") && desk_stays("15eb", "1501ea") && desk_stays("16ea", "1601e9") && desk_stays("17e9", "1701e8") &&
-            desk_stays("18e8", "1801e7") && desk_stays("19e7", "1901e6") && desk_stays("1ae6", "1a01e5"),
-        "and the desk's questions");
+            desk_stays("18e8", "1801e7") && desk_stays("19e7", "1901e6") && desk_stays("1ae6", "1a01e5") && desk_stays(TIDY, "1b01e4"),
+        "and the desk's questions, and tidying");
   check(nickelgrove_cuts(&lent.session, lent.list) == NICKELGROVE_NO_LIST && all(lent.list, NICKELGROVE_ROOM, 7), "and its list");
   check(says(OPEN, "010000010100000002fb") && says(RESTORE, "0600fa"), "an opening takes its place");
 }
@@ -190,6 +212,7 @@ int main(void) {
   desk();
   list_of_cuts();
   blade();
+  tidying();
   unlisted();
   printf("test result: %s. %d passed; %d failed\n", failed ? "FAILED" : "ok", passed, failed);
   return failed != 0;

@@ -14,6 +14,11 @@ pub fn lines_of(file: &str) -> Vec<Vec<u8>> {
     file.strip_suffix(b"\n").expect("whole lines").split(|byte| *byte == b'\n').map(<[u8]>::to_vec).collect()
 }
 
+/// The same up to the first line that asks to tidy, which the counter doesn't know. (The short sessions end with some that tidy.)
+pub fn counters_lines_of(file: &str) -> Vec<Vec<u8>> {
+    lines_of(file).into_iter().take_while(|line| line != TIDY.as_bytes()).collect()
+}
+
 /// Document 01's sheet: 100 x 60, first cut Vertical, stages 3.
 pub const OPEN: &str = "010001000000640000003c0103005a";
 /// The same with a blade that is 3 wide.
@@ -22,6 +27,7 @@ pub const OPENED: &str = "010000010100000002fb";
 pub const KEEP: &str = "05fb";
 pub const RESTORE: &str = "06fa";
 pub const REPORT: &str = "07f9";
+pub const TIDY: &str = "1be5";
 
 /// A counter with document 01's sheet on it, and the mark of its free piece.
 pub fn opened() -> (Counter, Vec<u8>) {

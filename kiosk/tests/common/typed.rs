@@ -51,6 +51,7 @@ pub fn request_of(line: &[u8]) -> Option<Request> {
         (0x18, 0) => Request::Cuts,
         (0x19, 0) => Request::EatenArea,
         (0x1a, 0) => Request::CutAmounts,
+        (0x1b, 0) => Request::Tidy,
         _ => return None,
     };
     Some(request)
@@ -107,6 +108,7 @@ pub fn op_of(request: &Request) -> u8 {
         Request::Cuts => 0x18,
         Request::EatenArea => 0x19,
         Request::CutAmounts => 0x1a,
+        Request::Tidy => 0x1b,
         _ => panic!("{request:?}"),
     }
 }
@@ -160,6 +162,7 @@ pub fn bytes_of(answer: &Answer) -> Vec<u8> {
         Answer::Cuts(cuts) => [count_bytes(cuts), cuts.iter().flat_map(listed_bytes).collect()].concat(),
         Answer::EatenArea(area) => area.to_be_bytes().to_vec(),
         Answer::CutAmounts(amounts) => [count_bytes(amounts), amounts.clone()].concat(),
+        Answer::Tidied(count) => count.to_be_bytes().to_vec(),
         _ => panic!("{answer:?}"),
     }
 }

@@ -73,7 +73,8 @@ impl Side for Bare {
             Request::Keep => Some(Call::Keep),
             Request::Restore => Some(Call::Restore),
             Request::Report => Some(Call::Report),
-            Request::Open(_) => None,
+            // the Rust has no such call
+            Request::Open(_) | Request::Tidy => None,
         }
     }
 

@@ -1,4 +1,4 @@
-//! Sessions that go to the ends: chains of structures, rows of parts, full tables, the last serial.
+//! Sessions that go to the ends: chains of structures, rows of parts, full tables, the last serial. Where a session tidies, it does so there too.
 
 use super::{Generator, Kind};
 use crate::core::orientation::Orientation;
@@ -6,9 +6,12 @@ use crate::frame::{Mark, Offer, Part, Request, GREATEST_SIDE};
 use crate::session::refusal;
 use crate::tree::{Piece, PART};
 
+/// So few serials are left when a session that tidies stops to fill tables.
+const NEAR_THE_END: u32 = 60;
+
 impl Generator {
     /// The free piece at the deepest level.
-    fn deepest(&self) -> Piece {
+    pub(super) fn deepest(&self) -> Piece {
         self.free_pieces().into_iter().max_by_key(|piece| piece.level).expect("a free piece")
     }
 
@@ -23,7 +26,7 @@ impl Generator {
     }
 
     /// Goes a level deeper: a part is booked across the deepest piece and taken out again. Gives the booking's number.
-    fn descend(&mut self, number: u16) -> u8 {
+    pub(super) fn descend(&mut self, number: u16) -> u8 {
         let piece = self.deepest();
         let refused = self.book_across(&piece, number, 1);
         if refused == 0 {
@@ -33,7 +36,7 @@ impl Generator {
         refused
     }
 
-    fn newest_part(&self) -> Mark {
+    pub(super) fn newest_part(&self) -> Mark {
         let tree = self.sheet().tree();
         let parts = tree.in_order().into_iter().filter(|node| node.piece.kind == PART);
         parts.map(|node| node.piece.mark).max_by_key(|mark| mark.serial).expect("a part")
@@ -57,6 +60,9 @@ impl Generator {
         while self.descend(5) == 0 {}
         self.send(Request::Report);
         self.send(Request::Keep);
+        if self.tidies {
+            self.tidy_chain();
+        }
         self.book_exactly();
         self.send(Request::Report);
         for level in [200, 100, 2, 1] {
@@ -69,14 +75,14 @@ impl Generator {
     }
 
     /// A part as large as the deepest piece: along the cut, whatever the level.
-    fn book_exactly(&mut self) {
+    pub(super) fn book_exactly(&mut self) {
         let piece = self.deepest();
         let part = Part { number: 77, width: piece.width, height: piece.height, turn: 1 };
         self.send(Request::Insert { mark: piece.mark, part, offer: Offer { rotation: 0, shape: 1 } });
     }
 
     /// The node at a level that has the lowest place.
-    fn at_level(&self, level: u8) -> Mark {
+    pub(super) fn at_level(&self, level: u8) -> Mark {
         let tree = self.sheet().tree();
         let nodes = tree.in_order().into_iter().filter(|node| node.piece.level == level);
         nodes.map(|node| node.piece.mark).min_by_key(|mark| mark.place).expect("a node at this level")
@@ -125,6 +131,9 @@ impl Generator {
             for _ in 0..self.rng.between(1, 12) {
                 self.remove();
             }
+            if self.tidies {
+                self.clear_out();
+            }
             self.calls(Kind::Plain, 10, 20);
         }
     }
@@ -152,10 +161,14 @@ impl Generator {
         self.send(Request::Keep);
         loop {
             match self.book_corner(4) {
+                0 if self.tidies && self.serials_left() < NEAR_THE_END => break,
                 0 => {}
                 refusal::TABLE_FULL => drop(self.send(Request::Restore)),
                 _ => break,
             }
+        }
+        if self.tidies {
+            return self.tidy_at_the_end();
         }
         while self.book_along_first() == 0 {}
         // a removal takes one serial: the last, if there is one yet

@@ -303,6 +303,14 @@ impl Judge for Model {
         self.check();
         (free, numbers)
     }
+
+    fn untidy(&self) -> Vec<Mark> {
+        let has_one_free_child = |node: &&Node| matches!(&node.children[..], [only] if only.piece.is_free());
+        let untidy = self.top.in_order().into_iter().filter(has_one_free_child).map(|node| node.piece.mark);
+        let mut marks: Vec<Mark> = untidy.filter(|mark| *mark != self.top.piece.mark).collect();
+        marks.sort_by_key(|mark| mark.place);
+        marks
+    }
 }
 
 fn find_mut(node: &mut Node, mark: Mark) -> Option<&mut Node> {

@@ -41,6 +41,11 @@ impl RustSheet {
         self.marks = kept.marks.restored(last_serial);
     }
 
+    #[cfg(test)]
+    pub fn with_last_serial(&self, last: u32) -> Self {
+        RustSheet { problem: self.problem.clone(), marks: self.marks.restored(last) }
+    }
+
     pub fn layout(&self) -> &Layout<'static> {
         self.problem.only()
     }
@@ -226,6 +231,17 @@ impl Judge for RustSheet {
         let new = self.marks.follow(self.problem.only());
         assert_eq!(new.len(), 1, "a removal creates one node");
         (self.marks.of(new[0]), numbers.into_iter().map(number_of).collect())
+    }
+
+    /// The Rust has no such search: its nodes are asked.
+    fn untidy(&self) -> Vec<Mark> {
+        let top = *self.layout().top_node_index();
+        let is_untidy = |key: &NodeKey| {
+            let mut children = self.node(*key).children(self.layout().nodes());
+            let first = children.next();
+            *key != top && children.next().is_none() && first.is_some_and(|child| self.node(child).is_empty())
+        };
+        self.marks.by_place().filter(is_untidy).map(|key| self.marks.of(key)).collect()
     }
 }
 

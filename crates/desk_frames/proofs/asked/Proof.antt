@@ -1,6 +1,6 @@
--- `asked` meets its contract: a question, or what the counter is asked. Assumes nothing.
+-- `asked` meets its contract: a question, tidying, or what the counter is asked. Assumes nothing.
 use borrow.Author.Needs.{needs}
-use Rattle.desk_frames.proofs.Stepping.{question-steps, counter-steps, has-room}
+use Rattle.desk_frames.proofs.Stepping.{desk-asks, question-steps, counter-steps, has-room}
 use Rattle.desk_frames.proofs.asked.Statement.{statement}
 use Rattle.desk_frames.proofs.asked.Tie as tie
 
@@ -17,7 +17,10 @@ returns c =
     question-steps (k .request .given .1) (a .answer .ensures)
 
 returns-2 : tie.Need-returns-2
-returns-2 c =
+returns-2 c = let t = c .before .before in desk-asks (t .before .before .enum-told .given .1) (t .tidied .ensures)
+
+returns-3 : tie.Need-returns-3
+returns-3 c =
     let d = c .before .before in
     let a = d .before .before in
     let k = a .before .before in
@@ -29,10 +32,14 @@ asked-spec =
     (tie.spec
     (λ c. search needs)  -- enum-known-request
     (λ c κs. search needs)  -- answer-requires
+    (λ c. search needs)  -- enum-told
+    (λ c κs. search needs)  -- tidied-requires
     (λ c. search needs)  -- enum-known-request-2
     (λ c κs. search needs)  -- asked-requires
     copied-requires
     (λ c. search needs)  -- same-length
     returns
     (λ c. search needs)  -- same-length-2
-    returns-2)
+    returns-2
+    (λ c. search needs)  -- same-length-3
+    returns-3)

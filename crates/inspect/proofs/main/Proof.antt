@@ -5,10 +5,10 @@ use Rattle.inspect.proofs.main.Statement.{statement}
 use Rattle.inspect.proofs.main.Tie as tie
 
 abbrev Inv-loop : tie.InvT-loop
-Inv-loop listener₀ reads₀ t7 listener reads = Unit {0}
+Inv-loop listener₀ reads₀ t9 listener reads = Unit {0}
 
 abbrev μ-loop : tie.MeasureT-loop
-μ-loop listener₀ reads₀ t7 listener reads = reads
+μ-loop listener₀ reads₀ t9 listener reads = reads
 
 array-share-prefix-chunk : tie.Need-array-share-prefix-chunk Inv-loop μ-loop
 array-share-prefix-chunk c = bytes-count _ (c .before .n .given .1) (c .before .before .before .read-some .ensures) .0
@@ -34,7 +34,8 @@ main-spec =
     (λ c. search needs)  -- returns
     (λ c. search needs)  -- enum-told
     (λ c κs. search needs)  -- end-requires
-    (λ c κs. search needs)  -- tell-requires
+    (λ c. search needs)  -- slice-aggregate-told
+    (λ c κs. search needs)  -- told-requires
     (λ c. search needs)  -- returns-2
     (λ c. search needs)  -- enum-told-2
     (λ c. search needs)  -- returns-3

@@ -18,7 +18,7 @@ loop-holds c = tt
 
 loop-less : tie.Need-loop-less Inv-loop μ-loop
 loop-less c =
-    let t = c .before .before .before in
+    let t = c .before .before .before .before .before in
     omega (arith, turn-forward (t .turn .ensures) (t .before .before .before .loop-test .taken))
 
 loop-again : tie.Need-loop-again Inv-loop μ-loop
@@ -33,7 +33,14 @@ serve-spec =
     loop-holds
     (λ c κs. search needs)  -- asked-requires
     (λ c κs. search needs)  -- turn-requires
-    (λ c κs. search needs)  -- tell-requires
+    (λ c. search needs)  -- enum-told
+    (λ c κs. search needs)  -- tidied-requires
+    (λ c. search needs)  -- enum-told-2
+    (λ c. search needs)  -- slice-aggregate-told
+    (λ c κs. search needs)  -- told-requires
+    (λ c. search needs)  -- enum-known-request
+    (λ c. search needs)  -- slice-aggregate-told-2
+    (λ c κs. search needs)  -- told-requires-2
     (λ c. search needs)  -- returns
     loop-less
     loop-again

@@ -47,10 +47,15 @@ returns-10 c = rw (c .match .keys10)
 
 returns-11 : tie.Need-returns-11
 unfolding deskAskedBy questionForm readWhyNot readLight
-returns-11 c =
+returns-11 c = rw (c .match .keys11)
+
+returns-12 : tie.Need-returns-12
+unfolding deskAskedBy questionForm readWhyNot readLight
+returns-12 c =
     let no = c .before .match .rest in
     simp (
       c .no .ensures,
+      ne-eqb _ _ (no .0 .0 .0 .0 .0 .0 .0 .0 .0 .0 .1),
       ne-eqb _ _ (no .0 .0 .0 .0 .0 .0 .0 .0 .0 .1),
       ne-eqb _ _ (no .0 .0 .0 .0 .0 .0 .0 .0 .1),
       ne-eqb _ _ (no .0 .0 .0 .0 .0 .0 .0 .1),
@@ -82,4 +87,5 @@ asked-by-spec =
     returns-8
     returns-9
     returns-10
-    returns-11)
+    returns-11
+    returns-12)

@@ -12,6 +12,11 @@ returns c =
 
 returns-2 : tie.Need-returns-2
 returns-2 c =
+    let k = c .before in
+    desk-asks (sym (k .enum-told .given .1) ∙ k .before .before .request .ensures) (c .tidy .ensures)
+
+returns-3 : tie.Need-returns-3
+returns-3 c =
     let k = c .before .before in
     desk-asks (sym (k .request2 .given .1) ∙ k .before .before .request .ensures) (c .at-counter .ensures)
 
@@ -22,7 +27,10 @@ desk-stepped-spec =
     (λ c κs. search needs)  -- request-requires
     (λ c. search needs)  -- enum-known-question
     (λ c κs. search needs)  -- told-requires
+    (λ c. search needs)  -- enum-told
+    (λ c κs. search needs)  -- tidy-requires
     (λ c. search needs)  -- enum-known-request
     (λ c κs. search needs)  -- at-counter-requires
     returns
-    returns-2)
+    returns-2
+    returns-3)
