@@ -1,5 +1,5 @@
-// The C that the kit's library `os` calls (its src/c.rt says what each function does), for a processor that is not x86-64: the kit has it compiled for
-// x86-64 alone. tools/native links it into programs for the machine at hand; nothing that ships has it.
+// The C that the kit's library `os` calls (its src/c.rt says what each function does), for the programs that tools/native makes, on either processor: the
+// kit has it compiled for x86-64 alone. rt's own programs don't have it.
 #include <errno.h>
 #include <fcntl.h>
 #include <string.h>
