@@ -63,7 +63,7 @@ for paper in "${papers[@]}"; do
 done
 [ "$long" -eq 1 ]
 tried $? 'one session is long'
-sessions=28
+sessions=29
 [ "${1:-}" != long ] || sessions=$((sessions + long))
 
 # The bytes of docs/RULES.md are those that `inspect` shows: a tree snapshot after the first line of its fifth session, the light after the last line of the fourth, a list

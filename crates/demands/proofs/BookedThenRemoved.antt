@@ -29,11 +29,11 @@ use Rattle.demands.specs.Calls.{InsertAccepted, RemoveAccepted, SameTree
 use Rattle.demands.proofs.Outcomes.{InsertMeans, RemoveMeans, accepted-insert, accepted-remove}
 
 -- every shape makes at least two nodes
-pub new-some : (s : InsertionShape) → 2 ≤ newNodes s
-new-some AlongCurrentCut = omega arith
-new-some AcrossCurrentCut = omega arith
-new-some AlongThenAcross = omega arith
-new-some AcrossThenAlong = omega arith
+pub new-two : (s : InsertionShape) → 2 ≤ newNodes s
+new-two AlongCurrentCut = omega arith
+new-two AcrossCurrentCut = omega arith
+new-two AlongThenAcross = omega arith
+new-two AcrossThenAlong = omega arith
 
 -- the first mark of a block names the place of the first node
 pub first-place : (number : ℕ) (b : Booking) (d : Datum) → blockMarks number (block b d) .first .place ≡ b .place 0
@@ -60,7 +60,7 @@ module _ (l : Layout) (sized : Sized l) (m : Mark) (p : PartType) (r : Rotation)
       let y = i .insertable in
       rw u
       (book-then-remove (tree l) x n (last + 1) (pieceAt l x) b (y .sound .sound) (y .there) (y .free) (i .inside)
-      (i .fresh .unheld 0 (omega (arith, new-some s))))
+      (i .fresh .unheld 0 (omega (arith, new-two s))))
 
   pub booked-then-removed : InsertAccepted l m p r s a → RemoveAccepted (a .layout) (a .marks .first) room c → SameTree (c .layout) l
   unfolding snapshotBytes

@@ -75,7 +75,7 @@ pub data Way (s t : Session) (a : Answer) : Type 0 where
   byKeep : t ≡ record { layout = s .layout; kept = s .layout } → Quiet a → Way s t a
   byNone : t ≡ s → Quiet a → Way s t a
 
-to : {s t : Session} {a b : Answer} → reply t a ≡ reply s b → t ≡ s
+pub to : {s t : Session} {a b : Answer} → reply t a ≡ reply s b → t ≡ s
 to h = ap (λ (r : Reply). r .session) h
 
 pub says : {s t : Session} {a b : Answer} → reply t a ≡ reply s b → a ≡ b

@@ -1,12 +1,13 @@
--- THE THREE DEMANDS, as theorems over the calls of a layout and over the lines of the counter; and the laws of tidying, which document 02 adds. Read this
--- first, with document 01 at hand. The words are in specs/Life.antt (the life of a layout, what a mark names), specs/Calls.antt (an accepted call, the same
--- tree), specs/Examined.antt (what each call answers to a layout that isn't sound), specs/Counter.antt (the counter's answers) and specs/Desk.antt (the
--- desk's). A call is given by its contract alone, so what is said holds of every program that meets it; each contract has one answer (UniqueAnswers,
--- SomeAnswer). `Sized` is what the type of a layout says: its arrays have as many entries as there are places. Nothing is assumed.
+-- THE THREE DEMANDS, as theorems over the calls of a layout and over the lines of the counter; and the stronger swap law and the laws of tidying, which
+-- document 02 adds. Read this first, with document 01 at hand. The words are in specs/Life.antt (the life of a layout, what a mark names), specs/Calls.antt
+-- (an accepted call, the same tree), specs/Orders.antt and specs/Clerks.antt (lists of steps, which are apart, other orders; as lines at the counter),
+-- specs/Examined.antt (what each call answers to a layout that isn't sound), specs/Counter.antt (the counter's answers) and specs/Desk.antt (the desk's). A
+-- call is given by its contract alone, so what is said holds of every program that meets it; each contract has one answer (UniqueAnswers, SomeAnswer). `Sized`
+-- is what the type of a layout says: its arrays have as many entries as there are places. Nothing is assumed.
 use mathlib.Core.Path.{_≡_, refl}
 use mathlib.Core.List.{List, [], _∷_, _++_, List·Memᴰ}
 use mathlib.Core.Logic.{_↔_, _⊎_}
-use mathlib.Core.Option.{some}
+use mathlib.Core.Option.{none, some}
 use mathlib.Core.Bool.{false, true}
 use Prim.Native.Nat.{ℕ}
 use lib.ListN.{length}
@@ -24,7 +25,7 @@ use Rattle.marks.specs.Marks.{zeroMark}
 use Rattle.booking.specs.Marks.{zeroMarks}
 use Rattle.marks.specs.declared.Mark.{Mark}
 use Rattle.marks.specs.declared.Refusal.{Refusal}
-use Rattle.marks.specs.declared.Refusal.the-variants.{Gone, SerialsSpent}
+use Rattle.marks.specs.declared.Refusal.the-variants.{Gone, SerialsSpent, TooManyNodes}
 use Rattle.layout.specs.declared.layout.Layout.{Layout}
 use Rattle.layout.specs.declared.replies.Outcome.the-variants.{Refused}
 use Rattle.layout.specs.declared.replies.Sought.the-variants as sought
@@ -38,7 +39,7 @@ use Rattle.layout.specs.Zero.{zeroLayout}
 use Rattle.layout.specs.Open.{openOf}
 use Rattle.layout.specs.Asked.{partB, soughtOf}
 use Rattle.layout.specs.Insert.{InsertSays, insertNo, pieceAt}
-use Rattle.layout.specs.Remove.{RemoveSays, numbersLeft, removeNo}
+use Rattle.layout.specs.Remove.{RemoveSays, numbersLeft, numbersOut, removeNo}
 use Rattle.layout.specs.Tidy.{Tidies, TidySays, tidyNo}
 use Rattle.layout.specs.Restore.{restoreOf}
 use Rattle.layout.proofs.Refusals as refusals
@@ -51,15 +52,18 @@ use Rattle.lines.specs.Text.{Line}
 use Rattle.frames.specs.declared.Request.{Request}
 use Rattle.frames.specs.declared.Ask.the-variants.{Open}
 use Rattle.frames.specs.declared.Request.the-variants.{OfLayout}
-use Rattle.frames.specs.Answers.{Answer, opened}
+use Rattle.frames.specs.Answers.{Answer, opened, refused}
 use Rattle.session.specs.declared.Session.{Session}
 use Rattle.session.specs.Session.{Answers, started}
 use Rattle.session.specs.Listener.{Runs}
+use Rattle.session.specs.Replies.{refusal}
 use Rattle.desk_frames.specs.declared.DeskRequest.{DeskRequest}
 use Rattle.desk_frames.specs.Desk.{DeskAnswer, DeskAnswers}
 use Rattle.desk_frames.specs.Listener.{DeskRuns, counterAnswers}
 use Rattle.demands.specs.Life.{Given, Later, Life, NamesPiece, OneOf, SamePiece, openedOn, stock}
 use Rattle.demands.specs.Calls.{AreasCover, InsertAccepted, RemoveAccepted, SameTree, TakenOut, TidyAccepted}
+use Rattle.demands.specs.Orders.{AllAccepted, Apart, Each, Naming, OnlyEight, OnlyEightOrNine, Pairwise, RemovalsFirst, Reordered, Step, placeOf, refusalOf}
+use Rattle.demands.specs.Clerks.{AllWork, stepsIn, stepsOf}
 use Rattle.demands.specs.Examined.{Examined}
 use Rattle.demands.specs.Counter.{Lasts, Lives, OpenedOnce, marksWritten, openings}
 use Rattle.demands.specs.Desk.{WritesMark}
@@ -70,8 +74,11 @@ use Rattle.demands.proofs.MarksGiven as given
 use Rattle.demands.proofs.Counter as counter
 use Rattle.demands.proofs.Reopened as reopened
 use Rattle.demands.proofs.BookedThenRemoved as booked
-use Rattle.demands.proofs.BookingsCommute as bookings
-use Rattle.demands.proofs.RemovalsCommute as removals
+use Rattle.demands.proofs.Swaps as swaps
+use Rattle.demands.proofs.EveryOrder as orders
+use Rattle.demands.proofs.NothingButEight as eight
+use Rattle.demands.proofs.RemovalsFirst as front
+use Rattle.demands.proofs.Clerks as clerks
 use Rattle.demands.proofs.Tidying as tidying
 use Rattle.demands.proofs.Areas as areas
 use Rattle.demands.proofs.Throughout as throughout
@@ -183,13 +190,13 @@ pub bookings-commute : (l : Layout) → Sized l → (m : Mark) (p : PartType) (r
     → InsertAccepted l m p r s a → InsertAccepted (a .layout) m′ p′ r′ s′ b
     → InsertSays l m′ p′ r′ s′ c → InsertSays (c .layout) m p r s d
     → InsertAccepted l m′ p′ r′ s′ c × InsertAccepted (c .layout) m p r s d × SameTree (b .layout) (d .layout)
-bookings-commute = bookings.inserts-commute
+bookings-commute = swaps.inserts-commute
 
 pub removals-commute : (l : Layout) → Sized l → (m m′ : Mark) → NamesPiece l m′ → (Inside (m′ .place) (m .place) (tree l) → ⊥)
     → (room room′ : ℕ) (a b c d : Removed) → RemoveAccepted l m room a → RemoveAccepted (a .layout) m′ room′ b
     → RemoveSays l m′ room′ c → RemoveSays (c .layout) m room d
     → RemoveAccepted l m′ room′ c × RemoveAccepted (c .layout) m room d × SameTree (b .layout) (d .layout)
-removals-commute = removals.removes-commute
+removals-commute = swaps.removes-commute
 
 -- "Part area plus free area is the sheet, throughout", and with a blade "part area, free area and eaten area make the sheet". On every sound layout:
 pub areas-add-up : (l : Layout) → Sized l → soundB l ≡ true → AreasCover l (l .settings .sheet)
@@ -198,6 +205,73 @@ areas-add-up = areas.areas-cover-sound
 -- and in every state of a life, where the number and the settings, the sheet among them, are those that the opening was asked for
 pub areas-throughout : {ls : List Layout} (life : Life ls) (l : Layout) → OneOf l ls → (stock l ≡ openedOn life) × AreasCover l (openedOn life .settings .sheet)
 areas-throughout = throughout.throughout
+
+-- ---- Document 02, No. 10, the stronger swap law: "Extend demand 3: a booking and a removal also give the same tree in either order where the free piece is
+-- neither inside the removed one nor under the same parent." As above one order is accepted, and the second mark names a piece before the first call.
+
+-- The booking first. A removal joins the free piece of its row to what it takes out: so the booking, made last, finds its piece only under another parent.
+pub booking-and-removal-commute : (l : Layout) → Sized l → (m : Mark) (p : PartType) (r : Rotation) (s : InsertionShape) (m′ : Mark) (room : ℕ)
+    → NamesPiece l m′ → (Inside (m′ .place) (m .place) (tree l) → ⊥) → (parentOf limit (m .place) (tree l) ≡ parentOf limit (m′ .place) (tree l) → ⊥)
+    → (a : Inserted) (b c : Removed) (d : Inserted) → InsertAccepted l m p r s a → RemoveAccepted (a .layout) m′ room b
+    → RemoveSays l m′ room c → InsertSays (c .layout) m p r s d
+    → RemoveAccepted l m′ room c × InsertAccepted (c .layout) m p r s d × SameTree (b .layout) (d .layout)
+booking-and-removal-commute = swaps.insert-remove
+
+-- The removal first. That the two are apart follows: else the mark of the free piece would be gone. But a removal makes room, so the booking, made first, may
+-- be refused with 8.
+pub removal-and-booking-commute : (l : Layout) → Sized l → (m : Mark) (p : PartType) (r : Rotation) (s : InsertionShape) (m′ : Mark) (room : ℕ)
+    → NamesPiece l m → (a : Removed) (b c : Inserted) (d : Removed) → RemoveAccepted l m′ room a → InsertAccepted (a .layout) m p r s b
+    → InsertSays l m p r s c → RemoveSays (c .layout) m′ room d
+    → (c .outcome ≡ Refused TooManyNodes)
+    ⊎ (InsertAccepted l m p r s c × RemoveAccepted (c .layout) m′ room d × SameTree (b .layout) (d .layout))
+removal-and-booking-commute = swaps.remove-insert
+
+-- "Hence a list of bookings and removals, each naming a piece of the layout the list starts from and pairwise apart there in this sense, gives the same tree in
+-- every order in which every call is accepted." (Tidying is no step of such a list; marks, the two lists and the piece that the light names can differ.)
+pub the-same-tree-in-every-order : (l : Layout) → Sized l → (ss ts : List Step) → Reordered ss ts → Naming l ss → Pairwise (Apart l) ss
+    → (n k : Layout) → AllAccepted l ss n → AllAccepted l ts k → SameTree n k
+the-same-tree-in-every-order l sized ss ts r named apart = orders.same-tree l sized ss ts r named
+
+-- Of two accepted orders it is so without "apart": where two steps are not, the one that must come first comes first in both.
+pub two-accepted-orders-agree : (l : Layout) → Sized l → (ss ts : List Step) → Reordered ss ts → Naming l ss → (n k : Layout) → AllAccepted l ss n
+    → AllAccepted l ts k → SameTree n k
+two-accepted-orders-agree = orders.same-tree
+
+-- What being apart buys is that the other orders are accepted, but for 8: if one order is accepted, then a step of any other order, after steps that were
+-- accepted, is refused with nothing but 8.
+pub in-another-order-eight-alone : (l : Layout) → Sized l → (ss : List Step) → Naming l ss → Pairwise (Apart l) ss → (n : Layout) → AllAccepted l ss n
+    → (before : List Step) (s : Step) (after : List Step) → Reordered ss (before ++ (s ∷ after)) → (k : Layout) → AllAccepted l before k
+    → OnlyEight (refusalOf k s)
+in-another-order-eight-alone l sized ss named apart n run before s after r k part = eight.only-eight sized named apart run before s after r part
+
+-- and with the removals first it isn't refused at all: that order is accepted, step by step, whenever some order is (that each call has an answer: SomeAnswer)
+pub removals-first-is-accepted : (l : Layout) → Sized l → (ss : List Step) → Naming l ss → Pairwise (Apart l) ss → (n : Layout) → AllAccepted l ss n
+    → (before : List Step) (s : Step) (after : List Step) → Reordered ss (before ++ (s ∷ after)) → RemovalsFirst (before ++ (s ∷ after))
+    → (k : Layout) → AllAccepted l before k → refusalOf k s ≡ none
+removals-first-is-accepted l sized ss named apart n run before s after r order k part =
+    front.removals-first sized named apart run before after s r part order
+
+-- Whether or not some order is accepted: a step that l itself refuses with nothing but 8 or 9 is refused with nothing but 8 or 9 after any accepted steps that
+-- are apart from it; and, if it is a removal, it brings the same part numbers out.
+pub apart-refused-with-eight-or-nine : (l : Layout) → Sized l → (ss : List Step) → Naming l ss → (s : Step) → Each (Apart l s) ss → (k : Layout)
+    → AllAccepted l ss k → OnlyEightOrNine (refusalOf l s)
+    → OnlyEightOrNine (refusalOf k s) × (numbersOut k (placeOf s) ≡ numbersOut l (placeOf s))
+apart-refused-with-eight-or-nine l sized ss named s apart k run = eight.only-eight-or-nine sized named s apart run
+
+-- The same at the counter, where the clerks send lines; the words are in specs/Clerks.antt. From the state s two runs of lines open nothing and put nothing back,
+-- and no booking or removal in them is refused; they may ask for offers and reports, and keep. If the one has the steps of the other in another order, each
+-- naming a piece of the layout that stood at the start, the sheets are the same tree.
+pub two-clerks-at-the-counter : (s t u : Session) → Sized (s .layout) → (lines others : List Line) (xs ys : List Answer) → Runs s lines xs t
+    → AllWork lines xs → Runs s others ys u → AllWork others ys → Reordered (stepsIn lines) (stepsIn others) → Naming (s .layout) (stepsIn lines)
+    → SameTree (t .layout) (u .layout)
+two-clerks-at-the-counter = clerks.clerks-agree
+
+-- And if they are pairwise apart: after lines that have some of the steps, in whatever order, the next one of them is accepted, or it is a booking and refused with 8.
+pub a-clerk-is-answered : (s t v w : Session) → Sized (s .layout) → (lines sofar : List Line) (xs ys : List Answer) → Runs s lines xs t → AllWork lines xs
+    → Naming (s .layout) (stepsIn lines) → Pairwise (Apart (s .layout)) (stepsIn lines) → Runs s sofar ys v → AllWork sofar ys
+    → (q : Request) (a : Answer) → Answers v q w a → (x : Step) → stepsOf q ≡ x ∷ [] → (after : List Step)
+    → Reordered (stepsIn lines) (stepsIn sofar ++ (x ∷ after)) → (refusal a ≡ false) ⊎ (a ≡ refused 3 TooManyNodes)
+a-clerk-is-answered = clerks.clerk-answered
 
 -- ---- Document 02, No. 5, tidying: "While some structure other than the top has one child and that is free, it is taken out by the old removal, lowest place
 -- first." That is the contract of `tidy` (layout/specs/Tidy.antt), which has one answer on every layout. In the lives of the demands above it is called like

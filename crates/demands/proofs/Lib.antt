@@ -4,10 +4,13 @@ pub mod Lives
 pub mod Marks
 pub mod MarksNamed
 pub mod Examined
-pub mod Allowed
 pub mod BookedThenRemoved
-pub mod BookingsCommute
-pub mod RemovalsCommute
+pub mod Stepped
+pub mod Reordering
+pub mod EveryOrder
+pub mod NothingButEight
+pub mod RemovalsFirst
+pub mod Swaps
 pub mod Tidying
 pub mod Areas
 pub mod Throughout
@@ -16,6 +19,7 @@ pub mod SomeAnswer
 pub mod MarksGiven
 pub mod CounterWays
 pub mod CounterSteps
+pub mod Clerks
 pub mod Counter
 pub mod Desk
 pub mod Reopened

@@ -18,7 +18,7 @@ use Rattle.tree.proofs.Goes.{subtree-absent}
 
 -- ---- what is inside a piece goes with it
 
-inside-outer : (x i : ℕ) (t : Tree) → Inside x i t → In x t
+pub inside-outer : (x i : ℕ) (t : Tree) → Inside x i t → In x t
 inside-outer x i nil h = h
 inside-outer x i (grow p d k r) (inl h) = inl (h .0)
 inside-outer x i (grow p d k r) (inr (inl h)) = inr (inl (inside-outer x i k h))

@@ -276,7 +276,7 @@ block-distinct b d f =
         go false true y z = absurd (f j i (ltb-true j i z) h (sym e))
         go false false y z = omega (arith, ltb-false i j y, ltb-false j i z)
 
-some-new : (s : InsertionShape) → 1 ≤ newNodes s
+pub some-new : (s : InsertionShape) → 1 ≤ newNodes s
 some-new AlongCurrentCut = omega arith
 some-new AcrossCurrentCut = omega arith
 some-new AlongThenAcross = omega arith

@@ -44,7 +44,7 @@ module _ {b b′ : Booking} (a : Alike b b′) where
   block-alike d =
       planted-alike (d .level) (d .cut) (blockOf (b .shape) (b .blade) (d .cut) (d .size) (b .size)) ∙ rw (a .shape, a .blade, a .size)
 
-  booked-alike : (d : Datum) (r : Tree) → shape (after (block b d) r) ≡ shape (after (block b′ d) r)
+  pub booked-alike : (d : Datum) (r : Tree) → shape (after (block b d) r) ≡ shape (after (block b′ d) r)
   booked-alike d r = simp shape-after (rw (block-alike d))
 
 -- the numbers of a block's nodes are below this one
@@ -67,7 +67,7 @@ module _ (y : ℕ) (b : Booking) (h : Clear y b) where
   planted-clear l c (grow i m k r) u (inr (inl g)) = planted-clear (l + 1) (other c) k (u .1) g
   planted-clear l c (grow i m k r) u (inr (inr g)) = planted-clear l c r (u .2) g
 
-  block-clear : (d : Datum) → In y (block b d) → ⊥
+  pub block-clear : (d : Datum) → In y (block b d) → ⊥
   unfolding block
   block-clear d =
       planted-clear (d .level) (d .cut) (blockOf (b .shape) (b .blade) (d .cut) (d .size) (b .size)) (five (b .shape) (b .blade) (d .cut) (d .size) (b .size))

@@ -16,5 +16,6 @@ pub mod AreaConserved
 pub mod SheetUsageOne
 pub mod TreeUsageOne
 pub mod NothingEaten
+pub mod AtOnce
 pub mod TidyTree
 pub mod BookRemoveTidy

@@ -30,7 +30,11 @@ pub mod Pigeon
 pub mod Family
 pub mod Parents
 pub mod Tidying
+pub mod Settles
 pub mod Tidied
+pub mod AtOnce
+pub mod Others
+pub mod Grown
 pub mod Takings
 pub mod Returned
 pub mod Laws

@@ -33,7 +33,8 @@ use Rattle.tree.proofs.RemoveKept.{remove-topped, remove-distinct}
 use Rattle.tree.proofs.Blocks.{block-in}
 use Rattle.tree.proofs.BookKept.{book-topped, book-distinct}
 use Rattle.tree.proofs.BookPieces.{book-new}
-use Rattle.tree.proofs.Tidied.{settled-shape, not-structure}
+use Rattle.tree.proofs.Settles.{settled-shape}
+use Rattle.tree.proofs.Tidied.{not-structure}
 use Rattle.tree.proofs.Takings.{done, reached}
 
 -- The block of each shape: the part's place in the order of creation.

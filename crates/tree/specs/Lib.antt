@@ -8,6 +8,7 @@ pub mod Figures
 pub mod Apart
 pub mod Accepted
 pub mod Steps
+pub mod AtOnce
 pub mod ListSteps
 pub mod Pieces
 pub mod Family
