@@ -14,8 +14,8 @@ use Rattle.piece.specs.declared.node.Kind.TheVariants.{Free, Part, Structure}
 use Rattle.piece.specs.declared.insertion_blueprint.InsertionShape.{InsertionShape}
 use Rattle.piece.specs.declared.insertion_blueprint.InsertionShape.TheVariants.{AlongCurrentCut, AcrossCurrentCut, AlongThenAcross, AcrossThenAlong}
 use Rattle.piece.specs.Row.{nil, grow}
-use Rattle.piece.specs.Insertion.{block_of, table, newNodes}
-use Rattle.piece.specs.Kinds.{isFree, isPart}
+use Rattle.piece.specs.Insertion.{block_of, table, new_nodes}
+use Rattle.piece.specs.Kinds.{is_free, is_part}
 use Rattle.tree.specs.Tree.{Tree, In, At, Distinct, count}
 use Rattle.tree.specs.Booking.{Booking, planted, block}
 use Rattle.tree.specs.ListSteps.{Names}
@@ -60,12 +60,12 @@ Built (grow p d k r) = Housed d.kind k × Built k × Built r
 
 -- a part or a structure of the row, or below it, stands at i
 abbrev pub Solid : ℕ → Tree → Type 0
-Solid i r = (e : Datum) × At i e r × (isFree e.kind ≡ false)
+Solid i r = (e : Datum) × At i e r × (is_free e.kind ≡ false)
 
 pub solid-in : (i : ℕ) (r : Tree) → Solid i r → In i r
 solid-in i r s = at_in i s.0 r s.1
 
-part-solid : (κ : Kind) → isPart κ ≡ true → isFree κ ≡ false
+part-solid : (κ : Kind) → is_part κ ≡ true → is_free κ ≡ false
 part-solid Free e = absurd (false≢true e)
 part-solid Part e = refl
 part-solid Structure e = refl
@@ -75,10 +75,10 @@ part-solid Structure e = refl
 -- the node that a row hangs under, if it had no child
 pub enrolled-parent : (r : Tree) → (r ≡ nil → ⊥) → (q : ℕ) → Names q (enrolled q true r)
 enrolled-parent nil n q = absurd (n refl)
-enrolled-parent (grow p d k r) n q = names-second q (when (isPart d.kind) p) _ (inl refl)
+enrolled-parent (grow p d k r) n q = names-second q (when (is_part d.kind) p) _ (inl refl)
 
 -- what has a node below it is no free piece
-housed-solid : (κ : Kind) (k : Tree) (p i : ℕ) → Housed κ k → Names i (enrolled p true k) → isFree κ ≡ false
+housed-solid : (κ : Kind) (k : Tree) (p i : ℕ) → Housed κ k → Names i (enrolled p true k) → is_free κ ≡ false
 housed-solid Free k p i h n = absurd (rw h at n)
 housed-solid Part k p i h n = refl
 housed-solid Structure k p i h n = refl
@@ -89,9 +89,9 @@ named : (p : ℕ) (d : Datum) (k r : Tree) (q : ℕ) (none : Bool) (i : ℕ) →
     → (Names i (enrolled q false r) → ((false ≡ true) × (i ≡ q)) ⊎ Solid i r)
     → Names i (enrolled q none (grow p d k r)) → ((none ≡ true) × (i ≡ q)) ⊎ Solid i (grow p d k r)
 named p d k r q none i h f g n =
-    ⊎_elim (λ z. let y = names-when i (isPart d.kind) p z in inr (d, inl (y.1, refl), part-solid d.kind y.0))
+    ⊎_elim (λ z. let y = names-when i (is_part d.kind) p z in inr (d, inl (y.1, refl), part-solid d.kind y.0))
     (λ m. ⊎_elim (λ z. inl (names-when i none q z)) (λ l. ⊎_elim below later (names-cases i (enrolled p true k) (enrolled q false r) l))
-    (names-cases i (when none q) _ m)) (names-cases i (when (isPart d.kind) p) _ n)
+    (names-cases i (when none q) _ m)) (names-cases i (when (is_part d.kind) p) _ n)
   where
     below : Names i (enrolled p true k) → ((none ≡ true) × (i ≡ q)) ⊎ Solid i (grow p d k r)
     below z =
@@ -107,26 +107,26 @@ enrolled-named (grow p d k r) h q none i n =
     named p d k r q none i h.0 (enrolled-named k h.1 p true i) (enrolled-named r h.2 q false i) n
 
 -- a part is named when it is made, and a structure when its first child is
-own-named : (κ : Kind) (p : ℕ) (k : Tree) (l m : List ℕ) → Housed κ k → isFree κ ≡ false
-    → Names p (when (isPart κ) p ++ (l ++ (enrolled p true k ++ m)))
+own-named : (κ : Kind) (p : ℕ) (k : Tree) (l m : List ℕ) → Housed κ k → is_free κ ≡ false
+    → Names p (when (is_part κ) p ++ (l ++ (enrolled p true k ++ m)))
 own-named Free p k l m h e = absurd (false≢true (sym e))
 own-named Part p k l m h e = inl refl
 own-named Structure p k l m h e = names-second p l _ (names-first p (enrolled p true k) m (enrolled-parent k h p))
 
-pub solid-named : (r : Tree) → Built r → (q : ℕ) (none : Bool) (i : ℕ) (e : Datum) → At i e r → isFree e.kind ≡ false
+pub solid-named : (r : Tree) → Built r → (q : ℕ) (none : Bool) (i : ℕ) (e : Datum) → At i e r → is_free e.kind ≡ false
     → Names i (enrolled q none r)
 solid-named nil h q none i e y f = absurd y
 solid-named (grow p d k r) h q none i e (inl y) f =
     rw y.0 (own-named d.kind p k (when none q) (enrolled q false r) h.0 (rw y.1 at f))
 solid-named (grow p d k r) h q none i e (inr (inl y)) f =
-    names-second i (when (isPart d.kind) p) _
+    names-second i (when (is_part d.kind) p) _
     (names-second i (when none q) _ (names-first i (enrolled p true k) (enrolled q false r) (solid-named k h.1 p true i e y f)))
 solid-named (grow p d k r) h q none i e (inr (inr y)) f =
-    names-second i (when (isPart d.kind) p) _
+    names-second i (when (is_part d.kind) p) _
     (names-second i (when none q) _ (names-second i (enrolled p true k) (enrolled q false r) (solid-named r h.2 q false i e y f)))
 
 -- a part has nothing below it
-part-childless : (κ : Kind) (k : Tree) → isPart κ ≡ true → Housed κ k → k ≡ nil
+part-childless : (κ : Kind) (k : Tree) → is_part κ ≡ true → Housed κ k → k ≡ nil
 part-childless Free k e h = h
 part-childless Part k e h = h
 part-childless Structure k e h = absurd (false≢true e)
@@ -134,9 +134,9 @@ part-childless Structure k e h = absurd (false≢true e)
 pub enrolled-once : (r : Tree) → Built r → Distinct r → (q : ℕ) → (In q r → ⊥) → (none : Bool) → Once (enrolled q none r)
 enrolled-once nil h u q n none = tt
 enrolled-once (grow p d k r) h u q n none =
-    once-both (when (isPart d.kind) p) _ (once-when (isPart d.kind) p)
+    once-both (when (is_part d.kind) p) _ (once-when (is_part d.kind) p)
     (once-both (when none q) _ (once-when none q)
-    (once-both (enrolled p true k) (enrolled q false r) (enrolled-once k h.1 u.below p u.notBelow true)
+    (once-both (enrolled p true k) (enrolled q false r) (enrolled-once k h.1 u.below p u.not_below true)
     (enrolled-once r h.2 u.beside q (λ i. n (inr (inr i))) false) apart) under) own
   where
     below : (i : ℕ) → Names i (enrolled p true k) → (i ≡ p) ⊎ In i k
@@ -146,7 +146,7 @@ enrolled-once (grow p d k r) h u q n none =
     later i z = ⊎_elim (λ y. absurd (false≢true y.0)) (solid-in i r) (enrolled-named r h.2 q false i z)
 
     apart : (i : ℕ) → Names i (enrolled p true k) → Names i (enrolled q false r) → ⊥
-    apart i y z = ⊎_elim (λ e. u.notBeside (in-eq r e (later i z))) (λ v. u.apart i v (later i z)) (below i y)
+    apart i y z = ⊎_elim (λ e. u.not_beside (in-eq r e (later i z))) (λ v. u.apart i v (later i z)) (below i y)
 
     under : (i : ℕ) → Names i (when none q) → Names i (enrolled p true k ++ enrolled q false r) → ⊥
     under i y z =
@@ -154,13 +154,13 @@ enrolled-once (grow p d k r) h u q n none =
         n (⊎_elim (λ v. ⊎_elim (λ s. inl (sym e ∙ s)) (λ s. inr (inl (in-eq k e s))) (below i v)) (λ v. inr (inr (in-eq r e (later i v))))
         (names-cases i (enrolled p true k) (enrolled q false r) z))
 
-    own : (i : ℕ) → Names i (when (isPart d.kind) p) → Names i (when none q ++ (enrolled p true k ++ enrolled q false r)) → ⊥
+    own : (i : ℕ) → Names i (when (is_part d.kind) p) → Names i (when none q ++ (enrolled p true k ++ enrolled q false r)) → ⊥
     own i y z =
-        let f = names-when i (isPart d.kind) p y in
+        let f = names-when i (is_part d.kind) p y in
         let bare : k ≡ nil = part-childless d.kind k f.0 h.0 in
         let e : i ≡ p = f.1 in
         ⊎_elim (λ v. n (inl (sym (names-when i none q v).1 ∙ e)))
-        (λ v. ⊎_elim (λ s. subst (λ (t : Tree). Names i (enrolled p true t) → ⊥) (sym bare) (λ a. a) s) (λ s. u.notBeside (in-eq r e (later i s)))
+        (λ v. ⊎_elim (λ s. subst (λ (t : Tree). Names i (enrolled p true t) → ⊥) (sym bare) (λ a. a) s) (λ s. u.not_beside (in-eq r e (later i s)))
         (names-cases i (enrolled p true k) (enrolled q false r) v)) (names-cases i (when none q) _ z)
 
 -- ---- the block of a booking is so built
@@ -183,7 +183,7 @@ block-built b d = table-built b d.level d.cut d.size b.size b.shape
 pub block-some : (b : Booking) (d : Datum) → block b d ≡ nil → ⊥
 block-some b d e = let z : count (block b d) ≡ 0 = ap count e in few b.shape (sym (block-count b d) ∙ z)
   where
-    few : (s : InsertionShape) → newNodes s ≡ 0 → ⊥
+    few : (s : InsertionShape) → new_nodes s ≡ 0 → ⊥
     few AlongCurrentCut g = omega arith
     few AcrossCurrentCut g = omega arith
     few AlongThenAcross g = omega arith

@@ -15,7 +15,7 @@ use Rattle.piece.specs.declared.settings.Settings.{Settings}
 use Rattle.piece.specs.Sides.{other, area}
 use Rattle.piece.specs.Row.{Row, nil, grow}
 use Rattle.piece.specs.Insertion.{Made, block_of}
-use Rattle.piece.specs.Kinds.{isFree}
+use Rattle.piece.specs.Kinds.{is_free}
 use Rattle.tree.specs.Tree.{Tree, At, count}
 use Rattle.tree.specs.Sound.{Sound}
 use Rattle.tree.specs.Booking.{Booking, planted, block, book}
@@ -28,7 +28,7 @@ use Rattle.tree.proofs.Numbered.{Numbered}
 use Rattle.tree.proofs.BookPieces.{less-gone, less-was, less-keeps, less_one, book-pieces, book-left, book-new, book-one}
 use Rattle.layout_nodes.proofs.FreeSteps.{free-same, free-cut, free-put}
 use Rattle.booking.specs.declared.new_nodes.NewNode.{NewNode}
-use Rattle.booking.specs.NewNodes.{leaves, freesOf}
+use Rattle.booking.specs.NewNodes.{leaves, frees_of}
 use Rattle.booking.proofs.Issued.{block-numbered, older}
 
 -- ---- the list of the new nodes
@@ -105,7 +105,7 @@ module _ (b : Booking) where
 
 -- ---- one free piece after the other
 
-free_or : (κ : Kind) → (κ ≡ Free) ⊎ (isFree κ ≡ false)
+free_or : (κ : Kind) → (κ ≡ Free) ⊎ (is_free κ ≡ false)
 free_or Free = inl refl
 free_or Part = inr refl
 free_or Structure = inr refl
@@ -143,19 +143,19 @@ module _ (B : Pieces) (one : (i : ℕ) (e f : Datum) → B i e → B i f → e �
       → ((i : ℕ) (e : Datum) → Among i e ns → B i e)
       → ((i : ℕ) (e : Datum) → B i e → e.kind ≡ Free → A i e ⊎ Among i e ns)
       → ((i : ℕ) (e : Datum) → A i e → e.serial < s)
-      → Counted s ns → FreeOf A xs → FreeOf B (put_all areas xs (freesOf ns))
+      → Counted s ns → FreeOf A xs → FreeOf B (put_all areas xs (frees_of ns))
   free-puts [] s A xs old new split low rising f =
       free-same A B xs (λ i e y z. old i e y) (λ i e y z. ⊎_elim (λ a. a) absurd (split i e y z)) one f
   free-puts (n ∷ ns) s A xs old new split low rising f =
       ⊎_elim
-      (λ z. let is : isFree n.datum.kind ≡ true = ap isFree z in
+      (λ z. let is : is_free n.datum.kind ≡ true = ap is_free z in
       rw is
       (free-puts ns (s + 1) (With A n) (put areas xs n.place) (with-old A n ns s old new low rising.0) (λ i e y. new i e (inr y))
       (λ i e y k. ⊎_elim (λ a. inl (inl a)) (λ v. ⊎_elim (λ a. inl (inr a)) inr v) (split i e y k))
       (with-low A n ns s old new low rising.0) rising.1 (with-put A n ns s old new low rising.0 xs z f)))
       (λ z. rw z
       (free-puts ns (s + 1) A xs old (λ i e y. new i e (inr y))
-      (λ i e y k. ⊎_elim inl (λ v. ⊎_elim (λ a. absurd (false≢true (sym z ∙ ap (λ (o : Datum). isFree o.kind) (sym a.1) ∙ ap isFree k))) inr v)
+      (λ i e y k. ⊎_elim inl (λ v. ⊎_elim (λ a. absurd (false≢true (sym z ∙ ap (λ (o : Datum). is_free o.kind) (sym a.1) ∙ ap is_free k))) inr v)
       (split i e y k)) (λ i e y. let a = low i e y in omega arith) rising.1 f))
       (free_or n.datum.kind)
 
@@ -171,7 +171,7 @@ module _ (limit : ℕ) (settings : Settings) (w : Tree) (sound : Sound limit set
   module _ (b : Booking) (new : Fresh limit x b w) (last : ℕ) (marked : Serials w last) (next : b.serial ≡ last + 1) (areas : ℕ → ℕ)
       (sized : (i : ℕ) (e : Datum) → At i e (book x b w) → areas i ≡ area e.size) where
     pub booked-free : (q : ℕ) (none : Bool) (xs : List ℕ) → FreeList w xs
-        → FreeList (book x b w) (put_all areas (omit xs x) (freesOf (leaves q none (block b d))))
+        → FreeList (book x b w) (put_all areas (omit xs x) (frees_of (leaves q none (block b d))))
     booked-free q none xs f =
         free-puts (pieces_of (book x b w)) (book-one limit settings w sound x d there free b new) areas sized (leaves q none (block b d))
         b.serial (pieces_of (less x w)) (omit xs x) (book-left limit settings w sound x d there free b)

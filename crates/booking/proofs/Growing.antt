@@ -5,15 +5,15 @@ use mathlib.Core.List.{List, [], ◌∷◌, ◌++◌, append-nil, append_assoc}
 use Prim.Native.Nat.{ℕ, zero, suc, ◌+◌, ◌≤◌, ◌<◌}
 use native.Mathlib.Omega.{arith}
 use lib.ListN.{length, take}
-use Rattle.piece.specs.Kinds.{isFree}
+use Rattle.piece.specs.Kinds.{is_free}
 use Rattle.lists.specs.Lists.{limit}
 use Rattle.tree.specs.ListSteps.{push, put, put_all}
 use Rattle.tree.specs.Enrolment.{when}
 use Rattle.layout_nodes.specs.declared.listing.Listing.{Listing}
-use Rattle.layout_nodes.specs.Listings.{Kept, entriesOf, listing}
+use Rattle.layout_nodes.specs.Listings.{Kept, entries_of, listing}
 use Rattle.layout_nodes.proofs.Listed.{entries-are, kept-as, length-entries, push-length, put-length}
 use Rattle.booking.specs.declared.new_nodes.NewNode.{NewNode}
-use Rattle.booking.specs.NewNodes.{freesOf}
+use Rattle.booking.specs.NewNodes.{frees_of}
 
 -- a step brings one entry more, and all are such steps
 pub record Growing (step : List ℕ → ℕ → List ℕ) (all : List ℕ → List ℕ → List ℕ) : Type 0 where
@@ -32,28 +32,28 @@ push-grows =
 pub record Coming (all : List ℕ → List ℕ → List ℕ) (total todo : List ℕ) (l : Listing) : Type 0 where
   pub kept : Kept l
   pub room : l.count + length todo ≤ limit
-  pub left : all (entriesOf l) todo ≡ total
+  pub left : all (entries_of l) todo ≡ total
 
 pub coming-start : (all : List ℕ → List ℕ → List ℕ) (todo : List ℕ) (l : Listing) → Kept l → l.count + length todo ≤ limit →
-    Coming all (all (entriesOf l) todo) todo l
+    Coming all (all (entries_of l) todo) todo l
 coming-start all todo l k h = record { kept = k; room = h; left = refl }
 
 module _ {step : List ℕ → ℕ → List ℕ} {all : List ℕ → List ℕ → List ℕ} (grow : Growing step all) {total : List ℕ} where
   pub coming-end : {l : Listing} → Coming all total [] l → l ≡ listing total
-  coming-end {l} h = h.kept.zeros ∙ ap listing (sym (grow.none (entriesOf l)) ∙ h.left)
+  coming-end {l} h = h.kept.zeros ∙ ap listing (sym (grow.none (entries_of l)) ∙ h.left)
 
   -- the next place
   module _ {p : ℕ} {todo : List ℕ} {l : Listing} (h : Coming all total (p ∷ todo) l) where
     pub coming-room : l.count < limit
     coming-room = omega (arith, h.room)
 
-    pub coming-more : {m : Listing} → m ≡ listing (step (entriesOf l) p) → Coming all total todo m
+    pub coming-more : {m : Listing} → m ≡ listing (step (entries_of l) p) → Coming all total todo m
     coming-more {m} e =
-        let k : length (step (entriesOf l) p) ≡ l.count + 1 = rw (grow.one (entriesOf l) p, length-entries h.kept) refl in
+        let k : length (step (entries_of l) p) ≡ l.count + 1 = rw (grow.one (entries_of l) p, length-entries h.kept) refl in
         record {
-          kept = kept-as (step (entriesOf l) p) e (omega (arith, h.room));
+          kept = kept-as (step (entries_of l) p) e (omega (arith, h.room));
           room = let n = ap (λ (x : Listing). x.count) e in omega (arith, h.room);
-          left = rw (entries-are (step (entriesOf l) p) e, ← grow.more (entriesOf l) todo p) h.left;
+          left = rw (entries-are (step (entries_of l) p) e, ← grow.more (entries_of l) todo p) h.left;
         }
 
 -- a place that comes only if so
@@ -70,8 +70,8 @@ when-most : (b : Bool) (p : ℕ) (ps : List ℕ) → length (when b p ++ ps) ≤
 when-most true p ps = omega arith
 when-most false p ps = omega arith
 
-pub frees-most : (n : ℕ) (l : List NewNode) → length (freesOf (take n l)) ≤ n
+pub frees-most : (n : ℕ) (l : List NewNode) → length (frees_of (take n l)) ≤ n
 frees-most zero l = omega arith
 frees-most (suc n) [] = omega arith
 frees-most (suc n) (m ∷ l) =
-    omega (arith, when-most (isFree m.datum.kind) m.place (freesOf (take n l)), frees-most n l)
+    omega (arith, when-most (is_free m.datum.kind) m.place (frees_of (take n l)), frees-most n l)

@@ -12,12 +12,12 @@ use Rattle.piece.specs.declared.insertion_blueprint.InsertionShape.TheVariants.{
 use Rattle.piece.specs.declared.settings.Settings.{Settings}
 use Rattle.piece.specs.Sides.{other}
 use Rattle.piece.specs.Row.{Row, nil, grow}
-use Rattle.piece.specs.Insertion.{Made, block_of, table, newNodes}
+use Rattle.piece.specs.Insertion.{Made, block_of, table, new_nodes}
 use Rattle.tree.specs.Tree.{Tree, In, At, count}
 use Rattle.tree.specs.Sound.{Sound}
 use Rattle.tree.specs.Booking.{Booking, planted, block, book}
 use Rattle.tree.specs.Steps.{less}
-use Rattle.tree.specs.Pieces.{maxSerial, Serials}
+use Rattle.tree.specs.Pieces.{max_serial, Serials}
 use Rattle.tree.proofs.Numbered.{Numbered, numbered-in}
 use Rattle.tree.proofs.BookPieces.{less-was, book-pieces}
 
@@ -29,7 +29,7 @@ block-numbered AcrossCurrentCut blade c piece part = omega arith
 block-numbered AlongThenAcross blade c piece part = omega arith
 block-numbered AcrossThenAlong blade c piece part = omega arith
 
-block-nodes : (s : InsertionShape) (blade : ℕ) (c : Orientation) (piece part : Size) → count (block_of s blade c piece part) ≡ newNodes s
+block-nodes : (s : InsertionShape) (blade : ℕ) (c : Orientation) (piece part : Size) → count (block_of s blade c piece part) ≡ new_nodes s
 unfolding block_of table
 block-nodes AlongCurrentCut blade c piece part = refl
 block-nodes AcrossCurrentCut blade c piece part = refl
@@ -48,7 +48,7 @@ planted-marks b l c i e (grow j m k r) (inr (inl h)) =
     let z = planted-marks b (l + 1) (other c) i e k h in (z.0, inr (inl z.1), z.2)
 planted-marks b l c i e (grow j m k r) (inr (inr h)) = let z = planted-marks b l c i e r h in (z.0, inr (inr z.1), z.2)
 
-pub block-marks : (b : Booking) (d : Datum) (i : ℕ) (e : Datum) → At i e (block b d) → (j : ℕ) × (j < newNodes b.shape) × Nth b j i e
+pub block-marks : (b : Booking) (d : Datum) (i : ℕ) (e : Datum) → At i e (block b d) → (j : ℕ) × (j < new_nodes b.shape) × Nth b j i e
 unfolding block
 block-marks b d i e h =
     let s = block_of b.shape b.blade d.cut d.size b.size in
@@ -69,11 +69,11 @@ module _ (limit : ℕ) (settings : Settings) (w : Tree) (sound : Sound limit set
   pub newer : (i : ℕ) (e : Datum) → At i e (block b d) → last < e.serial
   newer i e h = let z = block-marks b d i e h in let s : e.serial ≡ b.serial + z.0 = z.2.1 in omega arith
 
-  newest : (i : ℕ) (e : Datum) → At i e (block b d) → e.serial ≤ last + newNodes b.shape
+  newest : (i : ℕ) (e : Datum) → At i e (block b d) → e.serial ≤ last + new_nodes b.shape
   newest i e h =
       let z = block-marks b d i e h in let s : e.serial ≡ b.serial + z.0 = z.2.1 in let m = z.1 in omega arith
 
-  pub book-serials : last + newNodes b.shape ≤ maxSerial → Serials (book x b w) (last + newNodes b.shape)
+  pub book-serials : last + new_nodes b.shape ≤ max_serial → Serials (book x b w) (last + new_nodes b.shape)
   book-serials room = record { differ = differ; least = least; most = most; spent = room }
     where
       parts : (i : ℕ) (e : Datum) → At i e (book x b w) → At i e (less x w) ⊎ At i e (block b d)
@@ -95,5 +95,5 @@ module _ (limit : ℕ) (settings : Settings) (w : Tree) (sound : Sound limit set
       least : (i : ℕ) (e : Datum) → At i e (book x b w) → 1 ≤ e.serial
       least i e h = ⊎_elim (λ y. marked.least i e (was i e y)) (λ y. let c = newer i e y in omega arith) (parts i e h)
 
-      most : (i : ℕ) (e : Datum) → At i e (book x b w) → e.serial ≤ last + newNodes b.shape
+      most : (i : ℕ) (e : Datum) → At i e (book x b w) → e.serial ≤ last + new_nodes b.shape
       most i e h = ⊎_elim (λ y. let c = older i e y in omega arith) (newest i e) (parts i e h)

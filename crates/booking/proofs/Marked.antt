@@ -8,28 +8,28 @@ use native.Mathlib.Numerals.{add-one}
 use native.Mathlib.Omega.{arith}
 use lib.ListN.{length, set, take, replicate}
 use lib.Seq.{sets}
-use Rattle.piece.specs.Kinds.{isFree, isPart}
+use Rattle.piece.specs.Kinds.{is_free, is_part}
 use Rattle.tree.specs.Enrolment.{when}
 use Rattle.marks.specs.declared.Mark.{Mark}
 use Rattle.booking.specs.declared.new_nodes.NewNode.{NewNode}
-use Rattle.booking.specs.NewNodes.{freesOf}
-use Rattle.marks.specs.Marks.{zeroMark}
-use Rattle.booking.specs.Marks.{firstMark, headMark, marksOf, newMark, newMarks}
+use Rattle.booking.specs.NewNodes.{frees_of}
+use Rattle.marks.specs.Marks.{zero_mark}
+use Rattle.booking.specs.Marks.{first_mark, head_mark, marks_of, new_mark, new_marks}
 
-abbrev freeMarks : ℕ → List NewNode → List Mark
-freeMarks number ns = marksOf number isFree ns
+abbrev free_marks : ℕ → List NewNode → List Mark
+free_marks number ns = marks_of number is_free ns
 
 -- found marks stand in frees, those of rest are still to come, and all are those of ns
 pub record Noted (number : ℕ) (ns rest : List NewNode) (frees : List Mark) (found : ℕ) : Type 0 where
-  pub counts : found + length (freeMarks number rest) ≡ length (freeMarks number ns)
-  pub written : sets frees found (freeMarks number rest) ≡ sets (replicate 2 zeroMark) 0 (freeMarks number ns)
+  pub counts : found + length (free_marks number rest) ≡ length (free_marks number ns)
+  pub written : sets frees found (free_marks number rest) ≡ sets (replicate 2 zero_mark) 0 (free_marks number ns)
 
 module _ (number : ℕ) (ns : List NewNode) where
-  pub noted-none : Noted number ns ns (replicate 2 zeroMark) 0
+  pub noted-none : Noted number ns ns (replicate 2 zero_mark) 0
   noted-none = record { counts = omega arith; written = refl }
 
   module _ (n : NewNode) (rest : List NewNode) (frees : List Mark) (found : ℕ) (h : Noted number ns (n ∷ rest) frees found) where
-    pub noted-free : isFree n.datum.kind ≡ true → {m : Mark} {more : List Mark} {k : ℕ} → m ≡ newMark number n →
+    pub noted-free : is_free n.datum.kind ≡ true → {m : Mark} {more : List Mark} {k : ℕ} → m ≡ new_mark number n →
         more ≡ set frees found m → k ≡ found + 1 → Noted number ns rest more k
     noted-free e {m} {more} {k} is put one =
         record {
@@ -37,14 +37,14 @@ module _ (number : ℕ) (ns : List NewNode) where
           written = rw (put, is, one, add-one) (rw e at h.written);
         }
 
-    pub noted-room : isFree n.datum.kind ≡ true → found < length (freeMarks number ns)
+    pub noted-room : is_free n.datum.kind ≡ true → found < length (free_marks number ns)
     noted-room e = let z = rw e at h.counts in omega arith
 
-    pub noted_other : isFree n.datum.kind ≡ false → {more : List Mark} {k : ℕ} → more ≡ frees → k ≡ found → Noted number ns rest more k
+    pub noted_other : is_free n.datum.kind ≡ false → {more : List Mark} {k : ℕ} → more ≡ frees → k ≡ found → Noted number ns rest more k
     noted_other e put none = rw (put, none) record { counts = rw e at h.counts; written = rw e at h.written }
 
 -- two marks or fewer, written over two zeros
-two-written : (ms : List Mark) → length ms ≤ 2 → sets (replicate 2 zeroMark) 0 ms ≡ take 2 (ms ++ replicate 2 zeroMark)
+two-written : (ms : List Mark) → length ms ≤ 2 → sets (replicate 2 zero_mark) 0 ms ≡ take 2 (ms ++ replicate 2 zero_mark)
 two-written [] h = refl
 two-written (a ∷ []) h = refl
 two-written (a ∷ b ∷ []) h = refl
@@ -56,20 +56,20 @@ one_more true m ms p ps e = ap suc e
 one_more false m ms p ps e = e
 
 -- there are as many marks as places of free pieces
-pub free-marks-count : (number : ℕ) (ns : List NewNode) → length (freeMarks number ns) ≡ length (freesOf ns)
+pub free-marks-count : (number : ℕ) (ns : List NewNode) → length (free_marks number ns) ≡ length (frees_of ns)
 free-marks-count number [] = refl
 free-marks-count number (n ∷ ns) =
-    one_more (isFree n.datum.kind) (newMark number n) (freeMarks number ns) n.place (freesOf ns) (free-marks-count number ns)
+    one_more (is_free n.datum.kind) (new_mark number n) (free_marks number ns) n.place (frees_of ns) (free-marks-count number ns)
 
 -- at the end the four are the marks
 module _ (number : ℕ) (ns : List NewNode) (first part : Mark) (frees : List Mark) (found : ℕ) where
-  pub noted-all : Noted number ns [] frees found → length (freesOf ns) ≤ 2 →
-      first ≡ firstMark number ns → part ≡ headMark (marksOf number isPart ns) →
-      record { first = first; part = part; frees = frees; count = found } ≡ newMarks number ns
-  unfolding newMarks
+  pub noted-all : Noted number ns [] frees found → length (frees_of ns) ≤ 2 →
+      first ≡ first_mark number ns → part ≡ head_mark (marks_of number is_part ns) →
+      record { first = first; part = part; frees = frees; count = found } ≡ new_marks number ns
+  unfolding new_marks
   noted-all h few f p =
-      let w : frees ≡ take 2 (freeMarks number ns ++ replicate 2 zeroMark) =
-      h.written ∙ two-written (freeMarks number ns) (rw (free-marks-count number ns) few)
+      let w : frees ≡ take 2 (free_marks number ns ++ replicate 2 zero_mark) =
+      h.written ∙ two-written (free_marks number ns) (rw (free-marks-count number ns) few)
       in
-      let k : found ≡ length (freeMarks number ns) = omega (arith, h.counts) in
+      let k : found ≡ length (free_marks number ns) = omega (arith, h.counts) in
       rw (f, p, w, k) refl

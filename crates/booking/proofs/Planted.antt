@@ -16,22 +16,22 @@ use Rattle.table.specs.Table.{at, Holds, append, unlink}
 use Rattle.table.specs.Steps.{plant}
 use Rattle.table.proofs.Steps.{book-sound}
 use Rattle.booking.specs.declared.new_nodes.NewNode.{NewNode}
-use Rattle.booking.specs.NewNodes.{leaves, appendEach}
+use Rattle.booking.specs.NewNodes.{leaves, append_each}
 
-append-both : (limit : ℕ) (t : List Node) (m n : List NewNode) → appendEach limit t (m ++ n) ≡ appendEach limit (appendEach limit t m) n
+append-both : (limit : ℕ) (t : List Node) (m n : List NewNode) → append_each limit t (m ++ n) ≡ append_each limit (append_each limit t m) n
 append-both limit t [] n = refl
 append-both limit t (a ∷ m) n = append-both limit (append limit t a.under a.place a.datum) m n
 
 -- a row that is planted under q is appended node by node
-pub plant-each : (limit : ℕ) (r : Tree) (t : List Node) (q : ℕ) (none : Bool) → plant limit t q r ≡ appendEach limit t (leaves q none r)
+pub plant-each : (limit : ℕ) (r : Tree) (t : List Node) (q : ℕ) (none : Bool) → plant limit t q r ≡ append_each limit t (leaves q none r)
 plant-each limit nil t q none = refl
 plant-each limit (grow p d k r) t q none =
     ap (λ (u : List Node). plant limit u q r) (plant-each limit k (append limit t q p d) p true)
-    ∙ plant-each limit r (appendEach limit (append limit t q p d) (leaves p true k)) q false
+    ∙ plant-each limit r (append_each limit (append limit t q p d) (leaves p true k)) q false
     ∙ sym (append-both limit (append limit t q p d) (leaves p true k) (leaves q false r))
 
 pub booked-holds : (limit : ℕ) (settings : Settings) (t : List Node) (w : Tree) → Sound limit settings w → Holds limit t w
     → (x : ℕ) (d : Datum) → At x d w → d.kind ≡ Free → (b : Booking) → Fresh limit x b w → (none : Bool)
-    → Holds limit (appendEach limit (unlink limit t x) (leaves (at t x).parent none (block b d))) (book x b w)
+    → Holds limit (append_each limit (unlink limit t x) (leaves (at t x).parent none (block b d))) (book x b w)
 booked-holds limit settings t w sound h x d i free b new none =
     rw (plant-each limit (block b d) (unlink limit t x) (at t x).parent none) at (book-sound limit settings t w sound h x d i free b new)

@@ -9,7 +9,7 @@ use Rattle.piece.specs.declared.node.Datum.{Datum}
 use Rattle.piece.specs.declared.node.Kind.TheVariants.{Free, Structure}
 use Rattle.piece.specs.declared.settings.Settings.{Settings}
 use Rattle.tree.specs.Tree.{Tree, In, At}
-use Rattle.piece.specs.Kinds.{isFree}
+use Rattle.piece.specs.Kinds.{is_free}
 use Rattle.tree.specs.Sound.{Sound}
 use Rattle.tree.specs.Booking.{Booking, block, book}
 use Rattle.tree.specs.Accepted.{Fresh}
@@ -17,7 +17,7 @@ use Rattle.tree.specs.Steps.{less}
 use Rattle.tree.specs.ListSteps.{Names, strike, push}
 use Rattle.tree.specs.Pieces.{Pieces, pieces_of, Holding, RemovableList}
 use Rattle.tree.specs.Family.{parent_of, childless}
-use Rattle.tree.specs.Enrolment.{enrolled, bookedList}
+use Rattle.tree.specs.Enrolment.{enrolled, booked_list}
 use Rattle.tree.proofs.Rows.{same?, at_in, in-at}
 use Rattle.tree.proofs.Blocks.{block-distinct}
 use Rattle.tree.proofs.Bookings.{at-unique}
@@ -55,13 +55,13 @@ module _ (limit : ℕ) (settings : Settings) (w : Tree) (sound : Sound limit set
 
   -- a part or a structure
   abbrev P : Datum → Type 0
-  P e = isFree e.kind ≡ false
+  P e = is_free e.kind ≡ false
 
   -- no such piece stands at x
   not-x : (i : ℕ) (e : Datum) → At i e w → P e → i ≡ x → ⊥
   not-x i e y s z =
       let same : e ≡ d = at-unique x d e w sound.distinct there (rw z at y) in
-      let no : false ≡ true = sym s ∙ ap (λ (n : Datum). isFree n.kind) same ∙ ap isFree free in
+      let no : false ≡ true = sym s ∙ ap (λ (n : Datum). is_free n.kind) same ∙ ap is_free free in
       false≢true no
 
   keeps : (i : ℕ) (e : Datum) → At i e w → P e → At i e (less x w)
@@ -91,7 +91,7 @@ module _ (limit : ℕ) (settings : Settings) (w : Tree) (sound : Sound limit set
   parent : (e : Datum) × At q e (book x b w) × P e
   parent =
       let e = in-at q (less x w) parent-left in
-      (e.0, left q e.0 e.1, ap isFree (parent-solid e.0 (was q e.0 e.1)))
+      (e.0, left q e.0 e.1, ap is_free (parent-solid e.0 (was q e.0 e.1)))
 
   -- a new piece of the block
   fresh : (i : ℕ) → Solid i (block b d) → (e : Datum) × At i e (book x b w) × P e × ((f : Datum) → At i f (less x w) → ⊥)
@@ -127,8 +127,8 @@ module _ (limit : ℕ) (settings : Settings) (w : Tree) (sound : Sound limit set
       A : Pieces
       A i e = At i e (less x w) × (i ≡ q → ⊥)
 
-  pub booked-removable : (ys : List ℕ) → RemovableList w ys → RemovableList (book x b w) (bookedList limit x d b w ys)
-  unfolding bookedList
+  pub booked-removable : (ys : List ℕ) → RemovableList w ys → RemovableList (book x b w) (booked_list limit x d b w ys)
+  unfolding booked_list
   booked-removable ys h = go (childless q (less x w))
     where
       go : (none : Bool) → RemovableList (book x b w) (cond none (strike ys q) ys ++ enrolled q none (block b d))

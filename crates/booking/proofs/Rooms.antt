@@ -8,9 +8,9 @@ use lib.ListN.{length}
 use Rattle.piece.specs.declared.node.Datum.{Datum}
 use Rattle.piece.specs.declared.node.Kind.TheVariants.{Free}
 use Rattle.piece.specs.declared.settings.Settings.{Settings}
-use Rattle.piece.specs.Insertion.{newNodes}
+use Rattle.piece.specs.Insertion.{new_nodes}
 use Rattle.tree.specs.Tree.{Tree, At, count}
-use Rattle.piece.specs.Kinds.{isFree}
+use Rattle.piece.specs.Kinds.{is_free}
 use Rattle.tree.specs.Sound.{Sound}
 use Rattle.tree.specs.Booking.{Booking, book}
 use Rattle.tree.specs.Steps.{less}
@@ -21,9 +21,9 @@ use Rattle.booking.proofs.Sums.{less-count, book-count}
 use Rattle.booking.proofs.FreeList.{cut-free}
 
 module _ (limit : ℕ) (settings : Settings) (w : Tree) (sound : Sound limit settings w) (x : ℕ) (d : Datum) (there : At x d w)
-    (free : d.kind ≡ Free) (b : Booking) (room : count w + newNodes b.shape ≤ limit + 1) where
+    (free : d.kind ≡ Free) (b : Booking) (room : count w + new_nodes b.shape ≤ limit + 1) where
   -- the free list, when the free piece has gone
-  pub free-room : (xs : List ℕ) → FreeList w xs → length (omit xs x) + newNodes b.shape ≤ limit
+  pub free-room : (xs : List ℕ) → FreeList w xs → length (omit xs x) + new_nodes b.shape ≤ limit
   free-room xs f =
       let most = holding-most (λ e. e.kind ≡ Free) (less x w) (omit xs x) (cut-free limit settings w sound x d there free xs f).holding in
       omega (arith, less-count limit settings w sound x d there free)

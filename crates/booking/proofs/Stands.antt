@@ -13,10 +13,10 @@ use Rattle.piece.specs.declared.node.Kind.TheVariants.{Free, Structure}
 use Rattle.piece.specs.declared.insertion_blueprint.InsertionShape.{InsertionShape}
 use Rattle.piece.specs.declared.insertion_blueprint.InsertionShape.TheVariants.{AlongCurrentCut, AcrossCurrentCut, AlongThenAcross, AcrossThenAlong}
 use Rattle.piece.specs.declared.settings.Settings.{Settings}
-use Rattle.piece.specs.Insertion.{block_of, newNodes, table}
+use Rattle.piece.specs.Insertion.{block_of, new_nodes, table}
 use Rattle.piece.specs.Sides.{area}
 use Rattle.piece.specs.Row.{nil, grow}
-use Rattle.piece.specs.Kinds.{isPart}
+use Rattle.piece.specs.Kinds.{is_part}
 use Rattle.piece.proofs.Padded.{padded-at}
 use Rattle.piece.proofs.Blocks.{new-nodes-few}
 use Rattle.tree.specs.Tree.{Tree, In, At, count}
@@ -25,9 +25,9 @@ use Rattle.tree.specs.Booking.{Booking, block, book}
 use Rattle.tree.specs.Accepted.{Fitting, Fresh}
 use Rattle.tree.specs.Steps.{less, Marked}
 use Rattle.tree.specs.ListSteps.{omit, put_all}
-use Rattle.tree.specs.Pieces.{pieces_of, Holding, FreeList, RemovableList, maxSerial}
-use Rattle.tree.specs.Family.{parent_of, childless, newPlace}
-use Rattle.tree.specs.Enrolment.{when, enrolled, bookedList}
+use Rattle.tree.specs.Pieces.{pieces_of, Holding, FreeList, RemovableList, max_serial}
+use Rattle.tree.specs.Family.{parent_of, childless, new_place}
+use Rattle.tree.specs.Enrolment.{when, enrolled, booked_list}
 use Rattle.tree.proofs.Rows.{at_in}
 use Rattle.tree.proofs.Blocks.{block_in}
 use Rattle.tree.proofs.Laws.BookingSound.{booking-sound}
@@ -39,13 +39,13 @@ use Rattle.table.proofs.Links.{datum-is}
 use Rattle.table.proofs.Steps.{free-gone}
 use Rattle.table.proofs.Family.{parent_is, no-child, lowest-is}
 use Rattle.layout_nodes.specs.declared.LayoutNodes.{LayoutNodes}
-use Rattle.layout_nodes.specs.Listings.{areaIn, entriesOf}
+use Rattle.layout_nodes.specs.Listings.{area_in, entries_of}
 use Rattle.layout_nodes.specs.Standing.{Stands}
 use Rattle.layout_nodes.proofs.Listed.{entries-listing, kept-listing}
 use Rattle.booking.specs.declared.new_nodes.NewNode.{NewNode}
 use Rattle.booking.specs.declared.new_nodes.Site.{Site}
-use Rattle.booking.specs.NewNodes.{appendEach, bookingAt, deepest, enrolments, freesOf, heldNew, leaves, noNew, those}
-use Rattle.booking.specs.Book.{lowestOf, newPlaces, noChild, siteOf, newNodesAt, lessParent, bookedWith, bookedNodes}
+use Rattle.booking.specs.NewNodes.{append_each, booking_at, deepest, enrolments, frees_of, held_new, leaves, no_new, those}
+use Rattle.booking.specs.Book.{lowest_of, new_places, no_child, site_of, new_nodes_at, less_parent, booked_with, booked_nodes}
 use Rattle.booking.specs.Inner.{Bookable}
 use Rattle.booking.proofs.Made.{made-is, leaves-count, held-those}
 use Rattle.booking.proofs.Planted.{booked-holds}
@@ -79,8 +79,8 @@ enrolments-more : (a b : List NewNode) → enrolments (a ++ b) ≡ enrolments a 
 enrolments-more [] b = refl
 enrolments-more (n ∷ a) b =
     rw (enrolments-more a b)
-    (sym (append_assoc (when (isPart n.datum.kind) n.place) (when n.eldest n.under ++ enrolments a) (enrolments b)
-    ∙ ap (λ (l : List ℕ). when (isPart n.datum.kind) n.place ++ l) (append_assoc (when n.eldest n.under) (enrolments a) (enrolments b))))
+    (sym (append_assoc (when (is_part n.datum.kind) n.place) (when n.eldest n.under ++ enrolments a) (enrolments b)
+    ∙ ap (λ (l : List ℕ). when (is_part n.datum.kind) n.place ++ l) (append_assoc (when n.eldest n.under) (enrolments a) (enrolments b))))
 
 pub enrolments-leaves : (r : Tree) (q : ℕ) (none : Bool) → enrolments (leaves q none r) ≡ enrolled q none r
 enrolments-leaves nil q none = refl
@@ -107,14 +107,14 @@ leaves-low bound (grow p d k r) q none h f =
     )
 
 low-at : (bound : ℕ) (l : List NewNode) → Low bound l → (i : ℕ) → i < length l
-    → ((get_or l i noNew).under < bound) × ((get_or l i noNew).place < bound)
+    → ((get_or l i no_new).under < bound) × ((get_or l i no_new).place < bound)
 low-at bound [] u i h = let no : ⊥ = omega arith in absurd no
 low-at bound (n ∷ l) u zero h = (u.0, u.1)
 low-at bound (n ∷ l) u (suc i) h = low-at bound l u.2 i (omega arith)
 
-held_at : (l : List NewNode) → length l ≤ 5 → (i : ℕ) → get_or (heldNew l).list i noNew ≡ get_or l i noNew
-unfolding heldNew
-held_at l h i = padded-at noNew 5 5 l h i
+held_at : (l : List NewNode) → length l ≤ 5 → (i : ℕ) → get_or (held_new l).list i no_new ≡ get_or l i no_new
+unfolding held_new
+held_at l h i = padded-at no_new 5 5 l h i
 
 -- ---- the booking
 
@@ -122,7 +122,7 @@ module _ (settings : Settings) (last : ℕ) (w : Tree) (n : LayoutNodes) (stands
     (x : ℕ) (d : Datum) (there : At x d w) (free : d.kind ≡ Free) (shape : InsertionShape) (size : Size) (number blade : ℕ) where
   -- what is booked
   abbrev pub wanted : Booking
-  wanted = record { shape = shape; size = size; number = number; blade = blade; place = newPlace limit (less x w); serial = last + 1 }
+  wanted = record { shape = shape; size = size; number = number; blade = blade; place = new_place limit (less x w); serial = last + 1 }
 
   abbrev q : ℕ
   q = parent_of limit x w
@@ -151,15 +151,15 @@ module _ (settings : Settings) (last : ℕ) (w : Tree) (n : LayoutNodes) (stands
   parent-structure : (e : Datum) → At q e w → e.kind ≡ Structure
   parent-structure = parent-solid limit settings w stands.sound x (at_in x d w there) below
 
-  alone : noChild left q ≡ childless q (less x w)
+  alone : no_child left q ≡ childless q (less x w)
   alone = no-child limit left q (less x w) gone parent-in
 
   marked-left : Marked (less x w)
   marked-left i e y = marked i e (less-was limit settings w stands.sound x d there free i e y).0
 
-  place_is : (i : ℕ) → lowestOf left i ≡ newPlace limit (less x w) i
+  place_is : (i : ℕ) → lowest_of left i ≡ new_place limit (less x w) i
   place_is zero = lowest-is limit left (less x w) gone marked-left 0
-  place_is (suc i) = rw (place_is i) (lowest-is limit left (less x w) gone marked-left (newPlace limit (less x w) i + 1))
+  place_is (suc i) = rw (place_is i) (lowest-is limit left (less x w) gone marked-left (new_place limit (less x w) i + 1))
 
   -- the site that x leaves
   abbrev site : Site
@@ -168,20 +168,20 @@ module _ (settings : Settings) (last : ℕ) (w : Tree) (n : LayoutNodes) (stands
         under = q;
         alone = childless q (less x w);
         level = d.level;
-        places = newPlaces left;
+        places = new_places left;
         serial = last + 1;
         number = number;
         blade = blade;
       }
 
-  site-is : siteOf n.nodes left x number blade last ≡ site
-  unfolding siteOf
+  site-is : site_of n.nodes left x number blade last ≡ site
+  unfolding site_of
   site-is = rw (parent, datum, alone) refl
 
-  block-is : block (bookingAt site shape size) d ≡ block wanted d
-  unfolding newPlaces
+  block-is : block (booking_at site shape size) d ≡ block wanted d
+  unfolding new_places
   block-is =
-      block-places shape size number blade (last + 1) (λ (i : ℕ). get_or (newPlaces left) i 0) (newPlace limit (less x w)) d (place_is 0) (place_is 1)
+      block-places shape size number blade (last + 1) (λ (i : ℕ). get_or (new_places left) i 0) (new_place limit (less x w)) d (place_is 0) (place_is 1)
       (place_is 2) (place_is 3) (place_is 4)
 
   abbrev new : List NewNode
@@ -192,43 +192,43 @@ module _ (settings : Settings) (last : ℕ) (w : Tree) (n : LayoutNodes) (stands
 
   module _ (fitting : Fitting settings d wanted) (shallow : d.level + deepest shape ≤ 255) where
     -- the nodes that the code makes are the block's
-    new_is : newNodesAt n.nodes left x shape size number blade last ≡ heldNew new
-    unfolding newNodesAt
+    new_is : new_nodes_at n.nodes left x shape size number blade last ≡ held_new new
+    unfolding new_nodes_at
     new_is = rw (site-is, datum) (made-is d site shape size refl shallow ∙ rw block-is refl)
 
-    those-new : those (newNodesAt n.nodes left x shape size number blade last) ≡ new
+    those-new : those (new_nodes_at n.nodes left x shape size number blade last) ≡ new
     those-new = rw new_is (held-those new new-few)
 
-    module _ (room : count w + newNodes shape ≤ limit + 1) (spent : last + newNodes shape ≤ maxSerial) where
+    module _ (room : count w + new_nodes shape ≤ limit + 1) (spent : last + new_nodes shape ≤ max_serial) where
       fresh : Fresh limit x wanted w
       fresh = fresh-booking limit settings w stands.sound x d there free wanted (λ j h. refl) room
 
-      table_is : Holds limit (appendEach limit left new) (book x wanted w)
+      table_is : Holds limit (append_each limit left new) (book x wanted w)
       table_is =
           rw parent at
           (booked-holds limit settings n.nodes w stands.sound stands.holds x d there free wanted fresh (childless q (less x w)))
 
       abbrev frees : List ℕ
-      frees = put_all (areaIn (appendEach limit left new)) (omit (entriesOf n.free) x) (freesOf new)
+      frees = put_all (area_in (append_each limit left new)) (omit (entries_of n.free) x) (frees_of new)
 
       free-is : FreeList (book x wanted w) frees
       free-is =
           booked-free limit settings w stands.sound x d there free wanted fresh last stands.serials refl
-          (areaIn (appendEach limit left new))
+          (area_in (append_each limit left new))
           (λ i e y. ap (λ (f : Datum). area f.size)
-          (datum-is limit (appendEach limit left new) limit limit i e (book x wanted w) table_is.rep y))
-          q (childless q (less x w)) (entriesOf n.free) stands.free
+          (datum-is limit (append_each limit left new) limit limit i e (book x wanted w) table_is.rep y))
+          q (childless q (less x w)) (entries_of n.free) stands.free
 
       -- the removable list is the one that the rule gives
-      list-is : lessParent left (at n.nodes x).parent (entriesOf n.removable)
-          ++ enrolments (those (newNodesAt n.nodes left x shape size number blade last))
-          ≡ bookedList limit x d wanted w (entriesOf n.removable)
-      unfolding bookedList
+      list-is : less_parent left (at n.nodes x).parent (entries_of n.removable)
+          ++ enrolments (those (new_nodes_at n.nodes left x shape size number blade last))
+          ≡ booked_list limit x d wanted w (entries_of n.removable)
+      unfolding booked_list
       list-is = rw (parent, those-new, alone, enrolments-leaves (block wanted d) q (childless q (less x w))) refl
 
-      solid-is : RemovableList (book x wanted w) (bookedList limit x d wanted w (entriesOf n.removable))
+      solid-is : RemovableList (book x wanted w) (booked_list limit x d wanted w (entries_of n.removable))
       solid-is =
-          booked-removable limit settings w stands.sound x d there free wanted fresh parent-in parent-structure (entriesOf n.removable)
+          booked-removable limit settings w stands.sound x d there free wanted fresh parent-in parent-structure (entries_of n.removable)
           stands.removable
 
       rooms : (P : Datum → Type 0) (l : List ℕ) → Holding P (pieces_of (book x wanted w)) l → length l ≤ limit
@@ -240,11 +240,11 @@ module _ (settings : Settings) (last : ℕ) (w : Tree) (n : LayoutNodes) (stands
           record {
             placed = stands.sound.placed x (at_in x d w there);
             hung = rw parent (parent-low limit settings w stands.sound x (at_in x d w there) below);
-            freeKept = stands.freeKept;
-            removableKept = stands.removableKept;
+            free_kept = stands.free_kept;
+            removable_kept = stands.removable_kept;
             sited = sited;
-            freeRoom = free-room limit settings w stands.sound x d there free wanted room (entriesOf n.free) stands.free;
-            removableRoom = rw list-is (rooms _ (bookedList limit x d wanted w (entriesOf n.removable)) solid-is);
+            free_room = free-room limit settings w stands.sound x d there free wanted room (entries_of n.free) stands.free;
+            removable_room = rw list-is (rooms _ (booked_list limit x d wanted w (entries_of n.removable)) solid-is);
             spent = let s = spent in omega arith;
           }
         where
@@ -254,30 +254,30 @@ module _ (settings : Settings) (last : ℕ) (w : Tree) (n : LayoutNodes) (stands
               (parent-low limit settings w stands.sound x (at_in x d w there) below)
               (λ j y. let g = block_in wanted d j y in rw g.2 (fresh.placed g.0 g.1))
 
-          sited : (i : ℕ) → i < newNodes shape
-              → let m = get_or (newNodesAt n.nodes left x shape size number blade last).list i noNew in (m.under < limit) × (m.place < limit)
+          sited : (i : ℕ) → i < new_nodes shape
+              → let m = get_or (new_nodes_at n.nodes left x shape size number blade last).list i no_new in (m.under < limit) × (m.place < limit)
           sited i h =
               rw (new_is, held_at new new-few i) (low-at limit new low i (rw (leaves-count wanted d q (childless q (less x w))) h))
 
       -- all stands again
-      pub book-stands : Stands settings (last + newNodes shape) (book x wanted w) (bookedNodes n x shape size number blade last).nodes
-      unfolding bookedNodes bookedWith
+      pub book-stands : Stands settings (last + new_nodes shape) (book x wanted w) (booked_nodes n x shape size number blade last).nodes
+      unfolding booked_nodes booked_with
       book-stands =
           rw (list-is, those-new)
           (record {
             sound = booking-sound limit settings w x d wanted stands.sound there free fitting fresh room;
             holds = table_is;
             free = rw (entries-listing frees) free-is;
-            removable = rw (entries-listing (bookedList limit x d wanted w (entriesOf n.removable))) solid-is;
-            freeKept = kept-listing frees (rooms _ frees free-is.holding);
-            removableKept = kept-listing _ (rooms _ (bookedList limit x d wanted w (entriesOf n.removable)) solid-is);
+            removable = rw (entries-listing (booked_list limit x d wanted w (entries_of n.removable))) solid-is;
+            free_kept = kept-listing frees (rooms _ frees free-is.holding);
+            removable_kept = kept-listing _ (rooms _ (booked_list limit x d wanted w (entries_of n.removable)) solid-is);
             serials = book-serials limit settings w stands.sound x d there free wanted last stands.serials refl spent;
           })
 
-      pub book-list : entriesOf (bookedNodes n x shape size number blade last).nodes.removable ≡ bookedList limit x d wanted w (entriesOf n.removable)
-      unfolding bookedNodes bookedWith
-      book-list = rw list-is (entries-listing (bookedList limit x d wanted w (entriesOf n.removable)))
+      pub book-list : entries_of (booked_nodes n x shape size number blade last).nodes.removable ≡ booked_list limit x d wanted w (entries_of n.removable)
+      unfolding booked_nodes booked_with
+      book-list = rw list-is (entries-listing (booked_list limit x d wanted w (entries_of n.removable)))
 
-      pub book-new : (bookedNodes n x shape size number blade last).new ≡ heldNew new
-      unfolding bookedNodes bookedWith
+      pub book-new : (booked_nodes n x shape size number blade last).new ≡ held_new new
+      unfolding booked_nodes booked_with
       book-new = new_is

@@ -18,16 +18,16 @@ use Rattle.piece.specs.declared.insertion_blueprint.InsertionShape.{InsertionSha
 use Rattle.piece.specs.declared.insertion_blueprint.InsertionShape.TheVariants.{AlongCurrentCut, AcrossCurrentCut, AlongThenAcross, AcrossThenAlong}
 use Rattle.piece.specs.Sides.{sized, laid, area}
 use Rattle.piece.specs.Row.{nil, grow}
-use Rattle.piece.specs.Insertion.{block_of, table, newNodes}
+use Rattle.piece.specs.Insertion.{block_of, table, new_nodes}
 use Rattle.piece.specs.declared.settings.Settings.{Settings}
 use Rattle.piece.specs.Offers.{along, across, only, shapes}
-use Rattle.piece.specs.Kinds.{isFree, isPart}
+use Rattle.piece.specs.Kinds.{is_free, is_part}
 use Rattle.piece.proofs.Sizes.{laid-twice}
 use Rattle.tree.specs.Tree.{Tree, In, At, Distinct, count}
 use Rattle.tree.specs.Sound.{Sound}
 use Rattle.tree.specs.Booking.{Booking, planted, block, book}
 use Rattle.tree.specs.Accepted.{Fitting}
-use Rattle.tree.specs.Figures.{areaOfKind, partArea}
+use Rattle.tree.specs.Figures.{area_of_kind, part_area}
 use Rattle.tree.specs.Steps.{less}
 use Rattle.tree.proofs.Rows.{same?, at_in, after-nil}
 use Rattle.tree.proofs.Kept.{Where, Alone, free-alone}
@@ -95,19 +95,19 @@ same-sides c part w h e f = rw (e, f) (laid-twice c part)
 
 module _ (c : Orientation) (piece part : Size) where
   -- the size of the part in the table of a shape that suits
-  abbrev partSide : InsertionShape → Size
-  partSide AlongCurrentCut = sized (laid c part).width (laid c piece).height
-  partSide AcrossCurrentCut = sized (laid c piece).width (laid c part).height
-  partSide AlongThenAcross = laid c part
-  partSide AcrossThenAlong = laid c part
+  abbrev part_side : InsertionShape → Size
+  part_side AlongCurrentCut = sized (laid c part).width (laid c piece).height
+  part_side AcrossCurrentCut = sized (laid c piece).width (laid c part).height
+  part_side AlongThenAcross = laid c part
+  part_side AcrossThenAlong = laid c part
 
-  part-side : (s : InsertionShape) → Suits (along c piece part) (across c piece part) s → laid c (partSide s) ≡ part
+  part-side : (s : InsertionShape) → Suits (along c piece part) (across c piece part) s → laid c (part_side s) ≡ part
   part-side AlongCurrentCut e = same-sides c part _ _ refl (eqb-true _ _ e)
   part-side AcrossCurrentCut e = same-sides c part _ _ (eqb-true _ _ e) refl
   part-side AlongThenAcross e = laid-twice c part
   part-side AcrossThenAlong e = laid-twice c part
 
-  table-part : (b : Booking) (l : ℕ) (s : InsertionShape) → partArea (planted b l c (block_of s b.blade c piece part)) ≡ area (laid c (partSide s))
+  table-part : (b : Booking) (l : ℕ) (s : InsertionShape) → part_area (planted b l c (block_of s b.blade c piece part)) ≡ area (laid c (part_side s))
   unfolding block_of table
   table-part b l AlongCurrentCut = omega arith
   table-part b l AcrossCurrentCut = omega arith
@@ -115,11 +115,11 @@ module _ (c : Orientation) (piece part : Size) where
   table-part b l AcrossThenAlong = omega arith
 
 module _ (settings : Settings) (d : Datum) (b : Booking) (fit : Fitting settings d b) where
-  side : laid d.cut (partSide d.cut d.size b.size b.shape) ≡ b.size
+  side : laid d.cut (part_side d.cut d.size b.size b.shape) ≡ b.size
   side = part-side d.cut d.size b.size b.shape (offered-suits _ _ d.level settings.stages b.shape fit.offered)
 
   -- the block has one part, and that has the booked size
-  pub block-part-area : partArea (block b d) ≡ area b.size
+  pub block-part-area : part_area (block b d) ≡ area b.size
   unfolding block
   block-part-area = table-part d.cut d.size b.size b d.level b.shape ∙ ap area side
 
@@ -138,19 +138,19 @@ module _ (limit : ℕ) (settings : Settings) (w : Tree) (sound : Sound limit set
       omega arith
 
   module _ (b : Booking) where
-    pub book-count : count (book x b w) + 1 ≡ count w + newNodes b.shape
+    pub book-count : count (book x b w) + 1 ≡ count w + new_nodes b.shape
     book-count = count-book limit settings w x d b sound there free
 
     -- the areas of the pieces of a kind
-    book-area : (f : Kind → Bool) → areaOfKind f (book x b w) + cond (f d.kind) (area d.size) 0 ≡ areaOfKind f w + areaOfKind f (block b d)
+    book-area : (f : Kind → Bool) → area_of_kind f (book x b w) + cond (f d.kind) (area d.size) 0 ≡ area_of_kind f w + area_of_kind f (block b d)
     book-area f =
-        sum-change (areaOfKind f) (λ e. cond (f e.kind) (area e.size) 0) refl (λ p e k r. refl) x d (book x b) refl
-        (λ p e k r n. rw (ne_eqb p x n)) (areaOfKind f (block b d)) (rw (eq-eqb x x refl, after-nil (block b d))) w alone sound.distinct
+        sum-change (area_of_kind f) (λ e. cond (f e.kind) (area e.size) 0) refl (λ p e k r. refl) x d (book x b) refl
+        (λ p e k r n. rw (ne_eqb p x n)) (area_of_kind f (block b d)) (rw (eq-eqb x x refl, after-nil (block b d))) w alone sound.distinct
         (at_in x d w there)
 
     module _ (fit : Fitting settings d b) where
-      pub book-part-area : partArea (book x b w) ≡ partArea w + area b.size
+      pub book-part-area : part_area (book x b w) ≡ part_area w + area b.size
       book-part-area =
-          let z = book-area isPart in
-          let y : cond (isPart d.kind) (area d.size) 0 ≡ 0 = rw free in
+          let z = book-area is_part in
+          let y : cond (is_part d.kind) (area d.size) 0 ≡ 0 = rw free in
           omega (arith, block-part-area settings d b fit)

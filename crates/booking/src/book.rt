@@ -1,7 +1,7 @@
 // The booking itself.
 ghost use Rattle.std.specs.Prelude.{◌≡◌, ◌+◌, ◌≤◌};
-ghost use Rattle.layout_nodes.specs.Listings.{Kept, entriesOf, listing};
-ghost use Rattle.booking.specs.Book.{nodeBare, bookedNodes, lessUp, newOf, siteLeft};
+ghost use Rattle.layout_nodes.specs.Listings.{Kept, entries_of, listing};
+ghost use Rattle.booking.specs.Book.{node_bare, booked_nodes, less_up, new_of, site_left};
 ghost use Rattle.booking.specs.Inner.{Bookable};
 
 use crate::new_nodes::{NewNodes, Site, enrol, new_nodes, new_places, put_frees};
@@ -22,7 +22,7 @@ pub struct Booked {
 
 // No child hangs under the node.
 fn no_child(up: Node) -> bool
-    ensures { result ≡ nodeBare up }
+    ensures { result ≡ node_bare up }
 {
     NONE <= up.first
 }
@@ -30,7 +30,7 @@ fn no_child(up: Node) -> bool
 // The site that a node leaves, where `up` is its parent when it has gone, and these are the places.
 fn site_of(old: Node, up: Node, places: [u16; 5], number: u16, blade: u8, last: u32) -> Site
     requires { last ≤ 1000000 }
-    ensures { result ≡ siteLeft old up places number blade last }
+    ensures { result ≡ site_left old up places number blade last }
 {
     let d = old.datum;
     Site {
@@ -47,7 +47,7 @@ fn site_of(old: Node, up: Node, places: [u16; 5], number: u16, blade: u8, last: 
 // The nodes that the shape makes of a node at a site.
 fn new_at(old: Node, site: Site, shape: InsertionShape, size: Size) -> NewNodes
     requires { site.serial + 5 ≤ 4294967295 }
-    ensures { result ≡ newOf old site shape size }
+    ensures { result ≡ new_of old site shape size }
 {
     let d = old.datum;
     let cut = d.cut;
@@ -59,7 +59,7 @@ fn new_at(old: Node, site: Site, shape: InsertionShape, size: Size) -> NewNodes
 // The removable list less the parent at q, if that, which `up` is then, lost its last child.
 fn less_parent(up: Node, q: u16, removable: Listing) -> Listing
     requires { Kept removable }
-    ensures { result ≡ listing (lessUp up q (entriesOf removable)) }
+    ensures { result ≡ listing (less_up up q (entries_of removable)) }
 {
     if no_child(up) {
         removable.strike(q)
@@ -81,7 +81,7 @@ pub fn book(
     last: u32,
 ) -> Booked
     requires { Bookable nodes x shape size number blade last }
-    ensures { result ≡ bookedNodes nodes x shape size number blade last }
+    ensures { result ≡ booked_nodes nodes x shape size number blade last }
 {
     let was = nodes.nodes;
     let i = x as usize;

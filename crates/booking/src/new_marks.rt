@@ -1,8 +1,8 @@
 // The marks of the nodes that a booking made.
 ghost use Rattle.std.specs.Prelude.{◌≡◌, ◌≤◌, length};
-ghost use Rattle.piece.specs.Kinds.{isPart};
-ghost use Rattle.booking.specs.NewNodes.{freesOf, those};
-ghost use Rattle.booking.specs.Marks.{firstMark, headMark, marksOf, newMark, newMarks, zeroMarks};
+ghost use Rattle.piece.specs.Kinds.{is_part};
+ghost use Rattle.booking.specs.NewNodes.{frees_of, those};
+ghost use Rattle.booking.specs.Marks.{first_mark, head_mark, marks_of, new_mark, new_marks, zero_marks};
 
 use crate::new_nodes::{NewNode, NewNodes};
 use marks::Mark;
@@ -18,7 +18,7 @@ pub struct NewMarks {
 
 // No marks: all zero.
 pub fn no_marks() -> NewMarks
-    ensures { result ≡ zeroMarks }
+    ensures { result ≡ zero_marks }
 {
     let zero = Mark::zero();
     NewMarks {
@@ -30,7 +30,7 @@ pub fn no_marks() -> NewMarks
 }
 
 fn mark_of(number: u16, n: NewNode) -> Mark
-    ensures { result ≡ newMark number n }
+    ensures { result ≡ new_mark number n }
 {
     let d = n.datum;
     Mark {
@@ -43,7 +43,7 @@ fn mark_of(number: u16, n: NewNode) -> Mark
 // The mark of the first node.
 fn first_mark(number: u16, new: NewNodes) -> Mark
     requires { new.count ≤ 5 }
-    ensures { result ≡ firstMark number (those new) }
+    ensures { result ≡ first_mark number (those new) }
 {
     let list = new.list;
     let count = new.count;
@@ -58,7 +58,7 @@ fn first_mark(number: u16, new: NewNodes) -> Mark
 // The mark of the first part.
 fn part_mark(number: u16, new: NewNodes) -> Mark
     requires { new.count ≤ 5 }
-    ensures { result ≡ headMark (marksOf number isPart (those new)) }
+    ensures { result ≡ head_mark (marks_of number is_part (those new)) }
 {
     let list = new.list;
     let count = new.count;
@@ -75,8 +75,8 @@ fn part_mark(number: u16, new: NewNodes) -> Mark
 
 // The marks of the nodes that a booking made in the layout of this number.
 pub fn marks_of(number: u16, new: NewNodes) -> NewMarks
-    requires { (new.count ≤ 5) × (length (freesOf (those new)) ≤ 2) }
-    ensures { result ≡ newMarks number (those new) }
+    requires { (new.count ≤ 5) × (length (frees_of (those new)) ≤ 2) }
+    ensures { result ≡ new_marks number (those new) }
 {
     let list = new.list;
     let count = new.count;

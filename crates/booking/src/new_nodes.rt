@@ -1,12 +1,12 @@
 // The nodes that a booking makes, in creation order: their places, what they are, and what becomes of them in the lists.
 ghost use Rattle.std.specs.Prelude.{◌≡◌, cond, ◌++◌, ◌+◌, ◌<◌, ◌≤◌, length, replicate, take};
-ghost use Rattle.piece.specs.Kinds.{isFree, isPart};
+ghost use Rattle.piece.specs.Kinds.{is_free, is_part};
 ghost use Rattle.lists.specs.Lists.{limit};
 ghost use Rattle.tree.specs.ListSteps.{put_all};
-ghost use Rattle.layout_nodes.specs.Listings.{Kept, areaAt, entriesOf, listing};
-ghost use Rattle.booking.specs.Book.{newPlaces};
+ghost use Rattle.layout_nodes.specs.Listings.{Kept, area_at, entries_of, listing};
+ghost use Rattle.booking.specs.Book.{new_places};
 ghost use Rattle.booking.specs.NewNodes as spec;
-ghost use Rattle.booking.specs.NewNodes.{addAll, enrolments, freesOf, nextNode, noNew, siteNode, those};
+ghost use Rattle.booking.specs.NewNodes.{add_all, enrolments, frees_of, next_node, no_new, site_node, those};
 
 use layout_nodes::listing::Listing;
 use piece::insertion_blueprint::{InsertionBlueprint, InsertionNode};
@@ -46,7 +46,7 @@ pub struct Site {
 
 impl NewNode {
     pub fn is_free(self) -> bool
-        ensures { result ≡ isFree self.datum.kind }
+        ensures { result ≡ is_free self.datum.kind }
     {
         let d = self.datum;
         let kind = d.kind;
@@ -54,7 +54,7 @@ impl NewNode {
     }
 
     pub fn is_part(self) -> bool
-        ensures { result ≡ isPart self.datum.kind }
+        ensures { result ≡ is_part self.datum.kind }
     {
         let d = self.datum;
         let kind = d.kind;
@@ -63,7 +63,7 @@ impl NewNode {
 }
 
 fn no_new() -> NewNode
-    ensures { result ≡ noNew }
+    ensures { result ≡ no_new }
 {
     NewNode {
         under: 0,
@@ -74,7 +74,7 @@ fn no_new() -> NewNode
 }
 
 pub fn none() -> NewNodes
-    ensures { result ≡ record { list = replicate 5 noNew; count = 0 } }
+    ensures { result ≡ record { list = replicate 5 no_new; count = 0 } }
 {
     let zero = no_new();
     NewNodes {
@@ -92,7 +92,7 @@ fn deeper(level: u8) -> u8
 
 // The number of a part; any other piece has none.
 fn number_of(kind: Kind, number: u16) -> u16
-    ensures { result ≡ cond (isPart kind) number 0 }
+    ensures { result ≡ cond (is_part kind) number 0 }
 {
     match kind {
         Kind::Free => 0,
@@ -104,7 +104,7 @@ fn number_of(kind: Kind, number: u16) -> u16
 // The i-th node at a site, under that place and at that level.
 fn site_node(site: Site, i: usize, under: u16, eldest: bool, level: u8, n: InsertionNode) -> NewNode
     requires { (i < 5) × (site.serial + 5 ≤ 4294967295) }
-    ensures { result ≡ siteNode site i under eldest level n }
+    ensures { result ≡ site_node site i under eldest level n }
 {
     let kind = n.kind;
     let cut = n.cut;
@@ -130,7 +130,7 @@ impl NewNodes {
     // The next node of a blueprint: under the site, or under one that is made already.
     fn next(self, site: Site, n: InsertionNode) -> NewNode
         requires { (self.count < 5) × (site.serial + 5 ≤ 4294967295) }
-        ensures { result ≡ nextNode site self n }
+        ensures { result ≡ next_node site self n }
     {
         let count = self.count;
         let parent = n.parent as usize;
@@ -153,7 +153,7 @@ impl NewNodes {
 
     fn add(self, site: Site, n: InsertionNode) -> NewNodes
         requires { (self.count < 5) × (site.serial + 5 ≤ 4294967295) }
-        ensures { result ≡ spec.addNode site self n }
+        ensures { result ≡ spec.add_node site self n }
     {
         let new = self.next(site, n);
         let mut list = self.list;
@@ -169,7 +169,7 @@ impl NewNodes {
 // The nodes of a blueprint at a site.
 pub fn new_nodes(blueprint: InsertionBlueprint, site: Site) -> NewNodes
     requires { (blueprint.count ≤ 5) × (site.serial + 5 ≤ 4294967295) }
-    ensures { result ≡ addAll site (record { list = replicate 5 noNew; count = 0 }) (take blueprint.count blueprint.nodes) }
+    ensures { result ≡ add_all site (record { list = replicate 5 no_new; count = 0 }) (take blueprint.count blueprint.nodes) }
 {
     let count = blueprint.count;
     let nodes = blueprint.nodes;
@@ -186,7 +186,7 @@ pub fn new_nodes(blueprint: InsertionBlueprint, site: Site) -> NewNodes
 
 // The places that new nodes get one after the other: each is the lowest unheld one past the one before, and NONE or more where there is none.
 pub fn new_places(nodes: [Node; LIMIT]) -> [u16; 5]
-    ensures { result ≡ newPlaces nodes }
+    ensures { result ≡ new_places nodes }
 {
     let mut places = [0u16; 5];
     let mut from: u16 = 0;
@@ -203,7 +203,7 @@ pub fn new_places(nodes: [Node; LIMIT]) -> [u16; 5]
 // Those that are free come into the free list, by their areas in the column.
 pub fn put_frees(free: Listing, areas: &[u64; LIMIT], new: NewNodes) -> Listing
     requires { Kept free × (new.count ≤ 5) × (free.count + new.count ≤ limit) }
-    ensures { result ≡ listing (put_all (areaAt areas.now) (entriesOf free) (freesOf (those new))) }
+    ensures { result ≡ listing (put_all (area_at areas.now) (entries_of free) (frees_of (those new))) }
 {
     let count = new.count;
     let list = new.list;
@@ -223,7 +223,7 @@ pub fn put_frees(free: Listing, areas: &[u64; LIMIT], new: NewNodes) -> Listing
 // A new part comes to the end of the removable list, then any new node's parent if that had no child.
 pub fn enrol(removable: Listing, new: NewNodes) -> Listing
     requires { Kept removable × (new.count ≤ 5) × (removable.count + length (enrolments (those new)) ≤ limit) }
-    ensures { result ≡ listing (entriesOf removable ++ enrolments (those new)) }
+    ensures { result ≡ listing (entries_of removable ++ enrolments (those new)) }
 {
     let count = new.count;
     let list = new.list;

@@ -13,7 +13,7 @@ use Rattle.piece.specs.declared.insertion_blueprint.InsertionShape.{InsertionSha
 use Rattle.piece.specs.declared.settings.Opening.{Opening}
 use Rattle.piece.specs.declared.settings.Settings.{Settings}
 use Rattle.tree.specs.Tree.{Tree}
-use Rattle.tree.specs.Figures.{partArea, freeArea, eatenArea}
+use Rattle.tree.specs.Figures.{part_area, free_area, eaten_area}
 use Rattle.marks.specs.declared.Mark.{Mark}
 use Rattle.layout.specs.declared.layout.Layout.{Layout}
 use Rattle.layout.specs.declared.open.Opened.{Opened}
@@ -21,39 +21,39 @@ use Rattle.layout.specs.declared.insert.Inserted.{Inserted}
 use Rattle.layout.specs.declared.remove.Removed.{Removed}
 use Rattle.layout.specs.declared.tidy.Tidied.{Tidied}
 use Rattle.layout.specs.declared.restore.Restored.{Restored}
-use Rattle.layout.specs.Check.{tree, soundB}
+use Rattle.layout.specs.Check.{tree, sound_b}
 use Rattle.layout.specs.declared.open.OpenOutcome.TheVariants.{Free, Refused}
 use Rattle.layout.specs.SoundLayout.{SoundLayout, Sized}
-use Rattle.layout.specs.Open.{freshLayout}
+use Rattle.layout.specs.Open.{fresh_layout}
 use Rattle.layout.specs.Next.{Next}
 use Rattle.layout.specs.Insert.{InsertSays}
 use Rattle.layout.specs.Remove.{RemoveSays}
 use Rattle.layout.specs.Tidy.{TidySays}
-use Rattle.layout.specs.Restore.{greater, restoreOf, withSerial}
+use Rattle.layout.specs.Restore.{greater, restore_of, with_serial}
 use Rattle.layout.proofs.Exactly.{sound-says, sound-shown}
 use Rattle.layout.proofs.Opened.{fresh-sized, fresh-sound}
 use Rattle.layout.proofs.Restored.{restored-sound}
 use Rattle.questions.specs.declared.replies.AreaAnswer.TheVariants.{Area}
-use Rattle.questions.specs.Answers.{usedAreaOf, freeAreaOf, eatenAreaOf}
+use Rattle.questions.specs.Answers.{used_area_of, free_area_of, eaten_area_of}
 use Rattle.questions.proofs.FiguresSay.{areas-cover}
 use Rattle.demands.specs.Calls.{AreasCover, OpenAccepted, RestoreAccepted}
 use Rattle.demands.proofs.Outcomes.{opened-so, inserted-so, removed-so, tidied-so, PutBack, restored-so}
 
 -- on every sound layout
-pub areas-cover-sound : (l : Layout) → Sized l → soundB l ≡ true → AreasCover l l.settings.sheet
-unfolding usedAreaOf freeAreaOf eatenAreaOf
+pub areas-cover-sound : (l : Layout) → Sized l → sound_b l ≡ true → AreasCover l l.settings.sheet
+unfolding used_area_of free_area_of eaten_area_of
 areas-cover-sound l sized sound =
-    let u : usedAreaOf l ≡ Area (partArea (tree l)) = rw sound refl in
-    let f : freeAreaOf l ≡ Area (freeArea (tree l)) = rw sound refl in
-    let e : eatenAreaOf l ≡ Area (eatenArea (tree l)) = rw sound refl in
+    let u : used_area_of l ≡ Area (part_area (tree l)) = rw sound refl in
+    let f : free_area_of l ≡ Area (free_area (tree l)) = rw sound refl in
+    let e : eaten_area_of l ≡ Area (eaten_area (tree l)) = rw sound refl in
     record {
-      used = partArea (tree l);
-      free = freeArea (tree l);
-      eaten = eatenArea (tree l);
-      usedAnswer = u;
-      freeAnswer = f;
-      eatenAnswer = e;
-      cover = areas-cover l sized (sound-says l sized sound) (partArea (tree l)) (freeArea (tree l)) (eatenArea (tree l)) u f e;
+      used = part_area (tree l);
+      free = free_area (tree l);
+      eaten = eaten_area (tree l);
+      used_answer = u;
+      free_answer = f;
+      eaten_answer = e;
+      cover = areas-cover l sized (sound-says l sized sound) (part_area (tree l)) (free_area (tree l)) (eaten_area (tree l)) u f e;
       parts = refl;
       frees = refl;
       strips = refl;
@@ -68,17 +68,17 @@ next-covers l n h = sound-covers n l.settings.sheet h.sized h.sound (ap (λ (s :
 
 -- ---- after a call on a sound layout, accepted or refused: the sheet is the same
 
-pub areas-after-insert : (l : Layout) (m : Mark) (p : PartType) (r : Rotation) (s : InsertionShape) (a : Inserted) → Sized l → soundB l ≡ true
+pub areas-after-insert : (l : Layout) (m : Mark) (p : PartType) (r : Rotation) (s : InsertionShape) (a : Inserted) → Sized l → sound_b l ≡ true
     → InsertSays l m p r s a → AreasCover a.layout l.settings.sheet
 areas-after-insert l m p r s a sized sound says =
     ⊎_elim (λ e. rw e (areas-cover-sound l sized sound)) (λ z. next-covers l a.layout z.1.next) (inserted-so l m p r s a sized says)
 
-pub areas-after-remove : (l : Layout) (m : Mark) (room : ℕ) (a : Removed) → Sized l → soundB l ≡ true
+pub areas-after-remove : (l : Layout) (m : Mark) (room : ℕ) (a : Removed) → Sized l → sound_b l ≡ true
     → RemoveSays l m room a → AreasCover a.layout l.settings.sheet
 areas-after-remove l m room a sized sound says =
     ⊎_elim (λ e. rw e (areas-cover-sound l sized sound)) (λ z. next-covers l a.layout z.1.next) (removed-so l m room a sized says)
 
-pub areas-after-tidy : (l : Layout) (a : Tidied) → Sized l → soundB l ≡ true → TidySays l a → AreasCover a.layout l.settings.sheet
+pub areas-after-tidy : (l : Layout) (a : Tidied) → Sized l → sound_b l ≡ true → TidySays l a → AreasCover a.layout l.settings.sheet
 areas-after-tidy l a sized sound says =
     ⊎_elim (λ e. rw e (areas-cover-sound l sized sound))
     (λ z. sound-covers a.layout l.settings.sheet z.means.sized z.means.sound (ap (λ (s : Settings). s.sheet) z.means.settings))
@@ -87,10 +87,10 @@ areas-after-tidy l a sized sound says =
 -- ---- after `restore` of the snapshot k
 
 module _ (l k : Layout) (a : Restored) (sized : Sized l) (sized' : Sized k) where
-  put_back : a ≡ restoreOf l k → PutBack l k → AreasCover a.layout k.settings.sheet
+  put_back : a ≡ restore_of l k → PutBack l k → AreasCover a.layout k.settings.sheet
   put_back says z =
       rw (says, z.is)
-      (sound-covers (withSerial k (greater l.serial k.serial)) k.settings.sheet
+      (sound-covers (with_serial k (greater l.serial k.serial)) k.settings.sheet
       (record { nodes = sized'.nodes; free = sized'.free; removable = sized'.removable })
       (restored-sound l k (sound-says l sized z.was) (sound-says k sized' z.kept)) refl)
 
@@ -101,8 +101,8 @@ module _ (l k : Layout) (a : Restored) (sized : Sized l) (sized' : Sized k) wher
 
 -- ---- after an opening
 
-opened-sheet : (o : Opening) → (freshLayout o).settings.sheet ≡ o.settings.sheet
-unfolding freshLayout
+opened-sheet : (o : Opening) → (fresh_layout o).settings.sheet ≡ o.settings.sheet
+unfolding fresh_layout
 opened-sheet o = refl
 
 pub areas-after-open : (o : Opening) (m : Mark) (a : Opened)
@@ -110,5 +110,5 @@ pub areas-after-open : (o : Opening) (m : Mark) (a : Opened)
 areas-after-open o m a h =
     let t = opened-so o m (ap (λ (r : Opened). r.outcome) (sym h.says) ∙ h.done) in
     rw (h.says, t.1)
-    (sound-covers (freshLayout o) o.settings.sheet (fresh-sized o) (fresh-sound o t.0)
+    (sound-covers (fresh_layout o) o.settings.sheet (fresh-sized o) (fresh-sound o t.0)
     (opened-sheet o))

@@ -8,13 +8,13 @@ use Rattle.piece.specs.declared.parttype.PartType.{PartType}
 use Rattle.piece.specs.declared.node.Datum.{Datum}
 use Rattle.piece.specs.declared.insertion_blueprint.InsertionShape.{InsertionShape}
 use Rattle.piece.specs.declared.insertion_blueprint.InsertionShape.TheVariants.{AlongCurrentCut, AcrossCurrentCut, AlongThenAcross, AcrossThenAlong}
-use Rattle.piece.specs.Insertion.{newNodes}
+use Rattle.piece.specs.Insertion.{new_nodes}
 use Rattle.tree.specs.Snapshot.{Same}
 use Rattle.tree.specs.Booking.{Booking, block, book}
 use Rattle.tree.specs.Removal.{remove}
 use Rattle.tree.proofs.Laws.BookThenRemove.{book-then-remove}
 use Rattle.booking.specs.declared.new_marks.NewMarks.{NewMarks}
-use Rattle.booking.specs.Marks.{blockMarks}
+use Rattle.booking.specs.Marks.{block_marks}
 use Rattle.booking.proofs.BlockMarks.{block-first-is}
 use Rattle.marks.specs.declared.Mark.{Mark}
 use Rattle.layout.specs.declared.layout.Layout.{Layout}
@@ -22,21 +22,21 @@ use Rattle.layout.specs.declared.insert.Inserted.{Inserted}
 use Rattle.layout.specs.declared.remove.Removed.{Removed}
 use Rattle.layout.specs.Check.{tree}
 use Rattle.layout.specs.SoundLayout.{Sized}
-use Rattle.layout.specs.Insert.{bookingFor, piece_at}
-use Rattle.layout.specs.Remove.{placeFor}
-use Rattle.questions.specs.Written.{snapshotBytes}
+use Rattle.layout.specs.Insert.{booking_for, piece_at}
+use Rattle.layout.specs.Remove.{place_for}
+use Rattle.questions.specs.Written.{snapshot_bytes}
 use Rattle.demands.specs.Calls.{InsertAccepted, RemoveAccepted, SameTree}
 use Rattle.demands.proofs.Outcomes.{InsertMeans, RemoveMeans, accepted-insert, accepted-remove}
 
 -- every shape makes at least two nodes
-pub new_two : (s : InsertionShape) → 2 ≤ newNodes s
+pub new_two : (s : InsertionShape) → 2 ≤ new_nodes s
 new_two AlongCurrentCut = omega arith
 new_two AcrossCurrentCut = omega arith
 new_two AlongThenAcross = omega arith
 new_two AcrossThenAlong = omega arith
 
 -- the first mark of a block names the place of the first node
-pub first-place : (number : ℕ) (b : Booking) (d : Datum) → (blockMarks number (block b d)).first.place ≡ b.place 0
+pub first-place : (number : ℕ) (b : Booking) (d : Datum) → (block_marks number (block b d)).first.place ≡ b.place 0
 first-place number b d = ap (λ (m : Mark). m.place) (block-first-is number b d)
 
 module _ (l : Layout) (sized : Sized l) (m : Mark) (p : PartType) (r : Rotation) (s : InsertionShape) (a : Inserted) (room : ℕ) (c : Removed) where
@@ -44,14 +44,14 @@ module _ (l : Layout) (sized : Sized l) (m : Mark) (p : PartType) (r : Rotation)
   x = m.place
 
   abbrev b : Booking
-  b = bookingFor l x p r s
+  b = booking_for l x p r s
 
   same : InsertMeans l m p r s a → RemoveMeans a.layout a.marks.first room c → Same (tree c.layout) (tree l)
   same i o =
       let first : a.marks.first.place ≡ b.place 0 =
       ap (λ (n : NewMarks). n.first.place) i.done.marks ∙ first-place l.number b (piece_at l x)
       in
-      let n = placeFor a.layout a.marks.first.place in
+      let n = place_for a.layout a.marks.first.place in
       let last = a.layout.serial in
       let u : tree c.layout ≡ remove (b.place 0) n (last + 1) (book x b (tree l)) =
       o.done.next.tree ∙ ap (λ (y : ℕ). remove y n (last + 1) (tree a.layout)) first
@@ -63,7 +63,7 @@ module _ (l : Layout) (sized : Sized l) (m : Mark) (p : PartType) (r : Rotation)
       (i.fresh.unheld 0 (omega (arith, new_two s))))
 
   pub booked-then-removed : InsertAccepted l m p r s a → RemoveAccepted a.layout a.marks.first room c → SameTree c.layout l
-  unfolding snapshotBytes
+  unfolding snapshot_bytes
   booked-then-removed insert remove =
       let i = accepted-insert l m p r s a sized insert in
       (same i (accepted-remove a.layout a.marks.first room c i.done.next.sized remove)).bytes

@@ -15,11 +15,11 @@ use Rattle.marks.specs.declared.Refusal.TheVariants.{TooManyNodes}
 use Rattle.layout.specs.declared.layout.Layout.{Layout}
 use Rattle.layout.specs.declared.replies.Outcome.{Outcome}
 use Rattle.layout.specs.declared.replies.Outcome.TheVariants.{Done, Refused}
-use Rattle.layout.specs.Check.{limit, soundB}
+use Rattle.layout.specs.Check.{limit, sound_b}
 use Rattle.layout.specs.SoundLayout.{Sized}
 use Rattle.layout.specs.declared.insert.Inserted.{Inserted}
-use Rattle.layout.specs.Insert.{insertNo}
-use Rattle.layout.specs.Remove.{removeNo}
+use Rattle.layout.specs.Insert.{insert_no}
+use Rattle.layout.specs.Remove.{remove_no}
 use Rattle.layout.proofs.Refusals.{refused-insert}
 use Rattle.lines.specs.Text.{Line}
 use Rattle.frames.specs.declared.Ask.TheVariants.{Open, Offers, Insert, Remove, Report}
@@ -27,20 +27,20 @@ use Rattle.frames.specs.declared.Request.{Request}
 use Rattle.frames.specs.declared.Request.TheVariants.{OfLayout, Keep, Restore, Malformed}
 use Rattle.frames.specs.Answers.{Answer, refused}
 use Rattle.session.specs.declared.Session.{Session}
-use Rattle.session.specs.Session.{Answers, afterInsert, afterKeep, afterOffers, afterRemove, afterReport, answerBy, keptBy, marksSaid, numbersSaid, reply}
-use Rattle.session.specs.Listener.{Runs, askedIn, more}
+use Rattle.session.specs.Session.{Answers, after_insert, after_keep, after_offers, after_remove, after_report, answer_by, kept_by, marks_said, numbers_said, reply}
+use Rattle.session.specs.Listener.{Runs, asked_in, more}
 use Rattle.session.specs.Listener as runs
 use Rattle.session.specs.Replies.{refusal}
 use Rattle.demands.specs.Calls.{SameTree}
 use Rattle.demands.specs.Orders.{AllAccepted, Apart, Naming, OnlyEight, Pairwise, Reordered, Step, booking, nothing, removal, then}
-use Rattle.demands.specs.Clerks.{AllWork, Works, stepsIn, steps_of}
+use Rattle.demands.specs.Clerks.{AllWork, Works, steps_in, steps_of}
 use Rattle.demands.proofs.CounterWays.{to, says}
 use Rattle.demands.proofs.EveryOrder.{same-tree}
 use Rattle.demands.proofs.NothingButEight.{Next, is-next, ready-eight, ready-none}
 use Rattle.demands.proofs.Swaps.{insert-none, remove-none}
 
 -- a call whose answer is no refusal was done
-done-by : (op : ℕ) (b : Answer) (o : Outcome) {a : Answer} → a ≡ answerBy op b o → refusal a ≡ false → o ≡ Done
+done-by : (op : ℕ) (b : Answer) (o : Outcome) {a : Answer} → a ≡ answer_by op b o → refusal a ≡ false → o ≡ Done
 done-by op b Done e h = refl
 done-by op b (Refused r) e h = let no : true ≡ false = sym (ap refusal e) ∙ h in absurd (clash (sym no))
 
@@ -53,21 +53,21 @@ from {n = n} ss e run = subst (λ (z : Layout). AllAccepted z ss n) e run
 
 goes_on : (s : Session) (q : Request) (t : Session) (a : Answer) → Answers s q t a → Works q a → (ss : List Step) (n : Layout)
     → AllAccepted t.layout ss n → AllAccepted s.layout (steps_of q ++ ss) n
-unfolding Answers afterOffers afterInsert afterRemove afterKeep afterReport
+unfolding Answers after_offers after_insert after_remove after_keep after_report
 goes_on s (OfLayout (Open o)) t a h w ss n run = absurd w
 goes_on s (OfLayout (Offers m p)) t a h w ss n run = from ss (layout_of (to h)) run
 goes_on s (OfLayout (Insert m p r f)) t a h w ss n run =
     let i = h.0 in
-    let done = done-by 3 (marksSaid i.marks) i.outcome (says h.2) w in
+    let done = done-by 3 (marks_said i.marks) i.outcome (says h.2) w in
     then (booking m p r f) ss (i, record { says = h.1; done = done }, layout_of (to h.2)) run
 goes_on s (OfLayout (Remove m)) t a h w ss n run =
     let r = h.0 in
-    let done = done-by 4 (numbersSaid s m r) r.outcome (says h.2) w in
+    let done = done-by 4 (numbers_said s m r) r.outcome (says h.2) w in
     then (removal m limit) ss (r, record { says = h.1; done = done }, layout_of (to h.2)) run
 goes_on s (OfLayout Report) t a h w ss n run = from ss (layout_of (to h)) run
-goes_on s Keep t a h w ss n run = from ss (go (soundB s.layout) h) run
+goes_on s Keep t a h w ss n run = from ss (go (sound_b s.layout) h) run
   where
-    go : (b : Bool) → reply t a ≡ keptBy s b → t.layout ≡ s.layout
+    go : (b : Bool) → reply t a ≡ kept_by s b → t.layout ≡ s.layout
     go true e = layout_of (to e)
     go false e = layout_of (to e)
 goes_on s Restore t a h w ss n run = absurd w
@@ -75,47 +75,47 @@ goes_on s Malformed t a h w ss n run = from ss (layout_of (to h)) run
 
 -- the lines of a run are a list of steps, each accepted
 pub run-accepted : {s u : Session} {lines : List Line} {xs : List Answer} → Runs s lines xs u → AllWork lines xs
-    → AllAccepted s.layout (stepsIn lines) u.layout
+    → AllAccepted s.layout (steps_in lines) u.layout
 run-accepted runs.none w = nothing
 run-accepted {s} {u} (more {t = t} {line = line} {lines = lines} {a = a} h run) w =
-    goes_on s (askedIn line) t a h w.0 (stepsIn lines) u.layout (run-accepted run w.1)
+    goes_on s (asked_in line) t a h w.0 (steps_in lines) u.layout (run-accepted run w.1)
 
 pub clerks-agree : (s t u : Session) → Sized s.layout → (lines others : List Line) (xs ys : List Answer) → Runs s lines xs t → AllWork lines xs
-    → Runs s others ys u → AllWork others ys → Reordered (stepsIn lines) (stepsIn others) → Naming s.layout (stepsIn lines)
+    → Runs s others ys u → AllWork others ys → Reordered (steps_in lines) (steps_in others) → Naming s.layout (steps_in lines)
     → SameTree t.layout u.layout
 clerks-agree s t u sized lines others xs ys run w other v r named =
-    same-tree s.layout sized (stepsIn lines) (stepsIn others) r named t.layout u.layout (run-accepted run w) (run-accepted other v)
+    same-tree s.layout sized (steps_in lines) (steps_in others) r named t.layout u.layout (run-accepted run w) (run-accepted other v)
 
 -- ---- the answer to a step of another order
 
 -- a call that nothing refuses is done, and its answer is no refusal
 insert-said : (s t : Session) (m : Mark) (p : PartType) (r : Rotation) (f : InsertionShape) (a : Answer) → Answers s (OfLayout (Insert m p r f)) t a
-    → OnlyEight (insertNo s.layout m p r f) → (refusal a ≡ false) ⊎ (a ≡ refused 3 TooManyNodes)
-unfolding Answers afterInsert
+    → OnlyEight (insert_no s.layout m p r f) → (refusal a ≡ false) ⊎ (a ≡ refused 3 TooManyNodes)
+unfolding Answers after_insert
 insert-said s t m p r f a h (inl z) =
     let i = h.0 in
     let d = (insert-none s.layout m p r f i z h.1).done in
-    inl (ap refusal (says h.2 ∙ ap (answerBy 3 (marksSaid i.marks)) d))
+    inl (ap refusal (says h.2 ∙ ap (answer_by 3 (marks_said i.marks)) d))
 insert-said s t m p r f a h (inr z) =
     let i = h.0 in
     let d = ap (λ (x : Inserted). x.outcome) (refused-insert s.layout m p r f i TooManyNodes z h.1) in
-    inr (says h.2 ∙ ap (answerBy 3 (marksSaid i.marks)) d)
+    inr (says h.2 ∙ ap (answer_by 3 (marks_said i.marks)) d)
 
-remove-said : (s t : Session) (m : Mark) (a : Answer) → Answers s (OfLayout (Remove m)) t a → removeNo s.layout m limit ≡ none → refusal a ≡ false
-unfolding Answers afterRemove
+remove-said : (s t : Session) (m : Mark) (a : Answer) → Answers s (OfLayout (Remove m)) t a → remove_no s.layout m limit ≡ none → refusal a ≡ false
+unfolding Answers after_remove
 remove-said s t m a h z =
     let r = h.0 in
     let d = (remove-none s.layout m limit r z h.1).done in
-    ap refusal (says h.2 ∙ ap (answerBy 4 (numbersSaid s m r)) d)
+    ap refusal (says h.2 ∙ ap (answer_by 4 (numbers_said s m r)) d)
 
 -- one run of the lines is as it should be; of another order of its steps those so far were accepted, and q asks for the next
 module _ (s t v w : Session) (sized : Sized s.layout) (lines sofar : List Line) (xs ys : List Answer) (run : Runs s lines xs t) (all : AllWork lines xs)
-    (named : Naming s.layout (stepsIn lines)) (apart : Pairwise (Apart s.layout) (stepsIn lines)) (part : Runs s sofar ys v) (some : AllWork sofar ys) where
-  next-is : (x : Step) (after : List Step) → Reordered (stepsIn lines) (stepsIn sofar ++ (x ∷ after)) → Next t.layout v.layout x
-  next-is x after r = is-next sized named apart (run-accepted run all) (stepsIn sofar) x after r (run-accepted part some)
+    (named : Naming s.layout (steps_in lines)) (apart : Pairwise (Apart s.layout) (steps_in lines)) (part : Runs s sofar ys v) (some : AllWork sofar ys) where
+  next-is : (x : Step) (after : List Step) → Reordered (steps_in lines) (steps_in sofar ++ (x ∷ after)) → Next t.layout v.layout x
+  next-is x after r = is-next sized named apart (run-accepted run all) (steps_in sofar) x after r (run-accepted part some)
 
   pub clerk-answered : (q : Request) (a : Answer) → Answers v q w a → (x : Step) → steps_of q ≡ x ∷ [] → (after : List Step)
-      → Reordered (stepsIn lines) (stepsIn sofar ++ (x ∷ after)) → (refusal a ≡ false) ⊎ (a ≡ refused 3 TooManyNodes)
+      → Reordered (steps_in lines) (steps_in sofar ++ (x ∷ after)) → (refusal a ≡ false) ⊎ (a ≡ refused 3 TooManyNodes)
   clerk-answered (OfLayout (Insert m p r f)) a h x e after o =
       let is : x ≡ booking m p r f = cc in
       let z = next-is (booking m p r f) after (rw is at o) in

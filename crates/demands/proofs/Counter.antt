@@ -17,24 +17,24 @@ use Rattle.lines.specs.Text.{Line}
 use Rattle.lines.specs.Stream.{empty, feeds}
 use Rattle.layout.specs.declared.layout.Layout.{Layout}
 use Rattle.layout.specs.declared.replies.Sought.TheVariants as sought
-use Rattle.layout.specs.Check.{soundB}
-use Rattle.layout.specs.Asked.{freePieceOf, soughtOf}
-use Rattle.layout.specs.Insert.{InsertSays, insertNo, refusedInsert}
-use Rattle.layout.specs.Remove.{RemoveSays, removeNo, refusedRemove}
+use Rattle.layout.specs.Check.{sound_b}
+use Rattle.layout.specs.Asked.{free_piece_of, sought_of}
+use Rattle.layout.specs.Insert.{InsertSays, insert_no, refused_insert}
+use Rattle.layout.specs.Remove.{RemoveSays, remove_no, refused_remove}
 use Rattle.layout.proofs.Exactly.{sound-says, sound-shown}
 use Rattle.layout.proofs.Ways.{ended}
-use Rattle.questions.specs.Answers.{offersCall}
+use Rattle.questions.specs.Answers.{offers_call}
 use Rattle.frames.specs.declared.Request.{Request}
 use Rattle.frames.specs.Answers.{Answer, refused}
 use Rattle.session.specs.declared.Session.{Session}
 use Rattle.session.specs.declared.listener.Listener.{Listener}
-use Rattle.session.specs.Session.{started, Reply, Answers, afterOffers, afterInsert, afterRemove}
-use Rattle.session.specs.Listener.{askedIn, Runs, none, more, Served, startListener}
+use Rattle.session.specs.Session.{started, Reply, Answers, after_offers, after_insert, after_remove}
+use Rattle.session.specs.Listener.{asked_in, Runs, none, more, Served, start_listener}
 use Rattle.session.proofs.Decided.{answers-once}
 use Rattle.session.proofs.Laws.{served-run}
 use Rattle.demands.specs.Life.{NamesPiece}
-use Rattle.demands.specs.Counter.{marksWritten, opens, openings, OpenedOnce, AllDecline, Lives, GoesOn}
-use Rattle.demands.specs.Counter.{Carries, offersOn, insertIn, removeOf, Refuses, Lasts, names, gone, elsewhere}
+use Rattle.demands.specs.Counter.{marks_written, opens, openings, OpenedOnce, AllDecline, Lives, GoesOn}
+use Rattle.demands.specs.Counter.{Carries, offers_on, insert_in, remove_of, Refuses, Lasts, names, gone, elsewhere}
 use Rattle.demands.proofs.Lives.{states-sound}
 use Rattle.demands.proofs.Marks.{marks-last}
 use Rattle.demands.proofs.MarksGiven.{named}
@@ -64,7 +64,7 @@ pub data Ways : Session → List Answer → Session → Type 0 where
 -- a run of the counter is one
 counter-ways : {s t : Session} {lines : List Line} {xs : List Answer} → Runs s lines xs t → Ways s xs t
 counter-ways none = stays
-counter-ways (more {s} {t} {line = line} {a = a} answer run) = goes (way s (askedIn line) t a answer) (counter-ways run)
+counter-ways (more {s} {t} {line = line} {a = a} answer run) = goes (way s (asked_in line) t a answer) (counter-ways run)
 
 -- ---- a life goes on as long as no opening is accepted
 
@@ -89,9 +89,9 @@ before-any-opening {t} = go refl
     go e none h = (e, tt)
     go e (more {s} {t = w} {line = line} {a = a} {xs = zs} step run) h =
         let z = neither (opens a) (openings zs) h in
-        let no = started-declines (askedIn line) w a (rw e at step) z.0 in
+        let no = started-declines (asked_in line) w a (rw e at step) z.0 in
         ⊎_elim (λ o. none-opened o z.0) (λ y. let f = go (started-stays e y.1) run z.1 in (f.0, (no, f.1)))
-        (opens-or-not (rw e started-shaped) (way s (askedIn line) w a step))
+        (opens-or-not (rw e started-shaped) (way s (asked_in line) w a step))
 
 -- ---- the openings of a run
 
@@ -102,15 +102,15 @@ moved-number l n (inr z) = z.number
 -- no opening was accepted, and the layout has its number and stays sound; or it is sound, and has a number that was opened
 Last : Session → List ℕ → Session → Type 0
 Last s ns t =
-    ((ns ≡ []) × (t.layout.number ≡ s.layout.number) × (soundB s.layout ≡ true → soundB t.layout ≡ true))
-    ⊎ (Memᴰ t.layout.number ns × (soundB t.layout ≡ true))
+    ((ns ≡ []) × (t.layout.number ≡ s.layout.number) × (sound_b s.layout ≡ true → sound_b t.layout ≡ true))
+    ⊎ (Memᴰ t.layout.number ns × (sound_b t.layout ≡ true))
 
 last-opened : {s t : Session} {xs : List Answer} → Shaped s → Ways s xs t → Last s (openings xs) t
 unfolding Last
 last-opened h stays = inl (refl, refl, λ x. x)
 last-opened {t = t} h (goes {s} {t = w} {a = a} {xs = xs} v run) = go (sound-after h v) (last-opened (shaped-after h v) run) (opens-or-not h v)
   where
-    go : (soundB s.layout ≡ true → soundB w.layout ≡ true) → Last w (openings xs) t → Opens s w a ⊎ ((opens a ≡ []) × Stepped s w)
+    go : (sound_b s.layout ≡ true → sound_b w.layout ≡ true) → Last w (openings xs) t → Opens s w a ⊎ ((opens a ≡ []) × Stepped s w)
         → Last s (opens a ++ openings xs) t
     go f (inr y) o = inr (mathlib.Core.List.Memᴰ.append_right (opens a) y.0, y.1)
     go f (inl y) (inl o) =
@@ -144,10 +144,10 @@ unfolding Once
 once_after n {s} {t} {a} ns g w (inr y) =
     inr (opened_after n g w (λ o. y.1 (mathlib.Core.List.Memᴰ.append_left ns o)) y.0, λ h. y.1 (mathlib.Core.List.Memᴰ.append_right (opens a) h))
 once_after n {s} {t} {a} ns g w (inl y) =
-    ⊎_elim startListener (λ z. inl (unopened-after n g w (λ o. mathlib.Core.List.Memᴰ.not-nil (rw z.0 at o)) y.0, rw z.0 at y.1)) (opens-or-not g w)
+    ⊎_elim start_listener (λ z. inl (unopened-after n g w (λ o. mathlib.Core.List.Memᴰ.not-nil (rw z.0 at o)) y.0, rw z.0 at y.1)) (opens-or-not g w)
   where
-    startListener : Opens s t a → Once n t ns
-    startListener o = go (eqb o.mark.layout n) refl (rw (ap opens o.answer) at y.1)
+    start_listener : Opens s t a → Once n t ns
+    start_listener o = go (eqb o.mark.layout n) refl (rw (ap opens o.answer) at y.1)
       where
         go : (b : Bool) → eqb o.mark.layout n ≡ b → OpenedOnce n (o.mark.layout ∷ ns) → Once n t ns
         go true e z =
@@ -169,12 +169,12 @@ shaped-run g (goes w run) = shaped-run (shaped-after g w) run
 -- ---- refusals
 
 -- a mark that isn't found is refused by each request that carries it
-module _ (s : Session) (k : Mark) (e : Refusal) (sound : soundB s.layout ≡ true) (no : soughtOf s.layout k ≡ sought.Refused e) where
+module _ (s : Session) (k : Mark) (e : Refusal) (sound : sound_b s.layout ≡ true) (no : sought_of s.layout k ≡ sought.Refused e) where
   refused-so : (op : ℕ) (q : Request) → Carries k op q → Answers s q s (refused op e)
-  unfolding Answers afterOffers afterInsert afterRemove offersCall InsertSays insertNo freePieceOf RemoveSays removeNo
-  refused-so op q (offersOn p part) = rw (sound, part, no) refl
-  refused-so op q (insertIn p r f part) = (refusedInsert s.layout e, rw (sound, part, no) refl, refl)
-  refused-so op q removeOf = (refusedRemove s.layout e, rw (sound, no) refl, refl)
+  unfolding Answers after_offers after_insert after_remove offers_call InsertSays insert_no free_piece_of RemoveSays remove_no
+  refused-so op q (offers_on p part) = rw (sound, part, no) refl
+  refused-so op q (insert_in p r f part) = (refused_insert s.layout e, rw (sound, part, no) refl, refl)
+  refused-so op q remove_of = (refused_remove s.layout e, rw (sound, no) refl, refl)
 
   is-refused : Refuses e s k
   is-refused =
@@ -186,8 +186,8 @@ module _ (s : Session) (k : Mark) (e : Refusal) (sound : soundB s.layout ≡ tru
       }
 
 -- a mark of another layout
-pub other-refused : (s : Session) (k : Mark) → soundB s.layout ≡ true → (k.layout ≡ s.layout.number → ⊥) → Refuses OtherLayout s k
-unfolding soughtOf
+pub other-refused : (s : Session) (k : Mark) → sound_b s.layout ≡ true → (k.layout ≡ s.layout.number → ⊥) → Refuses OtherLayout s k
+unfolding sought_of
 other-refused s k sound other =
     is-refused s k OtherLayout sound (sym (ended _ (ne_eqb k.layout s.layout.number other) refl))
 
@@ -199,7 +199,7 @@ unfolding Once
 from_start n ns run once = once-run n ns started-shaped run (inl (started-unopened n, once))
 
 -- a layout that is sound, and whose number was opened once, lives
-standing : (n : ℕ) {s : Session} {ns : List ℕ} → Once n s ns → s.layout.number ≡ n → soundB s.layout ≡ true
+standing : (n : ℕ) {s : Session} {ns : List ℕ} → Once n s ns → s.layout.number ≡ n → sound_b s.layout ≡ true
     → ((ls : List Layout) × Lives s ls) × (Memᴰ n ns → ⊥)
 unfolding Once
 standing n (inl y) e sound = ⊎_elim (λ z. absurd (clash (sym z ∙ sound))) (λ other. absurd (other e)) y.0.layout
@@ -237,18 +237,18 @@ module _ {u v : Session} {ls : List Layout} {ys : List Answer} (h : Lives u ls) 
           (marks-last g.lives.life u.layout v.layout (inl (refl, g.holds u.layout (inl refl))) k named)
 
       -- another layout stands
-      another : Memᴰ v.layout.number (openings ys) × (soundB v.layout ≡ true) → Lasts u ys v k
+      another : Memᴰ v.layout.number (openings ys) × (sound_b v.layout ≡ true) → Lasts u ys v k
       another z =
           elsewhere (λ e. mathlib.Core.List.Memᴰ.not-nil (rw e at z.0)) (other-refused v k z.1 (λ e. never (rw e z.0)))
 
 -- EVERY MARK that an answer has written, in any run of ways from the start, lasts, if its number was opened once
 pub a-written-mark-lasts : {t u v : Session} {xs ys : List Answer} → Ways started xs t → (a : Answer) → Way t u a → Ways u ys v
-    → (k : Mark) → Memᴰ k (marksWritten a) → OpenedOnce k.layout (openings xs ++ (opens a ++ openings ys)) → Lasts u ys v k
+    → (k : Mark) → Memᴰ k (marks_written a) → OpenedOnce k.layout (openings xs ++ (opens a ++ openings ys)) → Lasts u ys v k
 a-written-mark-lasts {t} {u} {v} {xs} {ys} first a w run k h once =
     let g = shaped-run started-shaped first in
     let shaped = shaped-after g w in
     let y = writes g.layout w k h in
-    let sound : soundB u.layout ≡ true = ⊎_elim opened-checked (sound-after g w) y.sound in
+    let sound : sound_b u.layout ≡ true = ⊎_elim opened-checked (sound-after g w) y.sound in
     let n = named shaped.layout (sound-says u.layout shaped.layout sound) y.given in
     let before = from_start k.layout (opens a ++ openings ys) first once in
     let l = standing k.layout (once_after k.layout (openings ys) g w before) (sym n.number) sound in
@@ -256,7 +256,7 @@ a-written-mark-lasts {t} {u} {v} {xs} {ys} first a w run k h once =
 
 -- and so does one that names a piece of a state of the run, whoever has written it
 pub a-named-mark-lasts : {t v : Session} {xs ys : List Answer} → Ways started xs t → Ways t ys v
-    → (k : Mark) → soundB t.layout ≡ true → NamesPiece t.layout k → OpenedOnce k.layout (openings xs ++ openings ys) → Lasts t ys v k
+    → (k : Mark) → sound_b t.layout ≡ true → NamesPiece t.layout k → OpenedOnce k.layout (openings xs ++ openings ys) → Lasts t ys v k
 a-named-mark-lasts {xs = xs} {ys = ys} first run k sound n once =
     let before = from_start k.layout (openings ys) first once in
     let l = standing k.layout before (sym n.number) sound in
@@ -265,7 +265,7 @@ a-named-mark-lasts {xs = xs} {ys = ys} first run k sound n once =
 -- so at the counter
 pub marks-last-at-the-counter : {t u v : Session} {before after : List Line} {xs ys : List Answer} → Runs started before xs t
     → (q : Request) (a : Answer) → Answers t q u a → Runs u after ys v
-    → (k : Mark) → Memᴰ k (marksWritten a) → OpenedOnce k.layout (openings (xs ++ (a ∷ ys))) → Lasts u ys v k
+    → (k : Mark) → Memᴰ k (marks_written a) → OpenedOnce k.layout (openings (xs ++ (a ∷ ys))) → Lasts u ys v k
 marks-last-at-the-counter {t} {u} {xs = xs} {ys = ys} first q a answer run k h once =
     a-written-mark-lasts (counter-ways first) a (way t q u a answer) (counter-ways run) k h (rw (openings-append xs (a ∷ ys)) at once)
 
@@ -280,7 +280,7 @@ pub record Through (s : Session) (lines : List Line) (xs : List Answer) (a : Ans
   pub from : Session
   pub to : Session
   pub first : Runs s before xs from
-  pub answer : Answers from (askedIn line) to a
+  pub answer : Answers from (asked_in line) to a
   pub rest : Runs to after ys v
 
 through : {s v : Session} {lines : List Line} (xs : List Answer) (a : Answer) (ys : List Answer) → Runs s lines (xs ++ (a ∷ ys)) v
@@ -302,9 +302,9 @@ through (x ∷ xs) a ys (more {line = line} step run) =
     }
 
 -- The listener, however its input was cut: the marks of each of its answers last.
-pub marks-last-in-chunks : {d : Listener} {cs : List (List ℕ)} (xs : List Answer) (a : Answer) (ys : List Answer) → Served startListener cs (xs ++ (a ∷ ys)) d
+pub marks-last-in-chunks : {d : Listener} {cs : List (List ℕ)} (xs : List Answer) (a : Answer) (ys : List Answer) → Served start_listener cs (xs ++ (a ∷ ys)) d
     → (z : Through started (feeds empty cs).lines xs a ys d.session)
-    × ((k : Mark) → Memᴰ k (marksWritten a) → OpenedOnce k.layout (openings (xs ++ (a ∷ ys))) → Lasts z.to ys d.session k)
+    × ((k : Mark) → Memᴰ k (marks_written a) → OpenedOnce k.layout (openings (xs ++ (a ∷ ys))) → Lasts z.to ys d.session k)
 marks-last-in-chunks xs a ys served =
     let z = through xs a ys (served-run served).runs in
-    (z, marks-last-at-the-counter z.first (askedIn z.line) a z.answer z.rest)
+    (z, marks-last-at-the-counter z.first (asked_in z.line) a z.answer z.rest)

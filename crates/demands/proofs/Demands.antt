@@ -19,10 +19,10 @@ use Rattle.piece.specs.declared.insertion_blueprint.InsertionShape.{InsertionSha
 use Rattle.piece.specs.declared.settings.Opening.{Opening}
 use Rattle.tree.specs.Tree.{At, Inside}
 use Rattle.tree.specs.Family.{parent_of}
-use Rattle.tree.specs.Figures.{partArea}
+use Rattle.tree.specs.Figures.{part_area}
 use Rattle.tree.specs.Tidy.{Tidy, empties}
-use Rattle.marks.specs.Marks.{zeroMark}
-use Rattle.booking.specs.Marks.{zeroMarks}
+use Rattle.marks.specs.Marks.{zero_mark}
+use Rattle.booking.specs.Marks.{zero_marks}
 use Rattle.marks.specs.declared.Mark.{Mark}
 use Rattle.marks.specs.declared.Refusal.{Refusal}
 use Rattle.marks.specs.declared.Refusal.TheVariants.{Gone, SerialsSpent, TooManyNodes}
@@ -33,21 +33,21 @@ use Rattle.layout.specs.declared.open.OpenOutcome.TheVariants as opening
 use Rattle.layout.specs.declared.insert.Inserted.{Inserted}
 use Rattle.layout.specs.declared.remove.Removed.{Removed}
 use Rattle.layout.specs.declared.tidy.Tidied.{Tidied}
-use Rattle.layout.specs.Check.{limit, tree, soundB}
+use Rattle.layout.specs.Check.{limit, tree, sound_b}
 use Rattle.layout.specs.SoundLayout.{Sized, SoundLayout}
-use Rattle.layout.specs.Zero.{zeroLayout}
-use Rattle.layout.specs.Open.{openOf}
-use Rattle.layout.specs.Asked.{partB, soughtOf}
-use Rattle.layout.specs.Insert.{InsertSays, insertNo, piece_at}
-use Rattle.layout.specs.Remove.{RemoveSays, numbersLeft, numbersOut, removeNo}
-use Rattle.layout.specs.Tidy.{Tidies, TidySays, tidyNo}
-use Rattle.layout.specs.Restore.{restoreOf}
+use Rattle.layout.specs.Zero.{zero_layout}
+use Rattle.layout.specs.Open.{open_of}
+use Rattle.layout.specs.Asked.{part_b, sought_of}
+use Rattle.layout.specs.Insert.{InsertSays, insert_no, piece_at}
+use Rattle.layout.specs.Remove.{RemoveSays, numbers_left, numbers_out, remove_no}
+use Rattle.layout.specs.Tidy.{Tidies, TidySays, tidy_no}
+use Rattle.layout.specs.Restore.{restore_of}
 use Rattle.layout.proofs.Refusals as refusals
 use Rattle.questions.specs.declared.replies.CountAnswer.TheVariants as counts
-use Rattle.questions.specs.Answers.{offersCall}
-use Rattle.questions.specs.Written.{answerTo, leftInBuffer}
+use Rattle.questions.specs.Answers.{offers_call}
+use Rattle.questions.specs.Written.{answer_to, left_in_buffer}
 use Rattle.questions.proofs.Refusals as looking
-use Rattle.questions.specs.WhyNot.{whyCall}
+use Rattle.questions.specs.WhyNot.{why_call}
 use Rattle.lines.specs.Text.{Line}
 use Rattle.frames.specs.declared.Request.{Request}
 use Rattle.frames.specs.declared.Ask.TheVariants.{Open}
@@ -59,13 +59,13 @@ use Rattle.session.specs.Listener.{Runs}
 use Rattle.session.specs.Replies.{refusal}
 use Rattle.desk_frames.specs.declared.DeskRequest.{DeskRequest}
 use Rattle.desk_frames.specs.Desk.{DeskAnswer, DeskAnswers}
-use Rattle.desk_frames.specs.Listener.{DeskRuns, counterAnswers}
-use Rattle.demands.specs.Life.{Given, Later, Life, NamesPiece, OneOf, SamePiece, openedOn, stock}
+use Rattle.desk_frames.specs.Listener.{DeskRuns, counter_answers}
+use Rattle.demands.specs.Life.{Given, Later, Life, NamesPiece, OneOf, SamePiece, opened_on, stock}
 use Rattle.demands.specs.Calls.{AreasCover, InsertAccepted, RemoveAccepted, SameTree, TakenOut, TidyAccepted}
-use Rattle.demands.specs.Orders.{AllAccepted, Apart, Each, Naming, OnlyEight, OnlyEightOrNine, Pairwise, RemovalsFirst, Reordered, Step, place_of, refusalOf}
-use Rattle.demands.specs.Clerks.{AllWork, stepsIn, steps_of}
+use Rattle.demands.specs.Orders.{AllAccepted, Apart, Each, Naming, OnlyEight, OnlyEightOrNine, Pairwise, RemovalsFirst, Reordered, Step, place_of, refusal_of}
+use Rattle.demands.specs.Clerks.{AllWork, steps_in, steps_of}
 use Rattle.demands.specs.Examined.{Examined}
-use Rattle.demands.specs.Counter.{Lasts, Lives, OpenedOnce, marksWritten, openings}
+use Rattle.demands.specs.Counter.{Lasts, Lives, OpenedOnce, marks_written, openings}
 use Rattle.demands.specs.Desk.{WritesMark}
 use Rattle.demands.proofs.Desk as desk
 use Rattle.demands.proofs.Lives as lives
@@ -89,15 +89,15 @@ use Rattle.demands.proofs.Examined as examined
 
 -- k is the state in which the mark was answered, l that state or a later one
 pub a-mark-names-its-piece-or-is-gone : {ls : List Layout} → Life ls → (k l : Layout) → Later k l ls → (m : Mark) → Given k m
-    → (soughtOf l m ≡ sought.Refused Gone) ⊎ (NamesPiece l m × SamePiece k l m)
+    → (sought_of l m ≡ sought.Refused Gone) ⊎ (NamesPiece l m × SamePiece k l m)
 a-mark-names-its-piece-or-is-gone life k l later m g = marks.marks-last life k l later m (given.given-names life k l later m g)
 
 -- "refused as gone": refusal 5, by each call that takes a mark, unless the part asked for is refused first (3)
-pub gone-is-refused : {ls : List Layout} → Life ls → (l : Layout) → OneOf l ls → (m : Mark) → soughtOf l m ≡ sought.Refused Gone
-    → ((p : PartType) → partB p ≡ true → (offersCall l m p).outcome ≡ Refused Gone)
-    × ((p : PartType) → partB p ≡ true → (whyCall l m p).outcome ≡ Refused Gone)
-    × ((p : PartType) (r : Rotation) (s : InsertionShape) → partB p ≡ true → insertNo l m p r s ≡ some Gone)
-    × ((room : ℕ) → removeNo l m room ≡ some Gone)
+pub gone-is-refused : {ls : List Layout} → Life ls → (l : Layout) → OneOf l ls → (m : Mark) → sought_of l m ≡ sought.Refused Gone
+    → ((p : PartType) → part_b p ≡ true → (offers_call l m p).outcome ≡ Refused Gone)
+    × ((p : PartType) → part_b p ≡ true → (why_call l m p).outcome ≡ Refused Gone)
+    × ((p : PartType) (r : Rotation) (s : InsertionShape) → part_b p ≡ true → insert_no l m p r s ≡ some Gone)
+    × ((room : ℕ) → remove_no l m room ≡ some Gone)
 gone-is-refused life l o m g =
     (marks.gone-offers life l o m g, marks.gone-why-not life l o m g, marks.gone-insert life l o m g, marks.gone-remove life l o m g)
 
@@ -123,18 +123,18 @@ a-run-is-a-life = counter.a-run-is-a-life
 -- k is a mark that the answer a has written, v any later state: k names its piece, or is refused with 5, or, once another layout was opened, with 4
 pub a-mark-at-the-counter : {t u v : Session} {before after : List Line} {xs ys : List Answer} → Runs started before xs t
     → (q : Request) (a : Answer) → Answers t q u a → Runs u after ys v
-    → (k : Mark) → Memᴰ k (marksWritten a) → OpenedOnce k.layout (openings (xs ++ (a ∷ ys))) → Lasts u ys v k
+    → (k : Mark) → Memᴰ k (marks_written a) → OpenedOnce k.layout (openings (xs ++ (a ∷ ys))) → Lasts u ys v k
 a-mark-at-the-counter = counter.marks-last-at-the-counter
 
 -- the same of a run at the desk, in which lines may tidy
 pub a-desk-run-is-a-life : {t : Session} {lines : List Line} {xs : List DeskAnswer} → DeskRuns started lines xs t
-    → OpenedOnce t.layout.number (openings (counterAnswers xs)) → (openings (counterAnswers xs) ≡ []) ⊎ ((earlier : List Layout) × Lives t earlier)
+    → OpenedOnce t.layout.number (openings (counter_answers xs)) → (openings (counter_answers xs) ≡ []) ⊎ ((earlier : List Layout) × Lives t earlier)
 a-desk-run-is-a-life = desk.a-desk-run-is-a-life
 
 -- and of a mark there: the desk's questions write marks too, the light's and those of the two lists
 pub a-mark-at-the-desk : {t u v : Session} {before after : List Line} {xs ys : List DeskAnswer} → DeskRuns started before xs t
     → (q : DeskRequest) (a : DeskAnswer) → DeskAnswers t q u a → DeskRuns u after ys v
-    → (k : Mark) → WritesMark k t q a → OpenedOnce k.layout (openings (counterAnswers (xs ++ (a ∷ ys)))) → Lasts u (counterAnswers ys) v k
+    → (k : Mark) → WritesMark k t q a → OpenedOnce k.layout (openings (counter_answers (xs ++ (a ∷ ys)))) → Lasts u (counter_answers ys) v k
 a-mark-at-the-desk = desk.marks-last-at-the-desk
 
 -- a second opening of the number answers the same mark, and it names a piece of the new sheet: so the law is of a number that was opened once
@@ -147,32 +147,32 @@ a-second-opening = reopened.the_same_number
 -- proof asks nothing of the caller.)
 
 pub a-refused-insert : (l : Layout) (m : Mark) (p : PartType) (r : Rotation) (s : InsertionShape) (a : Inserted) (e : Refusal)
-    → insertNo l m p r s ≡ some e → InsertSays l m p r s a → (a.layout ≡ l) × (a.outcome ≡ Refused e) × (a.marks ≡ zeroMarks)
+    → insert_no l m p r s ≡ some e → InsertSays l m p r s a → (a.layout ≡ l) × (a.outcome ≡ Refused e) × (a.marks ≡ zero_marks)
 a-refused-insert l m p r s a e h says = rw (refusals.refused-insert l m p r s a e h says) (refl, refl, refl)
 
-pub a-refused-remove : (l : Layout) (m : Mark) (room : ℕ) (a : Removed) (e : Refusal) → removeNo l m room ≡ some e → RemoveSays l m room a
-    → (a.layout ≡ l) × (a.outcome ≡ Refused e) × (a.free ≡ zeroMark) × (a.count ≡ 0)
+pub a-refused-remove : (l : Layout) (m : Mark) (room : ℕ) (a : Removed) (e : Refusal) → remove_no l m room ≡ some e → RemoveSays l m room a
+    → (a.layout ≡ l) × (a.outcome ≡ Refused e) × (a.free ≡ zero_mark) × (a.count ≡ 0)
 a-refused-remove l m room a e h says = rw (refusals.refused-remove l m room a e h says) (refl, refl, refl, refl)
 
-pub its-buffer : (l : Layout) (m : Mark) (out : List ℕ) (e : Refusal) → removeNo l m (length out) ≡ some e → numbersLeft l m out ≡ out
+pub its-buffer : (l : Layout) (m : Mark) (out : List ℕ) (e : Refusal) → remove_no l m (length out) ≡ some e → numbers_left l m out ≡ out
 its-buffer = refusals.refused-numbers
 
-pub a-refused-tidy : (l : Layout) (a : Tidied) (e : Refusal) → tidyNo l ≡ some e → TidySays l a → (a.layout ≡ l) × (a.outcome ≡ Refused e) × (a.count ≡ 0)
+pub a-refused-tidy : (l : Layout) (a : Tidied) (e : Refusal) → tidy_no l ≡ some e → TidySays l a → (a.layout ≡ l) × (a.outcome ≡ Refused e) × (a.count ≡ 0)
 a-refused-tidy l a e h says = rw (refusals.refused-tidy l a e h says) (refl, refl, refl)
 
-pub a-refused-restore : (l s : Layout) (e : Refusal) → (restoreOf l s).outcome ≡ Refused e → (restoreOf l s).layout ≡ l
+pub a-refused-restore : (l s : Layout) (e : Refusal) → (restore_of l s).outcome ≡ Refused e → (restore_of l s).layout ≡ l
 a-refused-restore = refusals.refused-restore
 
 pub a-refused-opening : (o : Opening) (e : Refusal)
-    → (openOf o).outcome ≡ opening.Refused e → (openOf o).layout ≡ zeroLayout
+    → (open_of o).outcome ≡ opening.Refused e → (open_of o).layout ≡ zero_layout
 a-refused-opening = refusals.refused-open
 
--- the calls that write into a lent buffer and hand no layout back, by what each writes: `snapshotBytes l`, `heldNumbers l`, `sawBytes l` and `amountBytes l`
-pub a-refused-writing : (l : Layout) (what out : List ℕ) (e : Refusal) → answerTo l what (length out) ≡ counts.Refused e → leftInBuffer l what out ≡ out
+-- the calls that write into a lent buffer and hand no layout back, by what each writes: `snapshot_bytes l`, `held_numbers l`, `saw_bytes l` and `amount_bytes l`
+pub a-refused-writing : (l : Layout) (what out : List ℕ) (e : Refusal) → answer_to l what (length out) ≡ counts.Refused e → left_in_buffer l what out ≡ out
 a-refused-writing = looking.refused-writing
 
 -- "examines the layout it is handed first": specs/Examined.antt lists what every public call answers to a layout that isn't sound, refusal 1
-pub examined-first : (l : Layout) → soundB l ≡ false → Examined l
+pub examined-first : (l : Layout) → sound_b l ≡ false → Examined l
 examined-first = examined.examined-first
 
 -- ---- Demand 3: "On every sound layout, booking and then removing the first piece made gives the same tree; two bookings in different free pieces, and two
@@ -199,11 +199,11 @@ pub removals-commute : (l : Layout) → Sized l → (m m' : Mark) → NamesPiece
 removals-commute = swaps.removes-commute
 
 -- "Part area plus free area is the sheet, throughout", and with a blade "part area, free area and eaten area make the sheet". On every sound layout:
-pub areas-add-up : (l : Layout) → Sized l → soundB l ≡ true → AreasCover l l.settings.sheet
+pub areas-add-up : (l : Layout) → Sized l → sound_b l ≡ true → AreasCover l l.settings.sheet
 areas-add-up = areas.areas-cover-sound
 
 -- and in every state of a life, where the number and the settings, the sheet among them, are those that the opening was asked for
-pub areas-throughout : {ls : List Layout} (life : Life ls) (l : Layout) → OneOf l ls → (stock l ≡ openedOn life) × AreasCover l (openedOn life).settings.sheet
+pub areas-throughout : {ls : List Layout} (life : Life ls) (l : Layout) → OneOf l ls → (stock l ≡ opened_on life) × AreasCover l (opened_on life).settings.sheet
 areas-throughout = throughout.throughout
 
 -- ---- Document 02, No. 10, the stronger swap law: "Extend demand 3: a booking and a removal also give the same tree in either order where the free piece is
@@ -241,36 +241,36 @@ two-accepted-orders-agree = orders.same-tree
 -- accepted, is refused with nothing but 8.
 pub in-another-order-eight-alone : (l : Layout) → Sized l → (ss : List Step) → Naming l ss → Pairwise (Apart l) ss → (n : Layout) → AllAccepted l ss n
     → (before : List Step) (s : Step) (after : List Step) → Reordered ss (before ++ (s ∷ after)) → (k : Layout) → AllAccepted l before k
-    → OnlyEight (refusalOf k s)
+    → OnlyEight (refusal_of k s)
 in-another-order-eight-alone l sized ss named apart n run before s after r k part = eight.only-eight sized named apart run before s after r part
 
 -- and with the removals first it isn't refused at all: that order is accepted, step by step, whenever some order is (that each call has an answer: SomeAnswer)
 pub removals-first-is-accepted : (l : Layout) → Sized l → (ss : List Step) → Naming l ss → Pairwise (Apart l) ss → (n : Layout) → AllAccepted l ss n
     → (before : List Step) (s : Step) (after : List Step) → Reordered ss (before ++ (s ∷ after)) → RemovalsFirst (before ++ (s ∷ after))
-    → (k : Layout) → AllAccepted l before k → refusalOf k s ≡ none
+    → (k : Layout) → AllAccepted l before k → refusal_of k s ≡ none
 removals-first-is-accepted l sized ss named apart n run before s after r order k part =
     front.removals-first sized named apart run before after s r part order
 
 -- Whether or not some order is accepted: a step that l itself refuses with nothing but 8 or 9 is refused with nothing but 8 or 9 after any accepted steps that
 -- are apart from it; and, if it is a removal, it brings the same part numbers out.
 pub apart-refused-with-eight-or-nine : (l : Layout) → Sized l → (ss : List Step) → Naming l ss → (s : Step) → Each (Apart l s) ss → (k : Layout)
-    → AllAccepted l ss k → OnlyEightOrNine (refusalOf l s)
-    → OnlyEightOrNine (refusalOf k s) × (numbersOut k (place_of s) ≡ numbersOut l (place_of s))
+    → AllAccepted l ss k → OnlyEightOrNine (refusal_of l s)
+    → OnlyEightOrNine (refusal_of k s) × (numbers_out k (place_of s) ≡ numbers_out l (place_of s))
 apart-refused-with-eight-or-nine l sized ss named s apart k run = eight.only-eight-or-nine sized named s apart run
 
 -- The same at the counter, where the clerks send lines; the words are in specs/Clerks.antt. From the state s two runs of lines open nothing and put nothing back,
 -- and no booking or removal in them is refused; they may ask for offers and reports, and keep. If the one has the steps of the other in another order, each
 -- naming a piece of the layout that stood at the start, the sheets are the same tree.
 pub two-clerks-at-the-counter : (s t u : Session) → Sized s.layout → (lines others : List Line) (xs ys : List Answer) → Runs s lines xs t
-    → AllWork lines xs → Runs s others ys u → AllWork others ys → Reordered (stepsIn lines) (stepsIn others) → Naming s.layout (stepsIn lines)
+    → AllWork lines xs → Runs s others ys u → AllWork others ys → Reordered (steps_in lines) (steps_in others) → Naming s.layout (steps_in lines)
     → SameTree t.layout u.layout
 two-clerks-at-the-counter = clerks.clerks-agree
 
 -- And if they are pairwise apart: after lines that have some of the steps, in whatever order, the next one of them is accepted, or it is a booking and refused with 8.
 pub a-clerk-is-answered : (s t v w : Session) → Sized s.layout → (lines sofar : List Line) (xs ys : List Answer) → Runs s lines xs t → AllWork lines xs
-    → Naming s.layout (stepsIn lines) → Pairwise (Apart s.layout) (stepsIn lines) → Runs s sofar ys v → AllWork sofar ys
+    → Naming s.layout (steps_in lines) → Pairwise (Apart s.layout) (steps_in lines) → Runs s sofar ys v → AllWork sofar ys
     → (q : Request) (a : Answer) → Answers v q w a → (x : Step) → steps_of q ≡ x ∷ [] → (after : List Step)
-    → Reordered (stepsIn lines) (stepsIn sofar ++ (x ∷ after)) → (refusal a ≡ false) ⊎ (a ≡ refused 3 TooManyNodes)
+    → Reordered (steps_in lines) (steps_in sofar ++ (x ∷ after)) → (refusal a ≡ false) ⊎ (a ≡ refused 3 TooManyNodes)
 a-clerk-is-answered = clerks.clerk-answered
 
 -- ---- Document 02, No. 5, tidying: "While some structure other than the top has one child and that is free, it is taken out by the old removal, lowest place
@@ -280,7 +280,7 @@ a-clerk-is-answered = clerks.clerk-answered
 -- It comes to an end, and then the layout is sound and nothing is left to take out. As many went as there were structures, but the top, with no part inside;
 -- and the parts have the area that they had.
 pub tidying-ends-tidy : (l : Layout) → Sized l → (a : Tidied) → TidyAccepted l a
-    → SoundLayout a.layout × Tidy (tree a.layout) × (a.count ≡ empties (tree l)) × (partArea (tree a.layout) ≡ partArea (tree l))
+    → SoundLayout a.layout × Tidy (tree a.layout) × (a.count ≡ empties (tree l)) × (part_area (tree a.layout) ≡ part_area (tree l))
 tidying-ends-tidy = tidying.ends-tidy
 
 -- each part stays as it is, where it is, and keeps its mark
@@ -305,5 +305,5 @@ booking-removing-tidying = tidying.returned
 
 -- "Refusals: 1, then 9 if the whole tidying wouldn't find serials": a sound layout is refused with 9 exactly where no removals, one after the other and each
 -- with its serial, come to the end. "and then nothing is changed": `a-refused-tidy`.
-pub nine-if-serials-run-out : (l : Layout) → Sized l → soundB l ≡ true → (tidyNo l ≡ some SerialsSpent) ↔ ((k : ℕ) (n : Layout) → Tidies l k n → ⊥)
+pub nine-if-serials-run-out : (l : Layout) → Sized l → sound_b l ≡ true → (tidy_no l ≡ some SerialsSpent) ↔ ((k : ℕ) (n : Layout) → Tidies l k n → ⊥)
 nine-if-serials-run-out = tidying.nine-exactly

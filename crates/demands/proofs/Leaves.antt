@@ -22,7 +22,7 @@ use Rattle.tree.proofs.Family.{fresh-removal}
 use Rattle.tree.proofs.Parents.{SameParent, book-parent, remove-parent}
 use Rattle.marks.specs.declared.Mark.{Mark}
 use Rattle.booking.proofs.Issued.{newer}
-use Rattle.removal.specs.Remove.{newFree}
+use Rattle.removal.specs.Remove.{new_free}
 use Rattle.removal.proofs.Pieces.{remove-pieces}
 use Rattle.removal.proofs.Serials.{new-serial}
 use Rattle.layout.specs.declared.layout.Layout.{Layout}
@@ -30,8 +30,8 @@ use Rattle.layout.specs.declared.insert.Inserted.{Inserted}
 use Rattle.layout.specs.declared.remove.Removed.{Removed}
 use Rattle.layout.specs.Check.{limit, tree}
 use Rattle.layout.specs.SoundLayout.{SoundLayout}
-use Rattle.layout.specs.Insert.{bookingFor, piece_at, InsertDone}
-use Rattle.layout.specs.Remove.{placeFor, RemoveDone}
+use Rattle.layout.specs.Insert.{booking_for, piece_at, InsertDone}
+use Rattle.layout.specs.Remove.{place_for, RemoveDone}
 use Rattle.layout.proofs.Listed.{piece_is}
 use Rattle.layout.specs.Inner.{Insertable, Takeable}
 use Rattle.demands.specs.Life.{NamesPiece}
@@ -74,9 +74,9 @@ module _ {l n : Layout} {w : Tree} (c : Leaves l n w) where
 
 -- a booking in the free piece at x
 module _ (l : Layout) (x : ℕ) (p : PartType) (r : Rotation) (s : InsertionShape) (can : Insertable l x p r s) (a : Inserted)
-    (done : InsertDone l x (bookingFor l x p r s) a) where
+    (done : InsertDone l x (booking_for l x p r s) a) where
   abbrev b : Booking
-  b = bookingFor l x p r s
+  b = booking_for l x p r s
 
   abbrev d : Datum
   d = piece_at l x
@@ -106,13 +106,13 @@ module _ (l : Layout) (x : ℕ) (p : PartType) (r : Rotation) (s : InsertionShap
 -- a removal of the piece at x
 module _ (l : Layout) (x : ℕ) (can : Takeable l x) (a : Removed) (done : RemoveDone l x a) where
   abbrev n : ℕ
-  n = placeFor l x
+  n = place_for l x
 
   -- the place of the new free piece is not held by what is left
-  pub new-unheld : In (placeFor l x) (cleared x (tree l)) → ⊥
+  pub new-unheld : In (place_for l x) (cleared x (tree l)) → ⊥
   new-unheld = (fresh-removal limit l.settings (tree l) can.sound.sound x can.removable).1
 
-  new-later : (e : Datum) → e ≡ newFree l.nodes x l.serial → l.serial < e.serial
+  new-later : (e : Datum) → e ≡ new_free l.nodes x l.serial → l.serial < e.serial
   new-later e z = let s = ap (λ (f : Datum). f.serial) z ∙ new-serial l.nodes x l.serial in omega arith
 
   pub remove-leaves : Leaves l a.layout (cleared x (tree l))

@@ -18,7 +18,7 @@ use Rattle.tree.proofs.Bookings.{at-unique}
 use Rattle.tree.proofs.Parents.{SameParent}
 use Rattle.tree.proofs.Laws.TidyTree.{untidy-removable}
 use Rattle.table.specs.declared.Node.{Node}
-use Rattle.table.specs.Table.{zeroDatum, zeroNode}
+use Rattle.table.specs.Table.{zero_datum, zero_node}
 use Rattle.marks.specs.declared.Mark.{Mark}
 use Rattle.layout.specs.declared.layout.Layout.{Layout}
 use Rattle.layout.specs.declared.open.OpenOutcome.TheVariants as opening
@@ -28,12 +28,12 @@ use Rattle.layout.specs.declared.tidy.Tidied.{Tidied}
 use Rattle.layout.specs.Check.{limit, tree}
 use Rattle.layout.specs.SoundLayout.{SoundLayout, Sized}
 use Rattle.layout.specs.Next.{Next}
-use Rattle.layout.specs.Open.{openOf}
+use Rattle.layout.specs.Open.{open_of}
 use Rattle.layout.specs.Insert.{piece_at, InsertSays}
 use Rattle.layout.specs.Inner.{Takeable}
 use Rattle.layout.specs.Remove.{RemoveDone, RemoveSays}
 use Rattle.layout.specs.Tidy.{Tidies, takes, tidy, TidySays}
-use Rattle.layout.specs.Restore.{greater, withSerial, restoreOf}
+use Rattle.layout.specs.Restore.{greater, with_serial, restore_of}
 use Rattle.layout.proofs.Listed.{piece_is}
 use Rattle.layout.proofs.Opened.{fresh-sized, fresh-sound}
 use Rattle.layout.proofs.Restored.{greater-left, restored-sound}
@@ -47,7 +47,7 @@ use Rattle.demands.proofs.Leaves.{Leaves, insert-leaves, remove-leaves}
 record Kept (k n : Layout) (i : ℕ) (e : Datum) : Type 0 where
   there : At i e (tree k)
   parent : parent_of limit i (tree n) ≡ parent_of limit i (tree k)
-  parentPiece : piece_at n (parent_of limit i (tree n)) ≡ piece_at k (parent_of limit i (tree k))
+  parent_piece : piece_at n (parent_of limit i (tree n)) ≡ piece_at k (parent_of limit i (tree k))
 
 -- a layout that is sound, and whose arrays are as long as their type says
 record Right (l : Layout) : Type 0 where
@@ -58,12 +58,12 @@ record Right (l : Layout) : Type 0 where
 shown : (l : Layout) → Right l → (i : ℕ) (d : Datum) → At i d (tree l) → piece_at l i ≡ d
 shown l h i d y = piece_is l.nodes (tree l) h.sound.holds i d y
 
-none-shown : (l : Layout) → Right l → (q : ℕ) → q ≡ limit → piece_at l q ≡ zeroDatum
+none-shown : (l : Layout) → Right l → (q : ℕ) → q ≡ limit → piece_at l q ≡ zero_datum
 none-shown l h q e =
-    ap (λ (n : Node). n.datum) (get_or-eq_default l.nodes zeroNode (let z = h.sized.nodes in omega arith))
+    ap (λ (n : Node). n.datum) (get_or-eq_default l.nodes zero_node (let z = h.sized.nodes in omega arith))
 
 kept-so : (k n : Layout) → Right k → Right n → (i : ℕ) (e : Datum) → At i e (tree k) → SameParent limit i (tree k) (tree n) → Kept k n i e
-kept-so k n hk hn i e y p = record { there = y; parent = p.same; parentPiece = rw p.same (go p.there) }
+kept-so k n hk hn i e y p = record { there = y; parent = p.same; parent_piece = rw p.same (go p.there) }
   where
     q : ℕ
     q = parent_of limit i (tree k)
@@ -74,7 +74,7 @@ kept-so k n hk hn i e y p = record { there = y; parent = p.same; parentPiece = r
 
 -- so it stood in the layout before that one too
 kept-before : {l m n : Layout} {i : ℕ} {e : Datum} → Kept l m i e → Kept m n i e → Kept l n i e
-kept-before a b = record { there = a.there; parent = b.parent ∙ a.parent; parentPiece = b.parentPiece ∙ a.parentPiece }
+kept-before a b = record { there = a.there; parent = b.parent ∙ a.parent; parent_piece = b.parent_piece ∙ a.parent_piece }
 
 -- ---- one layout comes of another
 
@@ -88,7 +88,7 @@ record Onward (l n : Layout) : Type 0 where
 -- refused, the layout is as it came
 onward-same : (l n : Layout) → Right l → n ≡ l → Onward l n
 onward-same l n h e =
-    rw e (record { right = h; number = refl; rises = omega arith; pieces = λ i f y. inl (record { there = y; parent = refl; parentPiece = refl }) })
+    rw e (record { right = h; number = refl; rises = omega arith; pieces = λ i f y. inl (record { there = y; parent = refl; parent_piece = refl }) })
 
 -- accepted, each piece was left or is new
 onward-leaves : (l : Layout) → Right l → {n : Layout} {w : Tree} → Leaves l n w → Sized n → l.serial ≤ n.serial → Onward l n
@@ -154,7 +154,7 @@ module _ (l : Layout) (ls : List Layout) (h : Right l) (among : OneOf l ls) wher
       }
 
   -- an earlier state is put back: its pieces are all there, and no other
-  restore-step : (s : Layout) → Right s → OneOf s ls → s.number ≡ l.number → Step l ls (withSerial s (greater l.serial s.serial))
+  restore-step : (s : Layout) → Right s → OneOf s ls → s.number ≡ l.number → Step l ls (with_serial s (greater l.serial s.serial))
   restore-step s g earlier number =
       record {
         right = record {
@@ -163,7 +163,7 @@ module _ (l : Layout) (ls : List Layout) (h : Right l) (among : OneOf l ls) wher
         };
         number = number;
         rises = greater-left l.serial s.serial;
-        pieces = λ i e y. inl (s, earlier, record { there = y; parent = refl; parentPiece = refl });
+        pieces = λ i e y. inl (s, earlier, record { there = y; parent = refl; parent_piece = refl });
       }
 
 -- ---- along the states
@@ -214,21 +214,21 @@ record One (k l : Layout) (i j : ℕ) (d e : Datum) : Type 0 where
   place : i ≡ j
   piece : d ≡ e
   parent : parent_of limit i (tree k) ≡ parent_of limit j (tree l)
-  parentPiece : piece_at k (parent_of limit i (tree k)) ≡ piece_at l (parent_of limit j (tree l))
+  parent_piece : piece_at k (parent_of limit i (tree k)) ≡ piece_at l (parent_of limit j (tree l))
 
 one_in : (l : Layout) → Right l → (i j : ℕ) (d e : Datum) → At i d (tree l) → At j e (tree l) → d.serial ≡ e.serial → One l l i j d e
 one_in l h i j d e y z s =
     let p = h.sound.serials.differ i j d e y z s in
     let same : d ≡ e = sym (at-unique j d e (tree l) h.sound.sound.distinct (rw p at y) z) in
-    record { place = p; piece = same; parent = rw p refl; parentPiece = rw p refl }
+    record { place = p; piece = same; parent = rw p refl; parent_piece = rw p refl }
 
 one-back : {k l : Layout} {i j : ℕ} {d e : Datum} → One k l i j d e → One l k j i e d
-one-back o = record { place = sym o.place; piece = sym o.piece; parent = sym o.parent; parentPiece = sym o.parentPiece }
+one-back o = record { place = sym o.place; piece = sym o.piece; parent = sym o.parent; parent_piece = sym o.parent_piece }
 
 -- k had it before n
 one_kept : {k l n : Layout} {i j : ℕ} {d e : Datum} → Kept k n i d → One k l i j d e → One n l i j d e
 one_kept h o =
-    record { place = o.place; piece = o.piece; parent = h.parent ∙ o.parent; parentPiece = h.parentPiece ∙ o.parentPiece }
+    record { place = o.place; piece = o.piece; parent = h.parent ∙ o.parent; parent_piece = h.parent_piece ∙ o.parent_piece }
 
 -- of all states
 Alike : List Layout → Type 0
@@ -259,8 +259,8 @@ run-one (next {n} {l = m} {ls} run step) k l a b i j d e y z s = go (run-one run
 -- ---- every life is such a run
 
 open-right : (o : Opening) (m : Mark)
-    → (openOf o).outcome ≡ opening.Free m
-    → Right (openOf o).layout
+    → (open_of o).outcome ≡ opening.Free m
+    → Right (open_of o).layout
 open-right o m e =
     let z = opened-so o m e in
     rw z.1 (record { sound = fresh-sound o z.0; sized = fresh-sized o })
@@ -291,9 +291,9 @@ module _ {l : Layout} {ls : List Layout} (run : Run (l ∷ ls)) where
   tidies a says =
       ⊎_elim (refused a.layout) (λ z. onward a.layout (onward-tidies right z.done.tidies)) (tidied-so l a right.sized says)
 
-  restores : (s : Layout) → OneOf s (l ∷ ls) → Step l (l ∷ ls) (restoreOf l s).layout
+  restores : (s : Layout) → OneOf s (l ∷ ls) → Step l (l ∷ ls) (restore_of l s).layout
   restores s o =
-      ⊎_elim (λ z. refused (restoreOf l s).layout z.1)
+      ⊎_elim (λ z. refused (restore_of l s).layout z.1)
       (λ z. rw z.is (restore-step l (l ∷ ls) right (inl refl) s (run-right run s o) o (run-number run s l o (inl refl)))) (restored-so l s)
 
 life-run : {ls : List Layout} → Life ls → Run ls
@@ -327,4 +327,4 @@ pub one_piece : {ls : List Layout} → Life ls → (k l : Layout) → OneOf k ls
     × (piece_at k (parent_of limit i (tree k)) ≡ piece_at l (parent_of limit j (tree l)))
 unfolding Alike
 one_piece life k l a b i j d e y z s =
-    let o = run-one (life-run life) k l a b i j d e y z s in (o.place, o.piece, o.parent, o.parentPiece)
+    let o = run-one (life-run life) k l a b i j d e y z s in (o.place, o.piece, o.parent, o.parent_piece)

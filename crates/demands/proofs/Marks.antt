@@ -15,16 +15,16 @@ use Rattle.marks.specs.declared.Refusal.TheVariants.{Gone}
 use Rattle.layout.specs.declared.layout.Layout.{Layout}
 use Rattle.layout.specs.declared.replies.Outcome.TheVariants.{Refused}
 use Rattle.layout.specs.declared.replies.Sought.TheVariants as sought
-use Rattle.layout.specs.Check.{soundB}
+use Rattle.layout.specs.Check.{sound_b}
 use Rattle.layout.specs.SoundLayout.{SoundLayout}
-use Rattle.layout.specs.Asked.{partB, goneB, soughtOf, freePieceOf}
-use Rattle.layout.specs.Insert.{insertNo, piece_at}
-use Rattle.layout.specs.Remove.{removeNo}
+use Rattle.layout.specs.Asked.{part_b, gone_b, sought_of, free_piece_of}
+use Rattle.layout.specs.Insert.{insert_no, piece_at}
+use Rattle.layout.specs.Remove.{remove_no}
 use Rattle.layout.proofs.Exactly.{sound-shown}
 use Rattle.layout.proofs.Marks.{sought-names}
 use Rattle.layout.proofs.Ways.{onward, ended}
-use Rattle.questions.specs.Answers.{offersCall}
-use Rattle.questions.specs.WhyNot.{whyCall}
+use Rattle.questions.specs.Answers.{offers_call}
+use Rattle.questions.specs.WhyNot.{why_call}
 use Rattle.demands.specs.Life.{OneOf, Life, Later, NamesPiece, SamePiece}
 use Rattle.demands.proofs.Lives.{states-sound, one_number, one_piece}
 
@@ -35,14 +35,14 @@ later-both k l (h ∷ hs) (inl y) = (y.1, inl y.0)
 later-both k l (h ∷ hs) (inr o) = let z = later-both k l hs o in (inr z.0, inr z.1)
 
 -- a mark of this layout is gone, or names a piece
-gone-or-names : (l : Layout) → SoundLayout l → (m : Mark) → m.layout ≡ l.number → (soughtOf l m ≡ sought.Refused Gone) ⊎ NamesPiece l m
-unfolding soughtOf
-gone-or-names l sound m same = go (goneB l m) refl
+gone-or-names : (l : Layout) → SoundLayout l → (m : Mark) → m.layout ≡ l.number → (sought_of l m ≡ sought.Refused Gone) ⊎ NamesPiece l m
+unfolding sought_of
+gone-or-names l sound m same = go (gone_b l m) refl
   where
-    go : (b : Bool) → goneB l m ≡ b → (soughtOf l m ≡ sought.Refused Gone) ⊎ NamesPiece l m
+    go : (b : Bool) → gone_b l m ≡ b → (sought_of l m ≡ sought.Refused Gone) ⊎ NamesPiece l m
     go true e = inl (sym (onward _ (eq-eqb m.layout l.number same) (onward _ e refl)))
     go false e =
-        let found : soughtOf l m ≡ sought.Piece (piece_at l m.place) =
+        let found : sought_of l m ≡ sought.Piece (piece_at l m.place) =
         sym (onward _ (eq-eqb m.layout l.number same) (ended _ e refl))
         in
         let n = sought-names l sound m (piece_at l m.place) found in
@@ -50,7 +50,7 @@ gone-or-names l sound m same = go (goneB l m) refl
 
 -- A mark that named a piece of a state names the same piece of every later state, or is gone there.
 pub marks-last : {ls : List Layout} → Life ls → (k l : Layout) → Later k l ls → (m : Mark) → NamesPiece k m
-    → (soughtOf l m ≡ sought.Refused Gone) ⊎ (NamesPiece l m × SamePiece k l m)
+    → (sought_of l m ≡ sought.Refused Gone) ⊎ (NamesPiece l m × SamePiece k l m)
 marks-last {ls} life k l later m named =
     let o = later-both k l ls later in
     let number = named.number ∙ one_number life k l o.0 o.1 in
@@ -62,25 +62,25 @@ marks-last {ls} life k l later m named =
         one_piece life k l o.0 o.1 m.place m.place (piece_at k m.place) (piece_at l m.place) named.there n.there
         (named.serial ∙ sym n.serial)
         in
-        record { piece = sym z.1; parent = sym z.2; parentPiece = sym z.3 }
+        record { piece = sym z.1; parent = sym z.2; parent_piece = sym z.3 }
 
 -- Then a call with it is refused with 5, where no earlier refusal holds.
-module _ {ls : List Layout} (life : Life ls) (l : Layout) (state : OneOf l ls) (m : Mark) (gone : soughtOf l m ≡ sought.Refused Gone) where
-  checked : soundB l ≡ true
+module _ {ls : List Layout} (life : Life ls) (l : Layout) (state : OneOf l ls) (m : Mark) (gone : sought_of l m ≡ sought.Refused Gone) where
+  checked : sound_b l ≡ true
   checked = let h = states-sound life l state in sound-shown l h.1 h.0
 
-  pub gone-offers : (p : PartType) → partB p ≡ true → (offersCall l m p).outcome ≡ Refused Gone
-  unfolding offersCall freePieceOf
+  pub gone-offers : (p : PartType) → part_b p ≡ true → (offers_call l m p).outcome ≡ Refused Gone
+  unfolding offers_call free_piece_of
   gone-offers p part = rw (checked, part, gone) refl
 
-  pub gone-why-not : (p : PartType) → partB p ≡ true → (whyCall l m p).outcome ≡ Refused Gone
-  unfolding whyCall freePieceOf
+  pub gone-why-not : (p : PartType) → part_b p ≡ true → (why_call l m p).outcome ≡ Refused Gone
+  unfolding why_call free_piece_of
   gone-why-not p part = rw (checked, part, gone) refl
 
-  pub gone-insert : (p : PartType) (r : Rotation) (s : InsertionShape) → partB p ≡ true → insertNo l m p r s ≡ some Gone
-  unfolding insertNo freePieceOf
+  pub gone-insert : (p : PartType) (r : Rotation) (s : InsertionShape) → part_b p ≡ true → insert_no l m p r s ≡ some Gone
+  unfolding insert_no free_piece_of
   gone-insert p r s part = rw (checked, part, gone) refl
 
-  pub gone-remove : (room : ℕ) → removeNo l m room ≡ some Gone
-  unfolding removeNo
+  pub gone-remove : (room : ℕ) → remove_no l m room ≡ some Gone
+  unfolding remove_no
   gone-remove room = rw (checked, gone) refl

@@ -17,19 +17,19 @@ use Rattle.piece.specs.declared.node.Datum.{Datum}
 use Rattle.piece.specs.declared.node.Kind.{Kind}
 use Rattle.piece.specs.declared.node.Kind.TheVariants.{Free, Part, Structure}
 use Rattle.piece.specs.declared.insertion_blueprint.InsertionShape.{InsertionShape}
-use Rattle.piece.specs.Kinds.{isFree, isPart}
+use Rattle.piece.specs.Kinds.{is_free, is_part}
 use Rattle.lists.proofs.Scan.{clash}
 use Rattle.piece.specs.declared.settings.Opening.{Opening}
 use Rattle.tree.specs.Tree.{Tree, At}
-use Rattle.tree.specs.Open.{firstFree}
+use Rattle.tree.specs.Open.{first_free}
 use Rattle.tree.specs.Booking.{Booking, block}
 use Rattle.tree.specs.Steps.{less}
-use Rattle.tree.specs.Family.{newPlace}
+use Rattle.tree.specs.Family.{new_place}
 use Rattle.tree.proofs.BookPieces.{book-new}
 use Rattle.marks.specs.declared.Mark.{Mark}
 use Rattle.marks.specs.declared.Refusal.{Refusal}
 use Rattle.booking.proofs.BlockMarks.{Of, every, block-first-is, block-first, block-part, block-frees}
-use Rattle.removal.specs.Remove.{newFree}
+use Rattle.removal.specs.Remove.{new_free}
 use Rattle.removal.proofs.Pieces.{new-there}
 use Rattle.removal.proofs.Serials.{new-serial, new-free}
 use Rattle.layout.specs.declared.layout.Layout.{Layout}
@@ -37,18 +37,18 @@ use Rattle.layout.specs.declared.open.OpenOutcome.TheVariants as opening
 use Rattle.layout.specs.declared.replies.Outcome.TheVariants.{Done}
 use Rattle.layout.specs.declared.insert.Inserted.{Inserted}
 use Rattle.layout.specs.declared.remove.Removed.{Removed}
-use Rattle.layout.specs.Check.{limit, tree, soundB}
+use Rattle.layout.specs.Check.{limit, tree, sound_b}
 use Rattle.layout.specs.SoundLayout.{SoundLayout, Sized}
-use Rattle.layout.specs.Open.{freshLayout, openOf}
-use Rattle.layout.specs.Insert.{bookingFor, piece_at, InsertDone, InsertSays}
+use Rattle.layout.specs.Open.{fresh_layout, open_of}
+use Rattle.layout.specs.Insert.{booking_for, piece_at, InsertDone, InsertSays}
 use Rattle.layout.specs.Inner.{Insertable}
-use Rattle.layout.specs.Remove.{placeFor, RemoveSays}
+use Rattle.layout.specs.Remove.{place_for, RemoveSays}
 use Rattle.layout.proofs.Listed.{piece_is}
-use Rattle.layout.proofs.Admitted.{is_free}
+use Rattle.layout.proofs.Admitted.{is_free-kind}
 use Rattle.layout.proofs.Opened.{fresh-tree, fresh-sound}
 use Rattle.questions.specs.declared.replies.MarkAnswer.{MarkAnswer}
 use Rattle.questions.specs.declared.replies.MarkAnswer.TheVariants as answer
-use Rattle.questions.specs.Answers.{freeMarkOf, removableMarkOf}
+use Rattle.questions.specs.Answers.{free_mark_of, removable_mark_of}
 use Rattle.questions.proofs.ListMarks.{free-mark-names, removable-mark-names}
 use Rattle.demands.specs.Life.{NamesPiece}
 use Rattle.demands.proofs.Outcomes.{opened-so, accepted-insert, accepted-remove}
@@ -74,19 +74,19 @@ module _ (l : Layout) (sound : SoundLayout l) (m : Mark) (d : Datum) (number : m
 -- ---- the opening
 
 pub open-mark-names : (o : Opening) (m : Mark)
-    → (openOf o).outcome ≡ opening.Free m → NamesKind Free (openOf o).layout m
-unfolding freshLayout
+    → (open_of o).outcome ≡ opening.Free m → NamesKind Free (open_of o).layout m
+unfolding fresh_layout
 open-mark-names o m h =
     let z = opened-so o m h in
-    let l = freshLayout o in
-    let there : At 1 (firstFree o) (tree l) = rw (fresh-tree o) (inr (inl (inl (refl, refl)))) in
+    let l = fresh_layout o in
+    let there : At 1 (first_free o) (tree l) = rw (fresh-tree o) (inr (inl (inl (refl, refl)))) in
     rw (z.1, z.2)
-    (kind-named l (fresh-sound o z.0) (record { layout = o.number; place = 1; serial = 2 }) (firstFree o) refl
+    (kind-named l (fresh-sound o z.0) (record { layout = o.number; place = 1; serial = 2 }) (first_free o) refl
     there refl Free refl)
 
 -- ---- insert
 
-is-part : (κ : Kind) → isPart κ ≡ true → κ ≡ Part
+is-part : (κ : Kind) → is_part κ ≡ true → κ ≡ Part
 is-part Free h = absurd (clash h)
 is-part Part h = refl
 is-part Structure h = absurd (clash h)
@@ -94,15 +94,15 @@ is-part Structure h = absurd (clash h)
 -- the marks that an accepted booking in the piece at x answers: the first of the new nodes, the part, and the free pieces
 pub record BookedMarks (l : Layout) (x : ℕ) (p : PartType) (r : Rotation) (s : InsertionShape) (a : Inserted) : Type 0 where
   pub first : NamesPiece a.layout a.marks.first
-  pub firstIs : a.marks.first ≡ record { layout = l.number; place = newPlace limit (less x (tree l)) 0; serial = l.serial + 1 }
+  pub first_is : a.marks.first ≡ record { layout = l.number; place = new_place limit (less x (tree l)) 0; serial = l.serial + 1 }
   pub part : NamesKind Part a.layout a.marks.part
-  pub partIs : At a.marks.part.place (piece_at a.layout a.marks.part.place) (block (bookingFor l x p r s) (piece_at l x))
+  pub part_is : At a.marks.part.place (piece_at a.layout a.marks.part.place) (block (booking_for l x p r s) (piece_at l x))
   pub frees : (k : Mark) → Memᴰ k (take a.marks.count a.marks.frees) → NamesKind Free a.layout k
 
 module _ (l : Layout) (x : ℕ) (p : PartType) (r : Rotation) (s : InsertionShape) (can : Insertable l x p r s) (a : Inserted)
-    (done : InsertDone l x (bookingFor l x p r s) a) where
+    (done : InsertDone l x (booking_for l x p r s) a) where
   abbrev b : Booking
-  b = bookingFor l x p r s
+  b = booking_for l x p r s
 
   abbrev w : Tree
   w = block b (piece_at l x)
@@ -130,16 +130,16 @@ module _ (l : Layout) (x : ℕ) (p : PartType) (r : Rotation) (s : InsertionShap
   booked-marks : BookedMarks l x p r s a
   booked-marks =
       let f : Of l.number every w a.marks.first = rw done.marks (block-first l.number b (piece_at l x)) in
-      let t : Of l.number isPart w a.marks.part = rw done.marks (block-part l.number b (piece_at l x)) in
+      let t : Of l.number is_part w a.marks.part = rw done.marks (block-part l.number b (piece_at l x)) in
       record {
         first = of-names every a.marks.first f;
-        firstIs = rw done.marks (block-first-is l.number b (piece_at l x));
-        part = of-kind isPart a.marks.part t Part (is-part t.piece.kind t.kind);
-        partIs = of-block isPart a.marks.part t;
+        first_is = rw done.marks (block-first-is l.number b (piece_at l x));
+        part = of-kind is_part a.marks.part t Part (is-part t.piece.kind t.kind);
+        part_is = of-block is_part a.marks.part t;
         frees =
             λ k m.
             let o = block-frees l.number b (piece_at l x) k (rw done.marks at m) in
-            of-kind isFree k o Free (is_free o.piece.kind o.kind);
+            of-kind is_free k o Free (is_free-kind o.piece.kind o.kind);
       }
 
 pub insert-marks-name : (l : Layout) (m : Mark) (p : PartType) (r : Rotation) (s : InsertionShape) (a : Inserted) → Sized l
@@ -155,8 +155,8 @@ remove-mark-names l m room a sized says answer =
     let z = accepted-remove l m room a sized (record { says = says; done = answer }) in
     let can = z.takeable in
     let done = z.done in
-    let n = placeFor l m.place in
-    let e = newFree l.nodes m.place l.serial in
+    let n = place_for l m.place in
+    let e = new_free l.nodes m.place l.serial in
     let there : At n e (tree a.layout) =
     rw done.next.tree
     (new-there limit l.settings l.nodes (tree l) can.sound.sound can.sound.holds m.place
@@ -179,20 +179,20 @@ same_answer : (o : MarkAnswer) (k m : Mark) → o ≡ answer.Found k → o ≡ a
 same_answer o k m x y = cc
 
 module _ (l : Layout) (sized : Sized l) (sound : SoundLayout l) (k : ℕ) (m : Mark) where
-  pub free-position-names : freeMarkOf l k ≡ answer.Found m → NamesKind Free l m
-  unfolding freeMarkOf
+  pub free-position-names : free_mark_of l k ≡ answer.Found m → NamesKind Free l m
+  unfolding free_mark_of
   free-position-names h =
-      let b = ltb-true k l.frees (within (soundB l) (ltb k l.frees) _ m _ _ h) in
+      let b = ltb-true k l.frees (within (sound_b l) (ltb k l.frees) _ m _ _ h) in
       let z = free-mark-names l sound sized k b in
-      rw (same_answer (freeMarkOf l k) m z.0 h z.2)
+      rw (same_answer (free_mark_of l k) m z.0 h z.2)
       (kind-named l sound z.0 z.1 z.3.layout z.3.there z.3.serial Free z.4)
 
   -- a part or a structure
-  pub removable-position-names : removableMarkOf l k ≡ answer.Found m → NamesPiece l m × (isFree (piece_at l m.place).kind ≡ false)
-  unfolding removableMarkOf
+  pub removable-position-names : removable_mark_of l k ≡ answer.Found m → NamesPiece l m × (is_free (piece_at l m.place).kind ≡ false)
+  unfolding removable_mark_of
   removable-position-names h =
-      let b = ltb-true k l.removables (within (soundB l) (ltb k l.removables) _ m _ _ h) in
+      let b = ltb-true k l.removables (within (sound_b l) (ltb k l.removables) _ m _ _ h) in
       let z = removable-mark-names l sound sized k b in
       let n = named l sound z.0 z.1 z.3.layout z.3.there z.3.serial in
       let i = is l sound z.0 z.1 z.3.layout z.3.there z.3.serial in
-      rw (same_answer (removableMarkOf l k) m z.0 h z.2) (n, rw i z.4)
+      rw (same_answer (removable_mark_of l k) m z.0 h z.2) (n, rw i z.4)

@@ -15,9 +15,9 @@ use Rattle.piece.specs.declared.rotation.Rotation.{Rotation}
 use Rattle.piece.specs.declared.parttype.PartType.{PartType}
 use Rattle.piece.specs.declared.node.Datum.{Datum}
 use Rattle.piece.specs.declared.insertion_blueprint.InsertionShape.{InsertionShape}
-use Rattle.piece.specs.Insertion.{newNodes}
-use Rattle.piece.specs.Kinds.{isFree}
-use Rattle.piece.specs.Offered.{offeredB}
+use Rattle.piece.specs.Insertion.{new_nodes}
+use Rattle.piece.specs.Kinds.{is_free}
+use Rattle.piece.specs.Offered.{offered_b}
 use Rattle.lists.proofs.Scan.{clash}
 use Rattle.marks.specs.declared.Mark.{Mark}
 use Rattle.marks.specs.declared.Refusal.{Refusal}
@@ -26,48 +26,48 @@ use Rattle.marks.specs.declared.Refusal.TheVariants as refusal
 use Rattle.layout.specs.declared.layout.Layout.{Layout}
 use Rattle.layout.specs.declared.replies.Sought.{Sought}
 use Rattle.layout.specs.declared.replies.Sought.TheVariants as sought
-use Rattle.layout.specs.Check.{limit, maxSerial, soundB, tree}
-use Rattle.layout.specs.Asked.{freePieceOf, goneB, onlyFree, partB, soughtOf}
+use Rattle.layout.specs.Check.{limit, max_serial, sound_b, tree}
+use Rattle.layout.specs.Asked.{free_piece_of, gone_b, only_free, part_b, sought_of}
 use Rattle.layout.specs.Refusing.{or_else}
 use Rattle.layout.specs.SoundLayout.{Sized, SoundLayout}
-use Rattle.layout.specs.Insert.{bookNo, insertNo, piece_at, pieceNo}
-use Rattle.layout.specs.Remove.{goNo, goingNo, numbersOut, removeNo, roomNo}
-use Rattle.layout.proofs.Admitted.{is_free}
+use Rattle.layout.specs.Insert.{book_no, insert_no, piece_at, piece_no}
+use Rattle.layout.specs.Remove.{go_no, going_no, numbers_out, remove_no, room_no}
+use Rattle.layout.proofs.Admitted.{is_free-kind}
 use Rattle.layout.proofs.Exactly.{sound-says, sound-shown}
 use Rattle.layout.proofs.Listed.{piece_is}
 use Rattle.layout.proofs.Marks.{headed, names-sought, sought-names}
 use Rattle.layout.proofs.RemoveEnds.{long-enough, may-go, may-not}
 use Rattle.demands.specs.Life.{NamesPiece}
-use Rattle.demands.specs.Orders.{AllAccepted, Apart, Each, Naming, OnlyEight, OnlyEightOrNine, Pairwise, Reordered, Step, booking, place_of, refusalOf, removal}
+use Rattle.demands.specs.Orders.{AllAccepted, Apart, Each, Naming, OnlyEight, OnlyEightOrNine, Pairwise, Reordered, Step, booking, place_of, refusal_of, removal}
 use Rattle.demands.specs.Orders as orders
 use Rattle.demands.proofs.BookedThenRemoved.{new_two}
-use Rattle.demands.proofs.Stepped.{Lets, Ready, apart-back, apart-lets, left_other, lets-after, newOf, numbers-same, ready-after, ready-before, roomB, stepped}
+use Rattle.demands.proofs.Stepped.{Lets, Ready, apart-back, apart-lets, left_other, lets-after, new_of, numbers-same, ready-after, ready-before, room_b, stepped}
 use Rattle.demands.proofs.Reordering.{each_at, each-before, each_both, each_map, each-reordered, pairs-at, pairs-map, pairs-reordered, total, total-at, total-reordered}
 use Rattle.demands.proofs.EveryOrder.{Old, Waits, all_old, all-wait, older}
 
 -- ---- what a step that is ready is refused with
 
 -- by refusals 8 and 9, in this order
-abbrev pub lateNo : Layout → Step → Option Refusal
-lateNo l s = cond (roomB l s) (cond (leb (l.serial + newOf s) maxSerial) none (some SerialsSpent)) (some TooManyNodes)
+abbrev pub late_no : Layout → Step → Option Refusal
+late_no l s = cond (room_b l s) (cond (leb (l.serial + new_of s) max_serial) none (some SerialsSpent)) (some TooManyNodes)
 
-found : (l : Layout) → SoundLayout l → (m : Mark) → NamesPiece l m → soughtOf l m ≡ sought.Piece (piece_at l m.place)
+found : (l : Layout) → SoundLayout l → (m : Mark) → NamesPiece l m → sought_of l m ≡ sought.Piece (piece_at l m.place)
 found l sound m named =
     names-sought l sound m (piece_at l m.place) (record { layout = named.number; there = named.there; serial = named.serial })
 
-pub ready-refusal : (l : Layout) → Sized l → SoundLayout l → (s : Step) → Ready l s → refusalOf l s ≡ lateNo l s
-unfolding insertNo freePieceOf bookNo goNo
+pub ready-refusal : (l : Layout) → Sized l → SoundLayout l → (s : Step) → Ready l s → refusal_of l s ≡ late_no l s
+unfolding insert_no free_piece_of book_no go_no
 ready-refusal l sized sound (booking m p r s) h =
-    rw (sound-shown l sized sound, h.asks.0, found l sound m h.names, ap isFree h.meets, h.asks.1) refl
-ready-refusal l sized sound (removal m room) h = go (leb (l.serial + 1) maxSerial) refl
+    rw (sound-shown l sized sound, h.asks.0, found l sound m h.names, ap is_free h.meets, h.asks.1) refl
+ready-refusal l sized sound (removal m room) h = go (leb (l.serial + 1) max_serial) refl
   where
     d : Datum
     d = piece_at l m.place
 
-    goes : (b : Bool) → leb (l.serial + 1) maxSerial ≡ b → goNo l m.place d ≡ cond b none (some SerialsSpent)
+    goes : (b : Bool) → leb (l.serial + 1) max_serial ≡ b → go_no l m.place d ≡ cond b none (some SerialsSpent)
     goes b e = rw (ne_eqb m.place 0 h.meets.1, h.meets.0, e) refl
 
-    go : (b : Bool) → leb (l.serial + 1) maxSerial ≡ b → removeNo l m room ≡ cond b none (some SerialsSpent)
+    go : (b : Bool) → leb (l.serial + 1) max_serial ≡ b → remove_no l m room ≡ cond b none (some SerialsSpent)
     go true e = may-go l m room (sound-shown l sized sound) (found l sound m h.names) (goes true e) ∙ long-enough l m.place room h.asks
     go false e = may-not l m room (sound-shown l sized sound) (found l sound m h.names) (goes false e)
 
@@ -81,126 +81,126 @@ late-eight true = inl refl
 late-eight false = inr refl
 
 module _ (l : Layout) (sized : Sized l) (sound : SoundLayout l) (s : Step) (ready : Ready l s) where
-  pub ready-eight-nine : OnlyEightOrNine (refusalOf l s)
-  ready-eight-nine = rw (ready-refusal l sized sound s ready) (late-eight-nine (roomB l s) (leb (l.serial + newOf s) maxSerial))
+  pub ready-eight-nine : OnlyEightOrNine (refusal_of l s)
+  ready-eight-nine = rw (ready-refusal l sized sound s ready) (late-eight-nine (room_b l s) (leb (l.serial + new_of s) max_serial))
 
-  module _ (enough : l.serial + newOf s ≤ maxSerial) where
-    pub ready-eight : OnlyEight (refusalOf l s)
-    ready-eight = rw (ready-refusal l sized sound s ready, le-leb (l.serial + newOf s) maxSerial enough) (late-eight (roomB l s))
+  module _ (enough : l.serial + new_of s ≤ max_serial) where
+    pub ready-eight : OnlyEight (refusal_of l s)
+    ready-eight = rw (ready-refusal l sized sound s ready, le-leb (l.serial + new_of s) max_serial enough) (late-eight (room_b l s))
 
-    pub ready-none : roomB l s ≡ true → refusalOf l s ≡ none
-    ready-none room = rw (ready-refusal l sized sound s ready, room, le-leb (l.serial + newOf s) maxSerial enough) refl
+    pub ready-none : room_b l s ≡ true → refusal_of l s ≡ none
+    ready-none room = rw (ready-refusal l sized sound s ready, room, le-leb (l.serial + new_of s) max_serial enough) refl
 
 -- ---- and the other way round: what is refused with nothing but 8 or 9 is ready
 
 -- the refusals that are tested before these are others
-abbrev lateB : Refusal → Bool
-lateB refusal.TooManyNodes = true
-lateB refusal.SerialsSpent = true
-lateB refusal.NotSound = false
-lateB refusal.OpeningOutside = false
-lateB refusal.PartOutside = false
-lateB refusal.OtherLayout = false
-lateB refusal.Gone = false
-lateB refusal.NotFree = false
-lateB refusal.NotOffered = false
-lateB refusal.TheTop = false
-lateB refusal.FreePiece = false
-lateB refusal.PastTheEnd = false
-lateB refusal.BufferTooShort = false
-lateB refusal.Malformed = false
+abbrev late_b : Refusal → Bool
+late_b refusal.TooManyNodes = true
+late_b refusal.SerialsSpent = true
+late_b refusal.NotSound = false
+late_b refusal.OpeningOutside = false
+late_b refusal.PartOutside = false
+late_b refusal.OtherLayout = false
+late_b refusal.Gone = false
+late_b refusal.NotFree = false
+late_b refusal.NotOffered = false
+late_b refusal.TheTop = false
+late_b refusal.FreePiece = false
+late_b refusal.PastTheEnd = false
+late_b refusal.BufferTooShort = false
+late_b refusal.Malformed = false
 
-late : (e : Refusal) → OnlyEightOrNine (some e) → lateB e ≡ true
+late : (e : Refusal) → OnlyEightOrNine (some e) → late_b e ≡ true
 late e (inl (inl h)) = absurd (clash (cc))
 late e (inl (inr h)) = let z : e ≡ TooManyNodes = cc in rw z refl
 late e (inr h) = let z : e ≡ SerialsSpent = cc in rw z refl
 
-sought-early : (l : Layout) (m : Mark) (e : Refusal) → soughtOf l m ≡ sought.Refused e → lateB e ≡ false
-unfolding soughtOf
-sought-early l m e = go (eqb m.layout l.number) (goneB l m)
+sought-early : (l : Layout) (m : Mark) (e : Refusal) → sought_of l m ≡ sought.Refused e → late_b e ≡ false
+unfolding sought_of
+sought-early l m e = go (eqb m.layout l.number) (gone_b l m)
   where
     go : (a b : Bool)
-        → cond a (cond b (sought.Refused Gone) (sought.Piece (piece_at l m.place))) (sought.Refused OtherLayout) ≡ sought.Refused e → lateB e ≡ false
+        → cond a (cond b (sought.Refused Gone) (sought.Piece (piece_at l m.place))) (sought.Refused OtherLayout) ≡ sought.Refused e → late_b e ≡ false
     go true true h = let z : e ≡ Gone = cc in rw z refl
     go true false h = absurd (clash (cc))
     go false b h = let z : e ≡ OtherLayout = cc in rw z refl
 
-free-early : (l : Layout) (m : Mark) (p : PartType) (e : Refusal) → freePieceOf l m p ≡ sought.Refused e → lateB e ≡ false
-unfolding freePieceOf
-free-early l m p e = go (soundB l) (partB p) (soughtOf l m) refl
+free-early : (l : Layout) (m : Mark) (p : PartType) (e : Refusal) → free_piece_of l m p ≡ sought.Refused e → late_b e ≡ false
+unfolding free_piece_of
+free-early l m p e = go (sound_b l) (part_b p) (sought_of l m) refl
   where
-    only : (d : Datum) (b : Bool) → cond b (sought.Piece d) (sought.Refused NotFree) ≡ sought.Refused e → lateB e ≡ false
+    only : (d : Datum) (b : Bool) → cond b (sought.Piece d) (sought.Refused NotFree) ≡ sought.Refused e → late_b e ≡ false
     only d true h = absurd (clash (cc))
     only d false h = let z : e ≡ NotFree = cc in rw z refl
 
-    go : (a b : Bool) (q : Sought) → soughtOf l m ≡ q
-        → cond a (cond b (onlyFree q) (sought.Refused PartOutside)) (sought.Refused NotSound) ≡ sought.Refused e → lateB e ≡ false
-    go true true (sought.Piece d) f h = only d (isFree d.kind) h
+    go : (a b : Bool) (q : Sought) → sought_of l m ≡ q
+        → cond a (cond b (only_free q) (sought.Refused PartOutside)) (sought.Refused NotSound) ≡ sought.Refused e → late_b e ≡ false
+    go true true (sought.Piece d) f h = only d (is_free d.kind) h
     go true true (sought.Refused x) f h = let z : x ≡ e = cc in sought-early l m e (f ∙ ap sought.Refused z)
     go true false q f h = let z : e ≡ PartOutside = cc in rw z refl
     go false b q f h = let z : e ≡ NotSound = cc in rw z refl
 
 module _ (l : Layout) (sized : Sized l) (m : Mark) where
-  named_by : (d : Datum) → SoundLayout l → soughtOf l m ≡ sought.Piece d → NamesPiece l m × (piece_at l m.place ≡ d)
+  named_by : (d : Datum) → SoundLayout l → sought_of l m ≡ sought.Piece d → NamesPiece l m × (piece_at l m.place ≡ d)
   named_by d sound h =
       let n = sought-names l sound m d h in
       let is : piece_at l m.place ≡ d = piece_is l.nodes (tree l) sound.holds m.place d n.there in
       (record { number = n.layout; there = rw is n.there; serial = ap (λ (e : Datum). e.serial) is ∙ n.serial }, is)
 
-  booking-ready : (p : PartType) (r : Rotation) (s : InsertionShape) → OnlyEightOrNine (insertNo l m p r s) → Ready l (booking m p r s)
-  unfolding insertNo bookNo
-  booking-ready p r s = go (freePieceOf l m p) refl
+  booking-ready : (p : PartType) (r : Rotation) (s : InsertionShape) → OnlyEightOrNine (insert_no l m p r s) → Ready l (booking m p r s)
+  unfolding insert_no book_no
+  booking-ready p r s = go (free_piece_of l m p) refl
     where
       offered : (d : Datum) (b c e : Bool)
           → OnlyEightOrNine (cond b (cond c (cond e none (some SerialsSpent)) (some TooManyNodes)) (some NotOffered)) → b ≡ true
       offered d true c e h = refl
       offered d false c e h = absurd (clash (late NotOffered h))
 
-      go : (q : Sought) → freePieceOf l m p ≡ q → OnlyEightOrNine (pieceNo l p r s q) → Ready l (booking m p r s)
+      go : (q : Sought) → free_piece_of l m p ≡ q → OnlyEightOrNine (piece_no l p r s q) → Ready l (booking m p r s)
       go (sought.Refused e) f h = absurd (clash (sym (free-early l m p e f) ∙ late e h))
       go (sought.Piece d) f h =
           let q = headed l m p d f in
           let n = named_by d (sound-says l sized q.sound) q.named in
-          let o = offered d (offeredB d p l.settings r s) (leb (l.held - 1 + newNodes s) limit) (leb (l.serial + newNodes s) maxSerial) h in
-          record { names = n.0; meets = rw n.1 (is_free d.kind q.free); asks = (q.part, rw n.1 o) }
+          let o = offered d (offered_b d p l.settings r s) (leb (l.held - 1 + new_nodes s) limit) (leb (l.serial + new_nodes s) max_serial) h in
+          record { names = n.0; meets = rw n.1 (is_free-kind d.kind q.free); asks = (q.part, rw n.1 o) }
 
   -- with 9 a removal has not been asked for its buffer yet
-  removal-ready : (room : ℕ) → OnlyEightOrNine (removeNo l m room) → Ready l (removal m room) ⊎ (maxSerial < l.serial + 1)
-  unfolding removeNo goNo roomNo
-  removal-ready room = go (soundB l) refl (soughtOf l m) refl
+  removal-ready : (room : ℕ) → OnlyEightOrNine (remove_no l m room) → Ready l (removal m room) ⊎ (max_serial < l.serial + 1)
+  unfolding remove_no go_no room_no
+  removal-ready room = go (sound_b l) refl (sought_of l m) refl
     where
       x : ℕ
       x = m.place
 
-      tests : (d : Datum) → SoundLayout l → soughtOf l m ≡ sought.Piece d
-          → (a : Bool) → eqb x 0 ≡ a → (b : Bool) → isFree d.kind ≡ b → (c : Bool) → leb (l.serial + 1) maxSerial ≡ c
-          → (o : Bool) → leb (length (numbersOut l x)) room ≡ o
+      tests : (d : Datum) → SoundLayout l → sought_of l m ≡ sought.Piece d
+          → (a : Bool) → eqb x 0 ≡ a → (b : Bool) → is_free d.kind ≡ b → (c : Bool) → leb (l.serial + 1) max_serial ≡ c
+          → (o : Bool) → leb (length (numbers_out l x)) room ≡ o
           → OnlyEightOrNine (or_else (cond a (some TheTop) (cond b (some FreePiece) (cond c none (some SerialsSpent)))) (cond o none (some BufferTooShort)))
-          → Ready l (removal m room) ⊎ (maxSerial < l.serial + 1)
+          → Ready l (removal m room) ⊎ (max_serial < l.serial + 1)
       tests d sound f true e b g c i o j h = absurd (clash (late TheTop h))
       tests d sound f false e true g c i o j h = absurd (clash (late FreePiece h))
-      tests d sound f false e false g false i o j h = inr (leb-false (l.serial + 1) maxSerial i)
+      tests d sound f false e false g false i o j h = inr (leb-false (l.serial + 1) max_serial i)
       tests d sound f false e false g true i false j h = absurd (clash (late BufferTooShort h))
       tests d sound f false e false g true i true j h =
           let n = named_by d sound f in
-          inl (record { names = n.0; meets = (rw n.1 g, eqb-false x 0 e); asks = leb-true (length (numbersOut l x)) room j })
+          inl (record { names = n.0; meets = (rw n.1 g, eqb-false x 0 e); asks = leb-true (length (numbers_out l x)) room j })
 
-      go : (a : Bool) → soundB l ≡ a → (q : Sought) → soughtOf l m ≡ q → OnlyEightOrNine (cond a (goingNo l x room q) (some NotSound))
-          → Ready l (removal m room) ⊎ (maxSerial < l.serial + 1)
+      go : (a : Bool) → sound_b l ≡ a → (q : Sought) → sought_of l m ≡ q → OnlyEightOrNine (cond a (going_no l x room q) (some NotSound))
+          → Ready l (removal m room) ⊎ (max_serial < l.serial + 1)
       go true e (sought.Piece d) f h =
-          tests d (sound-says l sized e) f (eqb x 0) refl (isFree d.kind) refl (leb (l.serial + 1) maxSerial) refl
-          (leb (length (numbersOut l x)) room) refl h
+          tests d (sound-says l sized e) f (eqb x 0) refl (is_free d.kind) refl (leb (l.serial + 1) max_serial) refl
+          (leb (length (numbers_out l x)) room) refl h
       go true e (sought.Refused r) f h = absurd (clash (sym (sought-early l m r f) ∙ late r h))
       go false e q f h = absurd (clash (late NotSound h))
 
-asked-ready : (l : Layout) → Sized l → (s : Step) → OnlyEightOrNine (refusalOf l s) → Ready l s ⊎ (maxSerial < l.serial + 1)
+asked-ready : (l : Layout) → Sized l → (s : Step) → OnlyEightOrNine (refusal_of l s) → Ready l s ⊎ (max_serial < l.serial + 1)
 asked-ready l sized (booking m p r s) h = inl (booking-ready l sized m p r s h)
 asked-ready l sized (removal m room) h = removal-ready l sized m room h
 
 -- ---- along an accepted run
 
 -- every step has its serials
-new-some : (s : Step) → 1 ≤ newOf s
+new-some : (s : Step) → 1 ≤ new_of s
 new-some (booking m p r s) = omega (arith, new_two s)
 new-some (removal m room) = omega arith
 
@@ -208,7 +208,7 @@ new-some (removal m room) = omega arith
 pub record Reached (l : Layout) (ss : List Step) (n : Layout) : Type 0 where
   pub sized : Sized n
   pub sound : SoundLayout l → SoundLayout n
-  pub serial : n.serial ≡ l.serial + total newOf ss
+  pub serial : n.serial ≡ l.serial + total new_of ss
 
 pub reached : {l n : Layout} {ss : List Step} → Sized l → AllAccepted l ss n → Reached l ss n
 reached sized orders.nothing = record { sized = sized; sound = λ h. h; serial = omega arith }
@@ -220,7 +220,7 @@ reached {l = l} {n = n} sized (orders.then {k = k} s ss a run) =
 -- a step that is ready stays so, and would bring the same part numbers out, where the steps that are made are not in its way
 pub record Still (l n : Layout) (s : Step) : Type 0 where
   pub ready : Ready n s
-  pub numbers : numbersOut n (place_of s) ≡ numbersOut l (place_of s)
+  pub numbers : numbers_out n (place_of s) ≡ numbers_out l (place_of s)
 
 pub still : {l n : Layout} {ss : List Step} → Sized l → AllAccepted l ss n → Each (Old l) ss → (s : Step) → Each (λ t. Lets l t s) ss → Ready l s
     → Still l n s
@@ -257,7 +257,7 @@ module _ {l k : Layout} {ss : List Step} (sized : Sized l) (named : Naming l ss)
       still sized run (all_old sized run named) s (each_map (Apart l s) (λ u. Lets l u s) (λ u z. apart-lets (apart-back z)) ss apart) ready
 
 pub only-eight-or-nine : {l k : Layout} {ss : List Step} → Sized l → Naming l ss → (s : Step) → Each (Apart l s) ss → AllAccepted l ss k
-    → OnlyEightOrNine (refusalOf l s) → OnlyEightOrNine (refusalOf k s) × (numbersOut k (place_of s) ≡ numbersOut l (place_of s))
+    → OnlyEightOrNine (refusal_of l s) → OnlyEightOrNine (refusal_of k s) × (numbers_out k (place_of s) ≡ numbers_out l (place_of s))
 only-eight-or-nine sized named s apart orders.nothing h = (h, refl)
 only-eight-or-nine {l = l} {k = k} sized named s apart (orders.then {k = n} t ts a rest) h =
     let run = orders.then t ts a rest in
@@ -271,7 +271,7 @@ only-eight-or-nine {l = l} {k = k} sized named s apart (orders.then {k = n} t ts
     (λ spent. absurd (omega (arith, st.serial, new-some t, st.leaves.after.serials.spent))) (asked-ready l sized s h)
 
 -- a list with a step in it starts from a sound layout
-start-sound : {l n : Layout} {ss : List Step} → Sized l → AllAccepted l ss n → 1 ≤ total newOf ss → SoundLayout l
+start-sound : {l n : Layout} {ss : List Step} → Sized l → AllAccepted l ss n → 1 ≤ total new_of ss → SoundLayout l
 start-sound sized orders.nothing h = absurd (omega arith)
 start-sound {l = l} sized (orders.then {k = k} s ss a run) h = (stepped l sized s k a).leaves.before
 
@@ -281,7 +281,7 @@ pub record Next (n k : Layout) (s : Step) : Type 0 where
   pub sized : Sized k
   pub sound : SoundLayout k
   pub ready : Ready k s
-  pub enough : k.serial + newOf s ≤ maxSerial
+  pub enough : k.serial + new_of s ≤ max_serial
 
 pub is-next : {l n k : Layout} {ss : List Step} → Sized l → Naming l ss → Pairwise (Apart l) ss → AllAccepted l ss n
     → (before : List Step) (s : Step) (after : List Step) → Reordered ss (before ++ (s ∷ after)) → AllAccepted l before k → Next n k s
@@ -294,8 +294,8 @@ is-next {l} {n} {k} {ss} sized named apart run before s after r part =
     let here = reached sized part in
     let end = reached sized run in
     -- the serials of those before and of s are among those of the list
-    let sum = total-at newOf s before after in
-    let same = total-reordered newOf r in
+    let sum = total-at new_of s before after in
+    let same = total-reordered new_of r in
     let sound = start-sound sized run (omega (arith, same, sum.1, new-some s)) in
     record {
       end = end.sound sound;
@@ -306,6 +306,6 @@ is-next {l} {n} {k} {ss} sized named apart run before s after r part =
     }
 
 pub only-eight : {l n k : Layout} {ss : List Step} → Sized l → Naming l ss → Pairwise (Apart l) ss → AllAccepted l ss n
-    → (before : List Step) (s : Step) (after : List Step) → Reordered ss (before ++ (s ∷ after)) → AllAccepted l before k → OnlyEight (refusalOf k s)
+    → (before : List Step) (s : Step) (after : List Step) → Reordered ss (before ++ (s ∷ after)) → AllAccepted l before k → OnlyEight (refusal_of k s)
 only-eight {k = k} sized named apart run before s after r part =
     let z = is-next sized named apart run before s after r part in ready-eight k z.sized z.sound s z.ready z.enough

@@ -31,14 +31,14 @@ use Rattle.layout.specs.declared.replies.Outcome.TheVariants.{Done}
 use Rattle.layout.specs.declared.insert.Inserted.{Inserted}
 use Rattle.layout.specs.declared.remove.Removed.{Removed}
 use Rattle.layout.specs.declared.tidy.Tidied.{Tidied}
-use Rattle.layout.specs.Check.{limit, maxSerial, tree, domainB, soundB}
+use Rattle.layout.specs.Check.{limit, max_serial, tree, domain_b, sound_b}
 use Rattle.layout.specs.SoundLayout.{Sized, SoundLayout}
-use Rattle.layout.specs.Open.{freshLayout, openOf}
-use Rattle.layout.specs.Insert.{bookingFor, insertIs, insertNo, InsertDone, InsertSays, piece_at}
+use Rattle.layout.specs.Open.{fresh_layout, open_of}
+use Rattle.layout.specs.Insert.{booking_for, insert_is, insert_no, InsertDone, InsertSays, piece_at}
 use Rattle.layout.specs.Inner.{Insertable, Takeable}
-use Rattle.layout.specs.Remove.{removeIs, removeNo, RemoveDone, RemoveSays, numbersOut, roomNo}
-use Rattle.layout.specs.Tidy.{TidyDone, TidySays, tidyIs, tidyNo}
-use Rattle.layout.specs.Restore.{greater, withSerial, restoreOf}
+use Rattle.layout.specs.Remove.{remove_is, remove_no, RemoveDone, RemoveSays, numbers_out, room_no}
+use Rattle.layout.specs.Tidy.{TidyDone, TidySays, tidy_is, tidy_no}
+use Rattle.layout.specs.Restore.{greater, with_serial, restore_of}
 use Rattle.layout.proofs.Exactly.{sound-says}
 use Rattle.layout.proofs.Listed.{piece_is}
 use Rattle.layout.proofs.Marks.{sought-names}
@@ -53,14 +53,14 @@ use Rattle.demands.specs.Calls.{InsertAccepted, RemoveAccepted, TidyAccepted}
 
 -- it was accepted: the layout is the fresh one, and the mark that of its free piece
 pub opened-so : (o : Opening) (m : Mark)
-    → (openOf o).outcome ≡ opening.Free m
-    → (domainB o.settings ≡ true) × ((openOf o).layout ≡ freshLayout o)
+    → (open_of o).outcome ≡ opening.Free m
+    → (domain_b o.settings ≡ true) × ((open_of o).layout ≡ fresh_layout o)
     × (m ≡ record { layout = o.number; place = 1; serial = 2 })
-unfolding openOf
-opened-so o m h = go (domainB o.settings) refl
+unfolding open_of
+opened-so o m h = go (domain_b o.settings) refl
   where
-    go : (b : Bool) → domainB o.settings ≡ b
-        → (domainB o.settings ≡ true) × ((openOf o).layout ≡ freshLayout o)
+    go : (b : Bool) → domain_b o.settings ≡ b
+        → (domain_b o.settings ≡ true) × ((open_of o).layout ≡ fresh_layout o)
         × (m ≡ record { layout = o.number; place = 1; serial = 2 })
     go true e = let z = rw e at h in (e, rw e refl, cc)
     go false e = let z = rw e at h in absurd (clash (cc))
@@ -69,12 +69,12 @@ opened-so o m h = go (domainB o.settings) refl
 
 -- it is refused, and the layout is as it came; or it is accepted
 pub inserted-so : (l : Layout) (m : Mark) (p : PartType) (r : Rotation) (s : InsertionShape) (a : Inserted) → Sized l → InsertSays l m p r s a
-    → (a.layout ≡ l) ⊎ (Insertable l m.place p r s × InsertDone l m.place (bookingFor l m.place p r s) a)
+    → (a.layout ≡ l) ⊎ (Insertable l m.place p r s × InsertDone l m.place (booking_for l m.place p r s) a)
 unfolding InsertSays
-inserted-so l m p r s a sized says = go (insertNo l m p r s) refl says
+inserted-so l m p r s a sized says = go (insert_no l m p r s) refl says
   where
-    go : (o : Option Refusal) → insertNo l m p r s ≡ o → insertIs o l m.place (bookingFor l m.place p r s) a
-        → (a.layout ≡ l) ⊎ (Insertable l m.place p r s × InsertDone l m.place (bookingFor l m.place p r s) a)
+    go : (o : Option Refusal) → insert_no l m p r s ≡ o → insert_is o l m.place (booking_for l m.place p r s) a
+        → (a.layout ≡ l) ⊎ (Insertable l m.place p r s × InsertDone l m.place (booking_for l m.place p r s) a)
     go none e done = inr (insertable l m p r s sized e, done)
     go (some e) z refused = inl (ap (λ (n : Inserted). n.layout) refused)
 
@@ -84,14 +84,14 @@ pub record InsertMeans (l : Layout) (m : Mark) (p : PartType) (r : Rotation) (s 
   pub number : m.layout ≡ l.number
   pub serial : (piece_at l m.place).serial ≡ m.serial
   pub inside : fits (piece_at l m.place).size (turned r p.size) ≡ true
-  pub fresh : Fresh limit m.place (bookingFor l m.place p r s) (tree l)
-  pub done : InsertDone l m.place (bookingFor l m.place p r s) a
+  pub fresh : Fresh limit m.place (booking_for l m.place p r s) (tree l)
+  pub done : InsertDone l m.place (booking_for l m.place p r s) a
 
 -- a booking that is accepted has new places: "A new node takes the lowest unheld place"
 pub insertable-fresh : (l : Layout) (x : ℕ) (p : PartType) (r : Rotation) (s : InsertionShape) → Insertable l x p r s
-    → Fresh limit x (bookingFor l x p r s) (tree l)
+    → Fresh limit x (booking_for l x p r s) (tree l)
 insertable-fresh l x p r s y =
-    fresh-booking limit l.settings (tree l) y.sound.sound x (piece_at l x) y.there y.free (bookingFor l x p r s)
+    fresh-booking limit l.settings (tree l) y.sound.sound x (piece_at l x) y.there y.free (booking_for l x p r s)
     (λ j h. refl) (omega (arith, y.room, y.sound.held))
 
 pub accepted-insert : (l : Layout) (m : Mark) (p : PartType) (r : Rotation) (s : InsertionShape) (a : Inserted) → Sized l
@@ -117,9 +117,9 @@ insert-names i = record { number = i.number; there = i.insertable.there; serial 
 pub removed-so : (l : Layout) (m : Mark) (room : ℕ) (a : Removed) → Sized l → RemoveSays l m room a
     → (a.layout ≡ l) ⊎ (Takeable l m.place × RemoveDone l m.place a)
 unfolding RemoveSays
-removed-so l m room a sized says = go (removeNo l m room) refl says
+removed-so l m room a sized says = go (remove_no l m room) refl says
   where
-    go : (o : Option Refusal) → removeNo l m room ≡ o → removeIs o l m.place a
+    go : (o : Option Refusal) → remove_no l m room ≡ o → remove_is o l m.place a
         → (a.layout ≡ l) ⊎ (Takeable l m.place × RemoveDone l m.place a)
     go none e done = inr (may-take l m room sized e, done)
     go (some e) z refused = inl (ap (λ (n : Removed). n.layout) refused)
@@ -129,14 +129,14 @@ pub record RemoveMeans (l : Layout) (m : Mark) (room : ℕ) (a : Removed) : Type
   pub takeable : Takeable l m.place
   pub number : m.layout ≡ l.number
   pub serial : (piece_at l m.place).serial ≡ m.serial
-  pub fits : length (numbersOut l m.place) ≤ room
+  pub fits : length (numbers_out l m.place) ≤ room
   pub done : RemoveDone l m.place a
 
 -- refusal 13 does not apply
-room-past : (l : Layout) (x room : ℕ) → roomNo l x room ≡ none → length (numbersOut l x) ≤ room
-unfolding roomNo
+room-past : (l : Layout) (x room : ℕ) → room_no l x room ≡ none → length (numbers_out l x) ≤ room
+unfolding room_no
 room-past l x room h =
-    leb-true (length (numbersOut l x)) room (passed (leb (length (numbersOut l x)) room) none BufferTooShort h).0
+    leb-true (length (numbers_out l x)) room (passed (leb (length (numbers_out l x)) room) none BufferTooShort h).0
 
 pub accepted-remove : (l : Layout) (m : Mark) (room : ℕ) (a : Removed) → Sized l → RemoveAccepted l m room a → RemoveMeans l m room a
 accepted-remove l m room a sized h =
@@ -166,25 +166,25 @@ remove-names {l} {m} i =
 -- what an accepted `tidy` had before it, and what came of it
 pub record TidyMeans (l : Layout) (a : Tidied) : Type 0 where
   pub was : SoundLayout l
-  pub enough : l.serial + empties (tree l) ≤ maxSerial
+  pub enough : l.serial + empties (tree l) ≤ max_serial
   pub done : TidyDone l a
   pub means : TidiesMeans l a.count a.layout
 
 -- refusals 1 and 9 do not apply
-not-refused : (l : Layout) (a : Tidied) → Sized l → tidyNo l ≡ none → TidyDone l a → TidyMeans l a
-unfolding tidyNo
+not-refused : (l : Layout) (a : Tidied) → Sized l → tidy_no l ≡ none → TidyDone l a → TidyMeans l a
+unfolding tidy_no
 not-refused l a sized h done =
     let sum = l.serial + empties (tree l) in
-    let p = passed (soundB l) _ NotSound h in
+    let p = passed (sound_b l) _ NotSound h in
     let was = sound-says l sized p.0 in
-    let enough = leb-true sum maxSerial (passed (leb sum maxSerial) none SerialsSpent p.1).0 in
+    let enough = leb-true sum max_serial (passed (leb sum max_serial) none SerialsSpent p.1).0 in
     record { was = was; enough = enough; done = done; means = tidies-means was sized enough done.tidies }
 
 pub tidied-so : (l : Layout) (a : Tidied) → Sized l → TidySays l a → (a.layout ≡ l) ⊎ TidyMeans l a
 unfolding TidySays
-tidied-so l a sized says = go (tidyNo l) refl says
+tidied-so l a sized says = go (tidy_no l) refl says
   where
-    go : (o : Option Refusal) → tidyNo l ≡ o → tidyIs o l a → (a.layout ≡ l) ⊎ TidyMeans l a
+    go : (o : Option Refusal) → tidy_no l ≡ o → tidy_is o l a → (a.layout ≡ l) ⊎ TidyMeans l a
     go none e done = inr (not-refused l a sized e done)
     go (some e) z refused = inl (ap (λ (n : Tidied). n.layout) refused)
 
@@ -195,17 +195,17 @@ accepted-tidy l a sized h = let d = tidy-accepted l a h.says h.done in not-refus
 
 -- k is put back: both are sound, and of one number
 pub record PutBack (l k : Layout) : Type 0 where
-  pub was : soundB l ≡ true
-  pub kept : soundB k ≡ true
+  pub was : sound_b l ≡ true
+  pub kept : sound_b k ≡ true
   pub number : k.number ≡ l.number
-  pub is : (restoreOf l k).layout ≡ withSerial k (greater l.serial k.serial)
+  pub is : (restore_of l k).layout ≡ with_serial k (greater l.serial k.serial)
 
-pub restored-so : (l k : Layout) → (((restoreOf l k).outcome ≡ Done → ⊥) × ((restoreOf l k).layout ≡ l)) ⊎ PutBack l k
-unfolding restoreOf
-restored-so l k = go (soundB l) (soundB k) (eqb l.number k.number) refl refl refl
+pub restored-so : (l k : Layout) → (((restore_of l k).outcome ≡ Done → ⊥) × ((restore_of l k).layout ≡ l)) ⊎ PutBack l k
+unfolding restore_of
+restored-so l k = go (sound_b l) (sound_b k) (eqb l.number k.number) refl refl refl
   where
-    go : (a b c : Bool) → soundB l ≡ a → soundB k ≡ b → eqb l.number k.number ≡ c
-        → (((restoreOf l k).outcome ≡ Done → ⊥) × ((restoreOf l k).layout ≡ l)) ⊎ PutBack l k
+    go : (a b c : Bool) → sound_b l ≡ a → sound_b k ≡ b → eqb l.number k.number ≡ c
+        → (((restore_of l k).outcome ≡ Done → ⊥) × ((restore_of l k).layout ≡ l)) ⊎ PutBack l k
     go true true true x y z =
         inr (record { was = x; kept = y; number = sym (eqb-true l.number k.number z); is = rw (x, y, z) refl })
     go true true false x y z = inl (rw (x, y, z) ((λ d. clash (cc)), refl))

@@ -7,11 +7,11 @@ use mathlib.Core.Option.{none, some}
 use Prim.Native.Nat.{ℕ, ◌+◌, ◌-◌}
 use native.Mathlib.Omega.{arith}
 use borrow.Author.Tests.{eq-eqb, le-leb}
-use Rattle.piece.specs.Insertion.{newNodes}
+use Rattle.piece.specs.Insertion.{new_nodes}
 use Rattle.piece.specs.Offers.{turned}
 use Rattle.lists.proofs.Scan.{clash}
 use Rattle.tree.specs.Snapshot.{shape}
-use Rattle.tree.specs.AtOnce.{at_once, deedAt, takes}
+use Rattle.tree.specs.AtOnce.{at_once, deed_at, takes}
 use Rattle.tree.proofs.Rows.{at_in}
 use Rattle.tree.proofs.Grown.{grows, same_count}
 use Rattle.tree.proofs.Laws.AtOnce.{any-list-order}
@@ -20,7 +20,7 @@ use Rattle.layout.specs.Check.{limit, tree}
 use Rattle.layout.specs.SoundLayout.{Sized}
 use Rattle.layout.specs.Insert.{piece_at}
 use Rattle.layout.proofs.Admitted.{sound-counts}
-use Rattle.demands.specs.Orders.{AllAccepted, Apart, Books, Each, Naming, Pairwise, RemovalsFirst, Reordered, Step, booking, refusalOf, removal}
+use Rattle.demands.specs.Orders.{AllAccepted, Apart, Books, Each, Naming, Pairwise, RemovalsFirst, Reordered, Step, booking, refusal_of, removal}
 use Rattle.demands.specs.Orders as orders
 use Rattle.demands.proofs.Stepped.{Lets, Ready, apart-back, apart-lets, left_other, lets-after, ready-after, stepped}
 use Rattle.demands.proofs.Reordering.{each-before, each-behind, each_both, each-joined, each_map, each-reordered, pairs-across, pairs-map, pairs-reordered}
@@ -62,7 +62,7 @@ books-behind (removal m room) b [] after h = absurd b
 books-behind m b (booking m' p r s ∷ before) after h = (each-behind Books before (m ∷ after) h).1
 books-behind m b (removal m' room ∷ before) after h = books-behind m b before after h
 
-takes_none : (blade : ℕ) (ss : List Step) → Each Books ss → (y n s : ℕ) → deedAt y (tasks blade ss) ≡ some (takes n s) → ⊥
+takes_none : (blade : ℕ) (ss : List Step) → Each Books ss → (y n s : ℕ) → deed_at y (tasks blade ss) ≡ some (takes n s) → ⊥
 takes_none blade ss all y n s e =
     task-is (λ i g. (m u : ℕ) → g ≡ takes m u → ⊥) blade ss
     (each_map Books (λ t. (m u : ℕ) → deed_of blade t ≡ takes m u → ⊥) (λ t b. is-booking t b) ss all) y (takes n s) e n s refl
@@ -93,7 +93,7 @@ module _ {l n k : Layout} {ss : List Step} (sized : Sized l) (named : Naming l s
       (p.ready, at-once sized run old ∙ ap shape list ∙ sym p.same)
 
   pub removals-first : (s : Step) → Reordered ss (before ++ (s ∷ after)) → AllAccepted l before k → RemovalsFirst (before ++ (s ∷ after))
-      → refusalOf k s ≡ none
+      → refusal_of k s ≡ none
   removals-first (removal m room) r part order =
       let z = is-next sized named apart run before (removal m room) after r part in ready-none k z.sized z.sound (removal m room) z.ready z.enough refl
   removals-first (booking m p t i) r part order =
@@ -113,7 +113,7 @@ module _ {l n k : Layout} {ss : List Step} (sized : Sized l) (named : Naming l s
       (rw (eq-eqb m.place m.place refl) refl) (tree k) z.sound.sound suited (at_in m.place (piece_at k m.place) (tree k) there)
       in
       ready-none k z.sized z.sound s z.ready z.enough
-      (le-leb (k.held - 1 + newNodes i) limit
+      (le-leb (k.held - 1 + new_nodes i) limit
       (omega (
         arith,
         more,

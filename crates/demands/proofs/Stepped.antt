@@ -14,14 +14,14 @@ use Rattle.piece.specs.declared.parttype.PartType.{PartType}
 use Rattle.piece.specs.declared.node.Datum.{Datum}
 use Rattle.piece.specs.declared.node.Kind.TheVariants.{Free}
 use Rattle.piece.specs.declared.insertion_blueprint.InsertionShape.{InsertionShape}
-use Rattle.piece.specs.Insertion.{newNodes}
-use Rattle.piece.specs.Kinds.{isFree}
-use Rattle.piece.specs.Offered.{offeredB}
+use Rattle.piece.specs.Insertion.{new_nodes}
+use Rattle.piece.specs.Kinds.{is_free}
+use Rattle.piece.specs.Offered.{offered_b}
 use Rattle.tree.specs.Tree.{Tree, In, At, Inside, change, count}
 use Rattle.tree.specs.Removal.{cleared, numbers, subtree}
 use Rattle.tree.specs.Steps.{less}
 use Rattle.tree.specs.Apart.{Clear}
-use Rattle.tree.specs.Family.{newPlace, parent_of}
+use Rattle.tree.specs.Family.{new_place, parent_of}
 use Rattle.tree.proofs.Rows.{at_in, in-eq}
 use Rattle.tree.proofs.Family.{new-place-absent}
 use Rattle.tree.proofs.Stays.{at-cleared, less-at}
@@ -36,80 +36,80 @@ use Rattle.layout.specs.declared.layout.Layout.{Layout}
 use Rattle.layout.specs.declared.insert.Inserted.{Inserted}
 use Rattle.layout.specs.declared.remove.Removed.{Removed}
 use Rattle.layout.specs.Check.{limit, tree}
-use Rattle.layout.specs.Asked.{partB}
+use Rattle.layout.specs.Asked.{part_b}
 use Rattle.layout.specs.SoundLayout.{Sized}
-use Rattle.layout.specs.Insert.{bookingFor, piece_at}
-use Rattle.layout.specs.Remove.{numbersOut, placeFor}
+use Rattle.layout.specs.Insert.{booking_for, piece_at}
+use Rattle.layout.specs.Remove.{numbers_out, place_for}
 use Rattle.layout.specs.Inner.{Insertable}
 use Rattle.layout.proofs.Listed.{piece_is}
 use Rattle.demands.specs.Life.{NamesPiece}
-use Rattle.demands.specs.Orders.{Accepted, Apart, Mixed, Step, booking, markOf, place_of, removal}
+use Rattle.demands.specs.Orders.{Accepted, Apart, Mixed, Step, booking, mark_of, place_of, removal}
 use Rattle.demands.proofs.Outcomes.{InsertMeans, RemoveMeans, accepted-insert, accepted-remove, insert-names, remove-names}
 use Rattle.demands.proofs.Leaves.{Leaves, insert-leaves, new-unheld, piece-now, names-left, names-stay, remove-leaves}
 
 -- ---- what a step does
 
 -- to the tree of the layout l; and how many nodes are new
-abbrev pub deedOn : Layout → Step → Deed
-deedOn l (booking m p r s) = books (bookingFor l m.place p r s)
-deedOn l (removal m room) = takes (placeFor l m.place) (l.serial + 1)
+abbrev pub deed_on : Layout → Step → Deed
+deed_on l (booking m p r s) = books (booking_for l m.place p r s)
+deed_on l (removal m room) = takes (place_for l m.place) (l.serial + 1)
 
-abbrev pub newOf : Step → ℕ
-newOf (booking m p r s) = newNodes s
-newOf (removal m room) = 1
+abbrev pub new_of : Step → ℕ
+new_of (booking m p r s) = new_nodes s
+new_of (removal m room) = 1
 
 -- the pieces of l that it leaves
-abbrev pub leftBy : Layout → Step → Tree
-leftBy l s = leaves (deedOn l s) (place_of s) (tree l)
+abbrev pub left_by : Layout → Step → Tree
+left_by l s = leaves (deed_on l s) (place_of s) (tree l)
 
 -- the step asks for a piece of this kind: free to book in, a part or a structure below the top to remove
 abbrev pub Meets : Step → Datum → Type 0
 Meets (booking m p r s) d = d.kind ≡ Free
-Meets (removal m room) d = (isFree d.kind ≡ false) × (m.place ≡ 0 → ⊥)
+Meets (removal m room) d = (is_free d.kind ≡ false) × (m.place ≡ 0 → ⊥)
 
 -- and this of the layout, but for refusals 8 and 9: the part and an offer; room in the buffer
 abbrev pub Asks : Layout → Step → Type 0
-Asks l (booking m p r s) = (partB p ≡ true) × (offeredB (piece_at l m.place) p l.settings r s ≡ true)
-Asks l (removal m room) = length (numbersOut l m.place) ≤ room
+Asks l (booking m p r s) = (part_b p ≡ true) × (offered_b (piece_at l m.place) p l.settings r s ≡ true)
+Asks l (removal m room) = length (numbers_out l m.place) ≤ room
 
 -- the test of refusal 8
-abbrev pub roomB : Layout → Step → Bool
-roomB l (booking m p r s) = leb (l.held - 1 + newNodes s) limit
-roomB l (removal m room) = true
+abbrev pub room_b : Layout → Step → Bool
+room_b l (booking m p r s) = leb (l.held - 1 + new_nodes s) limit
+room_b l (removal m room) = true
 
 -- how many nodes are held afterwards
 abbrev pub Holding : Layout → Step → Layout → Type 0
-Holding l (booking m p r s) n = n.held + 1 ≡ l.held + newNodes s
+Holding l (booking m p r s) n = n.held + 1 ≡ l.held + new_nodes s
 Holding l (removal m room) n = n.held ≤ l.held
 
 -- nothing but 8 or 9 is in its way
 pub record Ready (l : Layout) (s : Step) : Type 0 where
-  pub names : NamesPiece l (markOf s)
+  pub names : NamesPiece l (mark_of s)
   pub meets : Meets s (piece_at l (place_of s))
   pub asks : Asks l s
 
 pub record Stepped (l : Layout) (s : Step) (n : Layout) : Type 0 where
   pub sized : Sized n
   pub ready : Ready l s
-  pub room : roomB l s ≡ true
+  pub room : room_b l s ≡ true
   pub held : Holding l s n
   pub settings : n.settings ≡ l.settings
-  pub serial : n.serial ≡ l.serial + newOf s
-  pub tree : tree n ≡ change (place_of s) (does (deedOn l s)) (tree l)
-  pub leaves : Leaves l n (leftBy l s)
-  pub spares : (y : ℕ) (e : Datum) → At y e (leftBy l s) → Spares y (deedOn l s)
+  pub serial : n.serial ≡ l.serial + new_of s
+  pub tree : tree n ≡ change (place_of s) (does (deed_on l s)) (tree l)
+  pub leaves : Leaves l n (left_by l s)
+  pub spares : (y : ℕ) (e : Datum) → At y e (left_by l s) → Spares y (deed_on l s)
 
 -- ---- a booking
 
 module _ (l : Layout) (x : ℕ) (p : PartType) (r : Rotation) (s : InsertionShape) (can : Insertable l x p r s) where
   -- no new node gets the place of a piece that is left
-  booking-spares : (y : ℕ) (e : Datum) → At y e (less x (tree l)) → Clear y (bookingFor l x p r s)
-  booking-spares y e stays j few z = go (dec_lt (newPlace limit (less x (tree l)) j) limit)
+  booking-spares : (y : ℕ) (e : Datum) → At y e (less x (tree l)) → Clear y (booking_for l x p r s)
+  booking-spares y e stays j few z = go (dec_lt (new_place limit (less x (tree l)) j) limit)
     where
       is-left : In y (less x (tree l))
       is-left = at_in y e (less x (tree l)) stays
 
-      go : Dec (newPlace limit (less x (tree l)) j < limit) → ⊥
+      go : Dec (new_place limit (less x (tree l)) j < limit) → ⊥
       go (yes low) = new-place-absent limit (less x (tree l)) j low (in-eq (less x (tree l)) (sym z) is-left)
       go (no high) = let low = can.sound.sound.placed y (at_in y e (tree l) (less-at y e x (tree l) stays)) in high (omega arith)
 
@@ -121,13 +121,13 @@ booked l m p r s a i =
     record {
       sized = next.sized;
       ready = record { names = insert-names i; meets = can.free; asks = (can.part, can.offered) };
-      room = le-leb (l.held - 1 + newNodes s) limit can.room;
+      room = le-leb (l.held - 1 + new_nodes s) limit can.room;
       held =
           omega (
             arith,
             next.sound.held,
             ap count next.tree,
-            count-book limit l.settings (tree l) m.place (piece_at l m.place) (bookingFor l m.place p r s) can.sound.sound can.there
+            count-book limit l.settings (tree l) m.place (piece_at l m.place) (booking_for l m.place p r s) can.sound.sound can.there
                 can.free,
             can.sound.held,
           );
@@ -145,7 +145,7 @@ took-out l m room a i =
     let can = i.takeable in
     let next = i.done.next in
     let o = can.removable in
-    let solid : isFree (piece_at l m.place).kind ≡ false =
+    let solid : is_free (piece_at l m.place).kind ≡ false =
     rw (piece_is l.nodes (tree l) can.sound.holds m.place o.piece o.there) o.solid
     in
     record {
@@ -157,7 +157,7 @@ took-out l m room a i =
             arith,
             next.sound.held,
             ap count next.tree,
-            count-remove m.place (placeFor l m.place) (l.serial + 1) (tree l),
+            count-remove m.place (place_for l m.place) (l.serial + 1) (tree l),
             can.sound.held,
           );
       settings = next.settings;
@@ -206,8 +206,8 @@ apart-back {l} {s} {s'} a =
     record { different = λ e. a.different (sym e); outside = a.inside; inside = a.outside; parents = λ j e. a.parents (mixed-back s s' j) (sym e) }
 
 -- what is left keeps all that is below it, if the step's piece is not inside it
-subtree-same : {l n : Layout} (s : Step) → Stepped l s n → (y : ℕ) (e : Datum) → At y e (leftBy l s) → (Inside y (place_of s) (tree l) → ⊥)
-    → subtree y (change (place_of s) (does (deedOn l s)) (tree l)) ≡ subtree y (tree l)
+subtree-same : {l n : Layout} (s : Step) → Stepped l s n → (y : ℕ) (e : Datum) → At y e (left_by l s) → (Inside y (place_of s) (tree l) → ⊥)
+    → subtree y (change (place_of s) (does (deed_on l s)) (tree l)) ≡ subtree y (tree l)
 subtree-same {l} (booking m p r s) st y e h out =
     let x = m.place in
     let d = piece_at l x in
@@ -216,14 +216,14 @@ subtree-same {l} (booking m p r s) st y e h out =
     let other : y ≡ x → ⊥ =
     λ z. less-gone limit l.settings (tree l) w x d there st.ready.meets (in-eq (less x (tree l)) z (at_in y e (less x (tree l)) h))
     in
-    subtree-booked x d (bookingFor l x p r s) y other (st.spares y e h) (tree l)
+    subtree-booked x d (booking_for l x p r s) y other (st.spares y e h) (tree l)
     (free-alone l.settings x d (tree l) w.topped w.distinct there st.ready.meets) out
 subtree-same {l} (removal m room) st y e h out =
-    subtree-beside m.place (placeFor l m.place) (l.serial + 1) y (st.spares y e h) (tree l) st.leaves.before.sound.distinct
+    subtree-beside m.place (place_for l m.place) (l.serial + 1) y (st.spares y e h) (tree l) st.leaves.before.sound.distinct
     (at_in y e (cleared m.place (tree l)) h) out
 
 -- a step leaves the piece of another one that it is not in the way of
-pub left_other : {l n : Layout} (s : Step) → Stepped l s n → (s' : Step) → Lets l s s' → Ready l s' → At (place_of s') (piece_at l (place_of s')) (leftBy l s)
+pub left_other : {l n : Layout} (s : Step) → Stepped l s n → (s' : Step) → Lets l s s' → Ready l s' → At (place_of s') (piece_at l (place_of s')) (left_by l s)
 left_other {l} (booking m p r s) st s' lets ready =
     less-keeps limit l.settings (tree l) st.leaves.before.sound m.place (piece_at l m.place) st.ready.names.there st.ready.meets
     (place_of s') (piece_at l (place_of s')) ready.names.there (λ z. lets.different (sym z))
@@ -237,7 +237,7 @@ left_other {l} (removal m room) st (removal m' room') lets ready =
 
 -- what a step asks of two layouts in which its piece, the settings and the part numbers that come out are the same
 asks-same : (l n : Layout) (s : Step) → piece_at n (place_of s) ≡ piece_at l (place_of s) → n.settings ≡ l.settings
-    → numbersOut n (place_of s) ≡ numbersOut l (place_of s) → Asks l s → Asks n s
+    → numbers_out n (place_of s) ≡ numbers_out l (place_of s) → Asks l s → Asks n s
 asks-same l n (booking m p r s) piece settings out a = (a.0, rw (piece, settings) a.1)
 asks-same l n (removal m room) piece settings out a = rw out a
 
@@ -246,11 +246,11 @@ module _ {l n : Layout} {s : Step} (st : Stepped l s n) where
   x = place_of s
 
   -- what is left was this piece
-  piece-was : (y : ℕ) (e : Datum) → At y e (leftBy l s) → piece_at l y ≡ e
+  piece-was : (y : ℕ) (e : Datum) → At y e (left_by l s) → piece_at l y ≡ e
   piece-was y e h = piece_is l.nodes (tree l) st.leaves.before.holds y e (st.leaves.was y e h)
 
   -- a mark that was issued before and names a piece afterwards names one that is left, so it named it before
-  pub old-left : (m : Mark) → NamesPiece n m → m.serial ≤ l.serial → At m.place (piece_at n m.place) (leftBy l s)
+  pub old-left : (m : Mark) → NamesPiece n m → m.serial ≤ l.serial → At m.place (piece_at n m.place) (left_by l s)
   old-left m now old =
       ⊎_elim (λ z. z) (λ z. absurd (omega (arith, now.serial))) (st.leaves.pieces m.place (piece_at n m.place) now.there)
 
@@ -267,7 +267,7 @@ module _ {l n : Layout} {s : Step} (st : Stepped l s n) where
       )
 
   -- a step whose piece is left, and does not hold that of s: it asks the same as before
-  module _ (s' : Step) (h : At (place_of s') (piece_at l (place_of s')) (leftBy l s)) where
+  module _ (s' : Step) (h : At (place_of s') (piece_at l (place_of s')) (left_by l s)) where
     abbrev y : ℕ
     y = place_of s'
 
@@ -275,15 +275,15 @@ module _ {l n : Layout} {s : Step} (st : Stepped l s n) where
     now = piece-now st.leaves y (piece_at l y) h
 
     module _ (out : Inside y x (tree l) → ⊥) where
-      pub numbers-same : numbersOut n y ≡ numbersOut l y
-      unfolding numbersOut
+      pub numbers-same : numbers_out n y ≡ numbers_out l y
+      unfolding numbers_out
       numbers-same = rw st.tree (ap numbers (subtree-same s st y (piece_at l y) h out))
 
-      ready-same : (NamesPiece l (markOf s') → Ready n s' → Ready l s') × (Ready l s' → Ready n s')
+      ready-same : (NamesPiece l (mark_of s') → Ready n s' → Ready l s') × (Ready l s' → Ready n s')
       ready-same = (
         (λ named r. record { names = named; meets = rw (← now) r.meets; asks = asks-same n l s' (sym now) (sym st.settings) (sym numbers-same) r.asks }),
         λ r. record {
-          names = names-stay st.leaves (markOf s') r.names h;
+          names = names-stay st.leaves (mark_of s') r.names h;
           meets = rw now r.meets;
           asks = asks-same l n s' now st.settings numbers-same r.asks;
         },
@@ -294,12 +294,12 @@ module _ {l n : Layout} {s : Step} (st : Stepped l s n) where
   ready-after s' lets ready = (ready-same s' (left_other s st s' lets ready) lets.inside).1 ready
 
   -- and one that is ready was so, if its mark was there
-  pub ready-before : (s' : Step) → (Inside (place_of s') x (tree l) → ⊥) → NamesPiece l (markOf s') → Ready n s' → Ready l s'
+  pub ready-before : (s' : Step) → (Inside (place_of s') x (tree l) → ⊥) → NamesPiece l (mark_of s') → Ready n s' → Ready l s'
   ready-before s' out named ready =
-      (ready-same s' (names-left st.leaves (markOf s') named ready.names) out).0 named ready
+      (ready-same s' (names-left st.leaves (mark_of s') named ready.names) out).0 named ready
 
   -- what is not in the way of another before is not in its way afterwards
-  pub lets-after : (s₁ s₂ : Step) → At (place_of s₁) (piece_at l (place_of s₁)) (leftBy l s) → At (place_of s₂) (piece_at l (place_of s₂)) (leftBy l s)
+  pub lets-after : (s₁ s₂ : Step) → At (place_of s₁) (piece_at l (place_of s₁)) (left_by l s) → At (place_of s₂) (piece_at l (place_of s₂)) (left_by l s)
       → Lets l s₁ s₂ → Lets n s₁ s₂
   lets-after s₁ s₂ h g lets =
       let a = place_of s₁ in
@@ -310,7 +310,7 @@ module _ {l n : Layout} {s : Step} (st : Stepped l s n) where
       let pb = (st.leaves.parent b (piece_at l b) g).same in
       record {
         different = lets.different;
-        outside = λ z. lets.outside (inside-was x (deedOn l s) a b sa sb (tree l) (rw st.tree at z));
-        inside = λ z. lets.inside (inside-was x (deedOn l s) b a sb sa (tree l) (rw st.tree at z));
+        outside = λ z. lets.outside (inside-was x (deed_on l s) a b sa sb (tree l) (rw st.tree at z));
+        inside = λ z. lets.inside (inside-was x (deed_on l s) b a sb sa (tree l) (rw st.tree at z));
         parents = λ j z. lets.parents j (sym pa ∙ z ∙ pb);
       }

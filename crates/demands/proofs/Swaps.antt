@@ -14,7 +14,7 @@ use Rattle.piece.specs.declared.parttype.PartType.{PartType}
 use Rattle.piece.specs.declared.node.Datum.{Datum}
 use Rattle.piece.specs.declared.node.Kind.TheVariants.{Free}
 use Rattle.piece.specs.declared.insertion_blueprint.InsertionShape.{InsertionShape}
-use Rattle.piece.specs.Insertion.{newNodes}
+use Rattle.piece.specs.Insertion.{new_nodes}
 use Rattle.tree.specs.Tree.{At, Inside}
 use Rattle.tree.specs.Removal.{cleared}
 use Rattle.tree.specs.Family.{parent_of}
@@ -28,18 +28,18 @@ use Rattle.layout.specs.declared.layout.Layout.{Layout}
 use Rattle.layout.specs.declared.replies.Outcome.TheVariants.{Refused}
 use Rattle.layout.specs.declared.insert.Inserted.{Inserted}
 use Rattle.layout.specs.declared.remove.Removed.{Removed}
-use Rattle.layout.specs.Check.{limit, maxSerial, tree}
+use Rattle.layout.specs.Check.{limit, max_serial, tree}
 use Rattle.layout.specs.SoundLayout.{Sized, SoundLayout}
-use Rattle.layout.specs.Insert.{InsertDone, InsertSays, bookingFor, insertNo, piece_at}
-use Rattle.layout.specs.Remove.{RemoveDone, RemoveSays, removeNo}
+use Rattle.layout.specs.Insert.{InsertDone, InsertSays, booking_for, insert_no, piece_at}
+use Rattle.layout.specs.Remove.{RemoveDone, RemoveSays, remove_no}
 use Rattle.layout.proofs.Admitted.{sound-counts}
 use Rattle.layout.proofs.Refusals.{refused-insert}
 use Rattle.demands.specs.Life.{NamesPiece}
 use Rattle.demands.specs.Calls.{InsertAccepted, RemoveAccepted, SameTree}
-use Rattle.demands.specs.Orders.{Accepted, OnlyEight, Step, booking, empty, first, markOf, nothing, place_of, refusalOf, removal, then}
+use Rattle.demands.specs.Orders.{Accepted, OnlyEight, Step, booking, empty, first, mark_of, nothing, place_of, refusal_of, removal, then}
 use Rattle.demands.proofs.BookedThenRemoved.{new_two}
 use Rattle.demands.proofs.Leaves.{names-left, piece-now}
-use Rattle.demands.proofs.Stepped.{Lets, Stepped, leftBy, newOf, ready-after, ready-before, roomB, stepped}
+use Rattle.demands.proofs.Stepped.{Lets, Stepped, left_by, new_of, ready-after, ready-before, room_b, stepped}
 use Rattle.demands.proofs.EveryOrder.{left-differs, same-tree}
 use Rattle.demands.proofs.NothingButEight.{ready-eight, ready-none}
 
@@ -51,7 +51,7 @@ free-hollow l sound x i d there free =
     let w = sound.sound in alone-inside x i d (tree l) (free-alone l.settings x d (tree l) w.topped w.distinct there free)
 
 -- what a step leaves was not inside its piece
-left-not-inside : {l n : Layout} (s : Step) → Stepped l s n → (y : ℕ) (e : Datum) → At y e (leftBy l s) → Inside (place_of s) y (tree l) → ⊥
+left-not-inside : {l n : Layout} (s : Step) → Stepped l s n → (y : ℕ) (e : Datum) → At y e (left_by l s) → Inside (place_of s) y (tree l) → ⊥
 left-not-inside {l} (booking m p r i) st y e h =
     free-hollow l st.leaves.before m.place y (piece_at l m.place) st.ready.names.there st.ready.meets
 left-not-inside {l} (removal m room) st y e h =
@@ -62,13 +62,13 @@ pub record Two (l : Layout) (s s' : Step) (a b : Layout) : Type 0 where
   pub sized : Sized l
   pub one : Accepted l s a
   pub two : Accepted a s' b
-  pub named : NamesPiece l (markOf s')
+  pub named : NamesPiece l (mark_of s')
 
 -- the other way round: s' on l, and then s, are refused with nothing but 8, and come to the same tree
 pub record Swapped (l : Layout) (s s' : Step) (b : Layout) : Type 0 where
-  pub first : OnlyEight (refusalOf l s')
-  pub roomy : roomB l s' ≡ true → refusalOf l s' ≡ none
-  pub then : (c : Layout) → Accepted l s' c → roomB c s ≡ true → refusalOf c s ≡ none
+  pub first : OnlyEight (refusal_of l s')
+  pub roomy : room_b l s' ≡ true → refusal_of l s' ≡ none
+  pub then : (c : Layout) → Accepted l s' c → room_b c s ≡ true → refusal_of c s ≡ none
   pub same : (c d : Layout) → Accepted l s' c → Accepted c s d → SameTree b d
 
 module _ {l a b : Layout} {s s' : Step} (q : Two l s s' a b) where
@@ -79,8 +79,8 @@ module _ {l a b : Layout} {s s' : Step} (q : Two l s s' a b) where
   later = stepped a now.sized s' b q.two
 
   -- the piece of s' is among what s leaves, as it is: another one, and not inside that of s
-  left : At (place_of s') (piece_at l (place_of s')) (leftBy l s)
-  left = names-left now.leaves (markOf s') q.named later.ready.names
+  left : At (place_of s') (piece_at l (place_of s')) (left_by l s)
+  left = names-left now.leaves (mark_of s') q.named later.ready.names
 
   different : place_of s' ≡ place_of s → ⊥
   different e = left-differs s now (place_of s') (piece_at l (place_of s')) left (sym e)
@@ -96,7 +96,7 @@ module _ {l a b : Layout} {s s' : Step} (q : Two l s s' a b) where
   swapped lets =
       let sound = now.leaves.before in
       let ready = ready-before now s' lets.outside q.named later.ready in
-      let enough : l.serial + newOf s + newOf s' ≤ maxSerial = omega (arith, later.leaves.after.serials.spent, later.serial, now.serial) in
+      let enough : l.serial + new_of s + new_of s' ≤ max_serial = omega (arith, later.leaves.after.serials.spent, later.serial, now.serial) in
       record {
         first = ready-eight l q.sized sound s' ready (omega arith);
         roomy = ready-none l q.sized sound s' ready (omega arith);
@@ -109,17 +109,17 @@ module _ {l a b : Layout} {s s' : Step} (q : Two l s s' a b) where
       }
 
 -- a call that nothing refuses is accepted; and one that is refused with nothing but 8 is, or is refused with 8
-pub insert-none : (l : Layout) (m : Mark) (p : PartType) (r : Rotation) (s : InsertionShape) (a : Inserted) → insertNo l m p r s ≡ none → InsertSays l m p r s a
+pub insert-none : (l : Layout) (m : Mark) (p : PartType) (r : Rotation) (s : InsertionShape) (a : Inserted) → insert_no l m p r s ≡ none → InsertSays l m p r s a
     → InsertAccepted l m p r s a
 unfolding InsertSays
 insert-none l m p r s a h says =
-    let d : InsertDone l m.place (bookingFor l m.place p r s) a = rw h at says in record { says = says; done = d.outcome }
+    let d : InsertDone l m.place (booking_for l m.place p r s) a = rw h at says in record { says = says; done = d.outcome }
 
-pub remove-none : (l : Layout) (m : Mark) (room : ℕ) (a : Removed) → removeNo l m room ≡ none → RemoveSays l m room a → RemoveAccepted l m room a
+pub remove-none : (l : Layout) (m : Mark) (room : ℕ) (a : Removed) → remove_no l m room ≡ none → RemoveSays l m room a → RemoveAccepted l m room a
 unfolding RemoveSays
 remove-none l m room a h says = let d : RemoveDone l m.place a = rw h at says in record { says = says; done = d.outcome }
 
-insert-eight : (l : Layout) (m : Mark) (p : PartType) (r : Rotation) (s : InsertionShape) (a : Inserted) → OnlyEight (insertNo l m p r s)
+insert-eight : (l : Layout) (m : Mark) (p : PartType) (r : Rotation) (s : InsertionShape) (a : Inserted) → OnlyEight (insert_no l m p r s)
     → InsertSays l m p r s a → InsertAccepted l m p r s a ⊎ (a.outcome ≡ Refused TooManyNodes)
 insert-eight l m p r s a (inl h) says = inl (insert-none l m p r s a h says)
 insert-eight l m p r s a (inr h) says = inr (ap (λ (x : Inserted). x.outcome) (refused-insert l m p r s a TooManyNodes h says))
@@ -147,15 +147,15 @@ module _ (l : Layout) (sized : Sized l) (m : Mark) (p : PartType) (r : Rotation)
       }
       in
       let w = swapped q lets in
-      let room : a.layout.held - 1 + newNodes s' ≤ limit = leb-true (a.layout.held - 1 + newNodes s') limit (later q).room in
+      let room : a.layout.held - 1 + new_nodes s' ≤ limit = leb-true (a.layout.held - 1 + new_nodes s') limit (later q).room in
       let other =
-      insert-none l m' p' r' s' c (w.roomy (le-leb (l.held - 1 + newNodes s') limit (omega (arith, (now q).held, new_two s)))) says
+      insert-none l m' p' r' s' c (w.roomy (le-leb (l.held - 1 + new_nodes s') limit (omega (arith, (now q).held, new_two s)))) says
       in
       let st = stepped l sized B' c.layout (c, other, refl) in
       let last =
       insert-none c.layout m p r s d
       (w.then c.layout (c, other, refl)
-      (le-leb (c.layout.held - 1 + newNodes s) limit (omega (arith, (now q).held, st.held, new_two s, new_two s', (sound-counts l was).0)))) after
+      (le-leb (c.layout.held - 1 + new_nodes s) limit (omega (arith, (now q).held, st.held, new_two s, new_two s', (sound-counts l was).0)))) after
       in
       (other, last, w.same c.layout d.layout (c, other, refl) (d, last, refl))
 
@@ -196,10 +196,10 @@ module _ (l : Layout) (sized : Sized l) (m : Mark) (p : PartType) (r : Rotation)
       let w = swapped q lets in
       let other = remove-none l m' room c (w.roomy refl) says in
       let st = stepped l sized R c.layout (c, other, refl) in
-      let had : l.held - 1 + newNodes s ≤ limit = leb-true (l.held - 1 + newNodes s) limit (now q).room in
+      let had : l.held - 1 + new_nodes s ≤ limit = leb-true (l.held - 1 + new_nodes s) limit (now q).room in
       let last =
       insert-none c.layout m p r s d
-      (w.then c.layout (c, other, refl) (le-leb (c.layout.held - 1 + newNodes s) limit (omega (arith, st.held)))) after
+      (w.then c.layout (c, other, refl) (le-leb (c.layout.held - 1 + new_nodes s) limit (omega (arith, st.held)))) after
       in
       (other, last, w.same c.layout d.layout (c, other, refl) (d, last, refl))
 

@@ -10,16 +10,16 @@ use Rattle.tree.specs.Tree.{Tree}
 use Rattle.layout.specs.declared.layout.Layout.{Layout}
 use Rattle.layout.specs.SoundLayout.{Sized}
 use Rattle.layout.specs.Next.{Next}
-use Rattle.layout.specs.Open.{freshLayout}
+use Rattle.layout.specs.Open.{fresh_layout}
 use Rattle.layout.proofs.Tidying.{TidiesMeans}
-use Rattle.demands.specs.Life.{OneOf, Life, opened, inserted, removed, tidied, restored, Stock, openedOn, stock}
+use Rattle.demands.specs.Life.{OneOf, Life, opened, inserted, removed, tidied, restored, Stock, opened_on, stock}
 use Rattle.demands.specs.Calls.{AreasCover}
 use Rattle.demands.proofs.Lives.{states-sound}
 use Rattle.demands.proofs.Outcomes.{opened-so, inserted-so, removed-so, tidied-so, restored-so}
 use Rattle.demands.proofs.Areas.{sound-covers}
 
-fresh-stock : (o : Opening) → stock (freshLayout o) ≡ record { number = o.number; settings = o.settings }
-unfolding freshLayout
+fresh-stock : (o : Opening) → stock (fresh_layout o) ≡ record { number = o.number; settings = o.settings }
+unfolding fresh_layout
 fresh-stock o = refl
 
 -- an accepted call leaves the two as they were
@@ -33,7 +33,7 @@ tidy-stock h i = record { number = h.number i; settings = h.settings i }
 newest-sized : {l : Layout} {ls : List Layout} → Life (l ∷ ls) → Sized l
 newest-sized {l} life = (states-sound life l (inl refl)).1
 
-pub stock-stays : {ls : List Layout} (life : Life ls) (l : Layout) → OneOf l ls → stock l ≡ openedOn life
+pub stock-stays : {ls : List Layout} (life : Life ls) (l : Layout) → OneOf l ls → stock l ≡ opened_on life
 stock-stays (opened o m h) l (inl e) =
     ap stock (e ∙ (opened-so o m h).1) ∙ fresh-stock o
 stock-stays (opened o m h) l (inr z) = absurd z
@@ -56,8 +56,8 @@ stock-stays (restored k ks life s o) l (inl e) =
 stock-stays (restored k ks life s o) l (inr q) = stock-stays life l q
 
 pub throughout : {ls : List Layout} (life : Life ls) (l : Layout) → OneOf l ls
-    → (stock l ≡ openedOn life) × AreasCover l (openedOn life).settings.sheet
+    → (stock l ≡ opened_on life) × AreasCover l (opened_on life).settings.sheet
 throughout life l o =
     let h = states-sound life l o in
     let same = stock-stays life l o in
-    (same, sound-covers l (openedOn life).settings.sheet h.1 h.0 (ap (λ (x : Stock). x.settings.sheet) same))
+    (same, sound-covers l (opened_on life).settings.sheet h.1 h.0 (ap (λ (x : Stock). x.settings.sheet) same))

@@ -8,8 +8,8 @@ use mathlib.Core.Bool.{Bool}
 use Prim.Native.Nat.{ℕ}
 use Rattle.piece.specs.declared.parttype.PartType.{PartType}
 use Rattle.piece.specs.declared.settings.Settings.{Settings}
-use Rattle.layout.specs.Check.{domainB, sideB}
-use Rattle.layout.specs.Asked.{partB}
+use Rattle.layout.specs.Check.{domain_b, side_b}
+use Rattle.layout.specs.Asked.{part_b}
 pub use Rattle.layout.proofs.Determined.{open-is-one, insert-is-one, remove-is-one, remove-leaves-one, restore-is-one, zero-is-one}
 pub use Rattle.layout.proofs.Determined.{only, sound-is-one, free-piece-is-one}
 pub use Rattle.layout.proofs.Determined.{tidy-is-one}
@@ -21,11 +21,11 @@ pub use Rattle.questions.proofs.WhyNotDetermined.{number-is-one, reason-in-is-on
 pub use Rattle.session.proofs.Unique.{session-start-is-one, asked-is-one, step-is-one, malformed-is-one, listener-start-is-one, turn-is-one, end-is-one}
 pub use Rattle.session.proofs.Decided.{replies-once, keeps-once, restores-once, same-said}
 
-pub side-ok-is-one : (side : ℕ) (a b : Bool) → a ≡ sideB side → b ≡ sideB side → a ≡ b
+pub side-ok-is-one : (side : ℕ) (a b : Bool) → a ≡ side_b side → b ≡ side_b side → a ≡ b
 side-ok-is-one side = only
 
-pub domain-ok-is-one : (settings : Settings) (a b : Bool) → a ≡ domainB settings → b ≡ domainB settings → a ≡ b
+pub domain-ok-is-one : (settings : Settings) (a b : Bool) → a ≡ domain_b settings → b ≡ domain_b settings → a ≡ b
 domain-ok-is-one settings = only
 
-pub part-ok-is-one : (p : PartType) (a b : Bool) → a ≡ partB p → b ≡ partB p → a ≡ b
+pub part-ok-is-one : (p : PartType) (a b : Bool) → a ≡ part_b p → b ≡ part_b p → a ≡ b
 part-ok-is-one p = only

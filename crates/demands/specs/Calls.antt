@@ -8,7 +8,7 @@ use Rattle.piece.specs.declared.insertion_blueprint.InsertionShape.{InsertionSha
 use Rattle.piece.specs.declared.settings.Opening.{Opening}
 use Rattle.piece.specs.Sides.{area}
 use Rattle.tree.specs.Tidy.{Untidy}
-use Rattle.tree.specs.Figures.{partArea, freeArea, eatenArea}
+use Rattle.tree.specs.Figures.{part_area, free_area, eaten_area}
 use Rattle.marks.specs.declared.Mark.{Mark}
 use Rattle.layout.specs.declared.layout.Layout.{Layout}
 use Rattle.layout.specs.declared.open.Opened.{Opened}
@@ -19,14 +19,14 @@ use Rattle.layout.specs.declared.tidy.Tidied.{Tidied}
 use Rattle.layout.specs.declared.restore.Restored.{Restored}
 use Rattle.layout.specs.declared.replies.Outcome.TheVariants.{Done}
 use Rattle.layout.specs.Check.{tree}
-use Rattle.layout.specs.Open.{openOf}
+use Rattle.layout.specs.Open.{open_of}
 use Rattle.layout.specs.Insert.{InsertSays}
 use Rattle.layout.specs.Remove.{RemoveSays}
 use Rattle.layout.specs.Tidy.{TidySays}
-use Rattle.layout.specs.Restore.{restoreOf}
+use Rattle.layout.specs.Restore.{restore_of}
 use Rattle.questions.specs.declared.replies.AreaAnswer.TheVariants.{Area}
-use Rattle.questions.specs.Answers.{usedAreaOf, freeAreaOf, eatenAreaOf}
-use Rattle.questions.specs.Written.{snapshotBytes}
+use Rattle.questions.specs.Answers.{used_area_of, free_area_of, eaten_area_of}
+use Rattle.questions.specs.Written.{snapshot_bytes}
 
 -- `insert` of the part p, in rotation r and shape s, into the piece that m names, on the layout l, answers a and is not refused
 pub record InsertAccepted (l : Layout) (m : Mark) (p : PartType) (r : Rotation) (s : InsertionShape) (a : Inserted) : Type 0 where
@@ -45,12 +45,12 @@ pub record TidyAccepted (l : Layout) (a : Tidied) : Type 0 where
 
 -- `restore` of the snapshot k, on the layout l
 pub record RestoreAccepted (l k : Layout) (a : Restored) : Type 0 where
-  pub says : a ≡ restoreOf l k
+  pub says : a ≡ restore_of l k
   pub done : a.outcome ≡ Done
 
 -- `open` of a sheet; m is the mark of its free piece
 pub record OpenAccepted (o : Opening) (m : Mark) (a : Opened) : Type 0 where
-  pub says : a ≡ openOf o
+  pub says : a ≡ open_of o
   pub done : a.outcome ≡ Free m
 
 -- untidy structures are taken out by `remove`, one after the other, in any order: of each that is untidy then any may be next
@@ -60,7 +60,7 @@ pub data TakenOut : Layout → Layout → Type 0 where
 
 -- "Same tree means that the tree snapshots (below) agree in every byte": the bytes that the call `snapshot` hands out
 abbrev pub SameTree : Layout → Layout → Type 0
-SameTree l k = snapshotBytes l ≡ snapshotBytes k
+SameTree l k = snapshot_bytes l ≡ snapshot_bytes k
 
 -- "Part area plus free area is the sheet", and with a blade (document 02, No. 4) "part area, free area and eaten area make the sheet": no call refuses, what
 -- they answer adds up, and each is the sum over its pieces of the tree
@@ -68,10 +68,10 @@ pub record AreasCover (l : Layout) (sheet : Size) : Type 0 where
   pub used : ℕ
   pub free : ℕ
   pub eaten : ℕ
-  pub usedAnswer : usedAreaOf l ≡ Area used
-  pub freeAnswer : freeAreaOf l ≡ Area free
-  pub eatenAnswer : eatenAreaOf l ≡ Area eaten
+  pub used_answer : used_area_of l ≡ Area used
+  pub free_answer : free_area_of l ≡ Area free
+  pub eaten_answer : eaten_area_of l ≡ Area eaten
   pub cover : used + free + eaten ≡ area sheet
-  pub parts : used ≡ partArea (tree l)
-  pub frees : free ≡ freeArea (tree l)
-  pub strips : eaten ≡ eatenArea (tree l)
+  pub parts : used ≡ part_area (tree l)
+  pub frees : free ≡ free_area (tree l)
+  pub strips : eaten ≡ eaten_area (tree l)

@@ -7,7 +7,7 @@ use Rattle.frames.specs.declared.Ask.TheVariants.{Open, Offers, Insert, Remove, 
 use Rattle.frames.specs.declared.Request.{Request}
 use Rattle.frames.specs.declared.Request.TheVariants.{OfLayout, Keep, Restore, Malformed}
 use Rattle.frames.specs.Answers.{Answer}
-use Rattle.session.specs.Listener.{askedIn}
+use Rattle.session.specs.Listener.{asked_in}
 use Rattle.session.specs.Replies.{refusal}
 use Rattle.demands.specs.Orders.{Step, booking, removal}
 
@@ -22,9 +22,9 @@ steps_of Keep = []
 steps_of Restore = []
 steps_of Malformed = []
 
-abbrev pub stepsIn : List Line → List Step
-stepsIn [] = []
-stepsIn (line ∷ lines) = steps_of (askedIn line) ++ stepsIn lines
+abbrev pub steps_in : List Line → List Step
+steps_in [] = []
+steps_in (line ∷ lines) = steps_of (asked_in line) ++ steps_in lines
 
 -- nothing is opened and nothing put back, and a booking or a removal is not refused; what else is asked, and what it is answered, doesn't count
 abbrev pub Works : Request → Answer → Type 0
@@ -42,4 +42,4 @@ abbrev pub AllWork : List Line → List Answer → Type 0
 AllWork [] [] = Unit {0}
 AllWork [] (a ∷ xs) = ⊥
 AllWork (line ∷ lines) [] = ⊥
-AllWork (line ∷ lines) (a ∷ xs) = Works (askedIn line) a × AllWork lines xs
+AllWork (line ∷ lines) (a ∷ xs) = Works (asked_in line) a × AllWork lines xs

@@ -14,8 +14,8 @@ use Rattle.marks.specs.declared.Mark.{Mark}
 use Rattle.marks.specs.declared.Refusal.{Refusal}
 use Rattle.marks.specs.declared.Refusal.TheVariants.{OtherLayout, Gone}
 use Rattle.layout.specs.declared.layout.Layout.{Layout}
-use Rattle.layout.specs.Check.{soundB}
-use Rattle.layout.specs.Asked.{partB}
+use Rattle.layout.specs.Check.{sound_b}
+use Rattle.layout.specs.Asked.{part_b}
 use Rattle.frames.specs.declared.Ask.TheVariants.{Offers, Insert, Remove}
 use Rattle.frames.specs.declared.Request.{Request}
 use Rattle.frames.specs.declared.Request.TheVariants.{OfLayout}
@@ -27,15 +27,15 @@ use Rattle.demands.specs.Life.{OneOf, Life, NamesPiece, SamePiece}
 -- ---- answers
 
 -- the marks that an answer writes: "mark of the free piece"; "marks of first node and part; .. free marks"; "new free mark"
-abbrev pub marksWritten : Answer → List Mark
-marksWritten (refused op e) = []
-marksWritten (opened m) = m ∷ []
-marksWritten (offered os) = []
-marksWritten (inserted first part frees) = first ∷ part ∷ frees
-marksWritten (removed m numbers) = m ∷ []
-marksWritten (done op) = []
-marksWritten (reported used nodes bits) = []
-marksWritten malformed = []
+abbrev pub marks_written : Answer → List Mark
+marks_written (refused op e) = []
+marks_written (opened m) = m ∷ []
+marks_written (offered os) = []
+marks_written (inserted first part frees) = first ∷ part ∷ frees
+marks_written (removed m numbers) = m ∷ []
+marks_written (done op) = []
+marks_written (reported used nodes bits) = []
+marks_written malformed = []
 
 -- a refusal; a malformed line gets one too
 abbrev pub Declines : Answer → Type 0
@@ -78,7 +78,7 @@ OpenedOnce n (m ∷ ms) = (m ≡ n → Memᴰ n ms → ⊥) × OpenedOnce n ms
 
 -- k can't be put back on a layout of this number: refusal 1, or refusal 4
 abbrev pub Stale : ℕ → Layout → Type 0
-Stale number k = (soundB k ≡ false) ⊎ (k.number ≡ number → ⊥)
+Stale number k = (sound_b k ≡ false) ⊎ (k.number ≡ number → ⊥)
 
 -- the layout is the newest state of a life, the earlier ones being these, and what is kept is a state of that life or can't be put back
 pub record Lives (s : Session) (earlier : List Layout) : Type 0 where
@@ -95,9 +95,9 @@ pub record GoesOn (s : Session) (earlier : List Layout) (t : Session) : Type 0 w
 
 -- the requests that carry the mark, by their op; a part has sides in the domain, since refusal 3 comes first
 pub data Carries (k : Mark) : ℕ → Request → Type 0 where
-  offersOn : (p : PartType) → partB p ≡ true → Carries k 2 (OfLayout (Offers k p))
-  insertIn : (p : PartType) (r : Rotation) (s : InsertionShape) → partB p ≡ true → Carries k 3 (OfLayout (Insert k p r s))
-  removeOf : Carries k 4 (OfLayout (Remove k))
+  offers_on : (p : PartType) → part_b p ≡ true → Carries k 2 (OfLayout (Offers k p))
+  insert_in : (p : PartType) (r : Rotation) (s : InsertionShape) → part_b p ≡ true → Carries k 3 (OfLayout (Insert k p r s))
+  remove_of : Carries k 4 (OfLayout (Remove k))
 
 -- each of them is refused with e, and changes nothing
 pub record Refuses (e : Refusal) (s : Session) (k : Mark) : Type 0 where

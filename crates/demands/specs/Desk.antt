@@ -7,8 +7,8 @@ use Rattle.questions.specs.declared.replies.LightAnswer.{LightAnswer}
 use Rattle.questions.specs.declared.replies.LightAnswer.TheVariants as lights
 use Rattle.questions.specs.declared.replies.MarkAnswer.{MarkAnswer}
 use Rattle.questions.specs.declared.replies.MarkAnswer.TheVariants as marks
-use Rattle.questions.specs.Answers.{freeMarkOf, removableMarkOf}
-use Rattle.questions.specs.Light.{lightOf}
+use Rattle.questions.specs.Answers.{free_mark_of, removable_mark_of}
+use Rattle.questions.specs.Light.{light_of}
 use Rattle.frames.specs.declared.Request.{Request}
 use Rattle.frames.specs.Answers.{Answer}
 use Rattle.session.specs.declared.Session.{Session}
@@ -17,32 +17,32 @@ use Rattle.desk_frames.specs.declared.Question.TheVariants.{WhyNot, RoomLight, F
 use Rattle.desk_frames.specs.declared.DeskRequest.{DeskRequest}
 use Rattle.desk_frames.specs.declared.DeskRequest.TheVariants.{Asks, AtCounter}
 use Rattle.desk_frames.specs.Desk.{DeskAnswer, counters}
-use Rattle.demands.specs.Counter.{marksWritten}
+use Rattle.demands.specs.Counter.{marks_written}
 
 -- the mark that the light names, and the one at a position
-abbrev pub markLit : LightAnswer → List Mark
-markLit (lights.Room m) = m ∷ []
-markLit lights.NoRoom = []
-markLit (lights.Refused e) = []
+abbrev pub mark_lit : LightAnswer → List Mark
+mark_lit (lights.Room m) = m ∷ []
+mark_lit lights.NoRoom = []
+mark_lit (lights.Refused e) = []
 
-abbrev pub markListed : MarkAnswer → List Mark
-markListed (marks.Found m) = m ∷ []
-markListed (marks.Refused e) = []
+abbrev pub mark_listed : MarkAnswer → List Mark
+mark_listed (marks.Found m) = m ∷ []
+mark_listed (marks.Refused e) = []
 
 -- the marks that the answer to a question writes
-abbrev pub marksTold : Layout → Question → List Mark
-marksTold l (WhyNot mark part) = []
-marksTold l (RoomLight part) = markLit (lightOf l part)
-marksTold l (FreePiece position) = markListed (freeMarkOf l position)
-marksTold l (RemovablePiece position) = markListed (removableMarkOf l position)
-marksTold l PartNumbers = []
-marksTold l Figures = []
-marksTold l Snapshot = []
-marksTold l Cuts = []
-marksTold l EatenArea = []
-marksTold l Amounts = []
+abbrev pub marks_told : Layout → Question → List Mark
+marks_told l (WhyNot mark part) = []
+marks_told l (RoomLight part) = mark_lit (light_of l part)
+marks_told l (FreePiece position) = mark_listed (free_mark_of l position)
+marks_told l (RemovablePiece position) = mark_listed (removable_mark_of l position)
+marks_told l PartNumbers = []
+marks_told l Figures = []
+marks_told l Snapshot = []
+marks_told l Cuts = []
+marks_told l EatenArea = []
+marks_told l Amounts = []
 
 -- the answer a to the request, in the state s, writes the mark k
 pub data WritesMark (k : Mark) (s : Session) : DeskRequest → DeskAnswer → Type 0 where
-  atCounter : {q : Request} {a : Answer} → Memᴰ k (marksWritten a) → WritesMark k s (AtCounter q) (counters a)
-  told : {q : Question} {a : DeskAnswer} → Memᴰ k (marksTold s.layout q) → WritesMark k s (Asks q) a
+  at_counter : {q : Request} {a : Answer} → Memᴰ k (marks_written a) → WritesMark k s (AtCounter q) (counters a)
+  told : {q : Question} {a : DeskAnswer} → Memᴰ k (marks_told s.layout q) → WritesMark k s (Asks q) a

@@ -12,24 +12,24 @@ use Rattle.layout.specs.declared.layout.Layout.{Layout}
 use Rattle.layout.specs.declared.insert.Inserted.{Inserted}
 use Rattle.layout.specs.declared.remove.Removed.{Removed}
 use Rattle.layout.specs.declared.tidy.Tidied.{Tidied}
-use Rattle.layout.specs.Insert.{InsertSays, refusedInsert}
-use Rattle.layout.specs.Remove.{RemoveSays, numbersLeft, refusedRemove}
-use Rattle.layout.specs.Tidy.{TidySays, refusedTidy}
-use Rattle.layout.specs.Restore.{restoreOf, refusedRestore}
+use Rattle.layout.specs.Insert.{InsertSays, refused_insert}
+use Rattle.layout.specs.Remove.{RemoveSays, numbers_left, refused_remove}
+use Rattle.layout.specs.Tidy.{TidySays, refused_tidy}
+use Rattle.layout.specs.Restore.{restore_of, refused_restore}
 use Rattle.layout.specs.declared.replies.Sought.TheVariants as sought
-use Rattle.layout.specs.Asked.{freePieceOf}
+use Rattle.layout.specs.Asked.{free_piece_of}
 use Rattle.questions.specs.declared.replies.AreaAnswer.TheVariants as areas
 use Rattle.questions.specs.declared.replies.CountAnswer.TheVariants as counts
 use Rattle.questions.specs.declared.replies.UsageAnswer.TheVariants as usages
 use Rattle.questions.specs.declared.replies.EmptyAnswer.TheVariants as empties
 use Rattle.questions.specs.declared.replies.LightAnswer.TheVariants as lights
 use Rattle.questions.specs.declared.replies.MarkAnswer.TheVariants as marks
-use Rattle.questions.specs.Answers.{usedAreaOf, freeAreaOf, eatenAreaOf, nodesHeldOf, sheetUsageOf, treeUsageOf, isEmptyOf, freeMarkOf, removableMarkOf}
-use Rattle.questions.specs.Answers.{offersCall, refusedOffers}
-use Rattle.questions.specs.Light.{lightOf}
-use Rattle.questions.specs.Written.{answerTo, heldNumbers, leftInBuffer, snapshotBytes}
-use Rattle.saw.specs.Written.{amountBytes, sawBytes}
-use Rattle.questions.specs.WhyNot.{refusedWhy, whyCall}
+use Rattle.questions.specs.Answers.{used_area_of, free_area_of, eaten_area_of, nodes_held_of, sheet_usage_of, tree_usage_of, is_empty_of, free_mark_of, removable_mark_of}
+use Rattle.questions.specs.Answers.{offers_call, refused_offers}
+use Rattle.questions.specs.Light.{light_of}
+use Rattle.questions.specs.Written.{answer_to, held_numbers, left_in_buffer, snapshot_bytes}
+use Rattle.saw.specs.Written.{amount_bytes, saw_bytes}
+use Rattle.questions.specs.WhyNot.{refused_why, why_call}
 use Rattle.frames.specs.declared.Request.{Request}
 use Rattle.frames.specs.declared.Request.TheVariants.{Restore}
 use Rattle.frames.specs.Answers.{Answer, refused}
@@ -37,43 +37,43 @@ use Rattle.session.specs.declared.Session.{Session}
 use Rattle.session.specs.Session.{Answers, op_of, reply}
 use Rattle.session.specs.Replies.{both}
 use Rattle.desk_frames.specs.declared.Question.{Question}
-use Rattle.desk_frames.specs.Answers.{foundIn, refusedWith}
+use Rattle.desk_frames.specs.Answers.{found_in, refused_with}
 
 -- of a call that would write this into a lent buffer
 pub record NothingWritten (l : Layout) (what : List ℕ) : Type 0 where
-  pub answer : (room : ℕ) → answerTo l what room ≡ counts.Refused NotSound
-  pub buffer : (out : List ℕ) → leftInBuffer l what out ≡ out
+  pub answer : (room : ℕ) → answer_to l what room ≡ counts.Refused NotSound
+  pub buffer : (out : List ℕ) → left_in_buffer l what out ≡ out
 
 pub record Examined (l : Layout) : Type 0 where
   -- crate layout; `restore` examines both that it is handed, and `free_piece` is the head of every call on a free piece
-  pub insert : (m : Mark) (p : PartType) (r : Rotation) (s : InsertionShape) (a : Inserted) → InsertSays l m p r s a → a ≡ refusedInsert l NotSound
-  pub remove : (m : Mark) (room : ℕ) (a : Removed) → RemoveSays l m room a → a ≡ refusedRemove l NotSound
-  pub removeBuffer : (m : Mark) (out : List ℕ) → numbersLeft l m out ≡ out
-  pub tidy : (a : Tidied) → TidySays l a → a ≡ refusedTidy l NotSound
-  pub restore : (snapshot : Layout) → restoreOf l snapshot ≡ refusedRestore l NotSound
-  pub restoreTo : (k : Layout) → restoreOf k l ≡ refusedRestore k NotSound
-  pub freePiece : (m : Mark) (p : PartType) → freePieceOf l m p ≡ sought.Refused NotSound
+  pub insert : (m : Mark) (p : PartType) (r : Rotation) (s : InsertionShape) (a : Inserted) → InsertSays l m p r s a → a ≡ refused_insert l NotSound
+  pub remove : (m : Mark) (room : ℕ) (a : Removed) → RemoveSays l m room a → a ≡ refused_remove l NotSound
+  pub remove_buffer : (m : Mark) (out : List ℕ) → numbers_left l m out ≡ out
+  pub tidy : (a : Tidied) → TidySays l a → a ≡ refused_tidy l NotSound
+  pub restore : (snapshot : Layout) → restore_of l snapshot ≡ refused_restore l NotSound
+  pub restore_to : (k : Layout) → restore_of k l ≡ refused_restore k NotSound
+  pub free_piece : (m : Mark) (p : PartType) → free_piece_of l m p ≡ sought.Refused NotSound
   -- crate questions
-  pub usedArea : usedAreaOf l ≡ areas.Refused NotSound
-  pub freeArea : freeAreaOf l ≡ areas.Refused NotSound
-  pub eatenArea : eatenAreaOf l ≡ areas.Refused NotSound
-  pub nodesHeld : nodesHeldOf l ≡ counts.Refused NotSound
-  pub sheetUsage : sheetUsageOf l ≡ usages.Refused NotSound
-  pub treeUsage : treeUsageOf l ≡ usages.Refused NotSound
-  pub is_empty : isEmptyOf l ≡ empties.Refused NotSound
-  pub freeMark : (position : ℕ) → freeMarkOf l position ≡ marks.Refused NotSound
-  pub removableMark : (position : ℕ) → removableMarkOf l position ≡ marks.Refused NotSound
-  pub roomLight : (p : PartType) → lightOf l p ≡ lights.Refused NotSound
-  pub offers : (m : Mark) (p : PartType) → offersCall l m p ≡ refusedOffers NotSound
-  pub snapshot : NothingWritten l (snapshotBytes l)
-  pub partNumbers : NothingWritten l (heldNumbers l)
-  pub whyNot : (m : Mark) (p : PartType) → whyCall l m p ≡ refusedWhy NotSound
+  pub used_area : used_area_of l ≡ areas.Refused NotSound
+  pub free_area : free_area_of l ≡ areas.Refused NotSound
+  pub eaten_area : eaten_area_of l ≡ areas.Refused NotSound
+  pub nodes_held : nodes_held_of l ≡ counts.Refused NotSound
+  pub sheet_usage : sheet_usage_of l ≡ usages.Refused NotSound
+  pub tree_usage : tree_usage_of l ≡ usages.Refused NotSound
+  pub is_empty : is_empty_of l ≡ empties.Refused NotSound
+  pub free_mark : (position : ℕ) → free_mark_of l position ≡ marks.Refused NotSound
+  pub removable_mark : (position : ℕ) → removable_mark_of l position ≡ marks.Refused NotSound
+  pub room_light : (p : PartType) → light_of l p ≡ lights.Refused NotSound
+  pub offers : (m : Mark) (p : PartType) → offers_call l m p ≡ refused_offers NotSound
+  pub snapshot : NothingWritten l (snapshot_bytes l)
+  pub part_numbers : NothingWritten l (held_numbers l)
+  pub why_not : (m : Mark) (p : PartType) → why_call l m p ≡ refused_why NotSound
   -- crate saw
-  pub cuts : NothingWritten l (sawBytes l)
-  pub amounts : NothingWritten l (amountBytes l)
+  pub cuts : NothingWritten l (saw_bytes l)
+  pub amounts : NothingWritten l (amount_bytes l)
   -- crate session: the counter's state stays, and the answer is the op's refusal; `restore` examines the kept layout too
   pub counter : (kept : Layout) (q : Request) (op : ℕ) → op_of q ≡ some op → (t : Session) (a : Answer) → Answers (both l kept) q t a
       → reply t a ≡ reply (both l kept) (refused op NotSound)
-  pub counterRestoreTo : (k : Layout) (t : Session) (a : Answer) → Answers (both k l) Restore t a → reply t a ≡ reply (both k l) (refused 6 NotSound)
+  pub counter_restore_to : (k : Layout) (t : Session) (a : Answer) → Answers (both k l) Restore t a → reply t a ≡ reply (both k l) (refused 6 NotSound)
   -- crate desk_frames: each question of the desk
-  pub desk : (q : Question) → foundIn l q ≡ refusedWith NotSound
+  pub desk : (q : Question) → found_in l q ≡ refused_with NotSound

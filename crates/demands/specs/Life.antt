@@ -23,13 +23,13 @@ use Rattle.layout.specs.declared.remove.Removed.{Removed}
 use Rattle.layout.specs.declared.tidy.Tidied.{Tidied}
 use Rattle.layout.specs.Check.{limit, tree}
 use Rattle.layout.specs.SoundLayout.{Sized}
-use Rattle.layout.specs.Open.{openOf}
+use Rattle.layout.specs.Open.{open_of}
 use Rattle.layout.specs.Insert.{InsertSays, piece_at}
 use Rattle.layout.specs.Remove.{RemoveSays}
 use Rattle.layout.specs.Tidy.{TidySays}
-use Rattle.layout.specs.Restore.{restoreOf}
+use Rattle.layout.specs.Restore.{restore_of}
 use Rattle.questions.specs.declared.replies.MarkAnswer.TheVariants.{Found}
-use Rattle.questions.specs.Answers.{freeMarkOf, removableMarkOf}
+use Rattle.questions.specs.Answers.{free_mark_of, removable_mark_of}
 
 -- l is one of the states
 abbrev pub OneOf : Layout → List Layout → Type 0
@@ -37,14 +37,14 @@ OneOf l [] = ⊥
 OneOf l (k ∷ ks) = (l ≡ k) ⊎ OneOf l ks
 
 pub data Life : List Layout → Type 0 where
-  opened : (o : Opening) (m : Mark) → (openOf o).outcome ≡ Free m
-      → Life ((openOf o).layout ∷ [])
+  opened : (o : Opening) (m : Mark) → (open_of o).outcome ≡ Free m
+      → Life ((open_of o).layout ∷ [])
   inserted : (l : Layout) (ls : List Layout) → Life (l ∷ ls) → (m : Mark) (p : PartType) (r : Rotation) (s : InsertionShape) (a : Inserted)
       → InsertSays l m p r s a → Life (a.layout ∷ l ∷ ls)
   removed : (l : Layout) (ls : List Layout) → Life (l ∷ ls) → (m : Mark) (room : ℕ) (a : Removed) → RemoveSays l m room a
       → Life (a.layout ∷ l ∷ ls)
   tidied : (l : Layout) (ls : List Layout) → Life (l ∷ ls) → (a : Tidied) → TidySays l a → Life (a.layout ∷ l ∷ ls)
-  restored : (l : Layout) (ls : List Layout) → Life (l ∷ ls) → (s : Layout) → OneOf s (l ∷ ls) → Life ((restoreOf l s).layout ∷ l ∷ ls)
+  restored : (l : Layout) (ls : List Layout) → Life (l ∷ ls) → (s : Layout) → OneOf s (l ∷ ls) → Life ((restore_of l s).layout ∷ l ∷ ls)
 
 -- the stock sheet that a layout is of: what stays of it as long as it lives
 pub record Stock : Type 0 where
@@ -52,12 +52,12 @@ pub record Stock : Type 0 where
   pub settings : Settings
 
 -- what the life's one opening was asked for
-abbrev pub openedOn : {ls : List Layout} → Life ls → Stock
-openedOn (opened o m h) = record { number = o.number; settings = o.settings }
-openedOn (inserted l ls life m p r s a h) = openedOn life
-openedOn (removed l ls life m room a h) = openedOn life
-openedOn (tidied l ls life a h) = openedOn life
-openedOn (restored l ls life s o) = openedOn life
+abbrev pub opened_on : {ls : List Layout} → Life ls → Stock
+opened_on (opened o m h) = record { number = o.number; settings = o.settings }
+opened_on (inserted l ls life m p r s a h) = opened_on life
+opened_on (removed l ls life m room a h) = opened_on life
+opened_on (tidied l ls life a h) = opened_on life
+opened_on (restored l ls life s o) = opened_on life
 
 -- as a layout has it
 abbrev pub stock : Layout → Stock
@@ -78,18 +78,18 @@ pub record NamesPiece (l : Layout) (m : Mark) : Type 0 where
 pub record SamePiece (k l : Layout) (m : Mark) : Type 0 where
   pub piece : piece_at l m.place ≡ piece_at k m.place
   pub parent : parent_of limit m.place (tree l) ≡ parent_of limit m.place (tree k)
-  pub parentPiece : piece_at l (parent_of limit m.place (tree l)) ≡ piece_at k (parent_of limit m.place (tree k))
+  pub parent_piece : piece_at l (parent_of limit m.place (tree l)) ≡ piece_at k (parent_of limit m.place (tree k))
 
 -- the mark m was answered by a call that gave the state l, or that was asked in it: every way to get a mark. (Sized is what the type of a layout says.)
 pub data Given : Layout → Mark → Type 0 where
-  byOpen : (o : Opening) (m : Mark) → (openOf o).outcome ≡ Free m
-      → Given (openOf o).layout m
-  byInsertFirst : (l : Layout) (m : Mark) (p : PartType) (r : Rotation) (s : InsertionShape) (a : Inserted) → Sized l → InsertSays l m p r s a
+  by_open : (o : Opening) (m : Mark) → (open_of o).outcome ≡ Free m
+      → Given (open_of o).layout m
+  by_insert_first : (l : Layout) (m : Mark) (p : PartType) (r : Rotation) (s : InsertionShape) (a : Inserted) → Sized l → InsertSays l m p r s a
       → a.outcome ≡ Done → Given a.layout a.marks.first
-  byInsertPart : (l : Layout) (m : Mark) (p : PartType) (r : Rotation) (s : InsertionShape) (a : Inserted) → Sized l → InsertSays l m p r s a
+  by_insert_part : (l : Layout) (m : Mark) (p : PartType) (r : Rotation) (s : InsertionShape) (a : Inserted) → Sized l → InsertSays l m p r s a
       → a.outcome ≡ Done → Given a.layout a.marks.part
-  byInsertFree : (l : Layout) (m : Mark) (p : PartType) (r : Rotation) (s : InsertionShape) (a : Inserted) → Sized l → InsertSays l m p r s a
+  by_insert_free : (l : Layout) (m : Mark) (p : PartType) (r : Rotation) (s : InsertionShape) (a : Inserted) → Sized l → InsertSays l m p r s a
       → a.outcome ≡ Done → (k : Mark) → Memᴰ k (take a.marks.count a.marks.frees) → Given a.layout k
-  byRemove : (l : Layout) (m : Mark) (room : ℕ) (a : Removed) → Sized l → RemoveSays l m room a → a.outcome ≡ Done → Given a.layout a.free
-  byFreeList : (l : Layout) (k : ℕ) (m : Mark) → freeMarkOf l k ≡ Found m → Given l m
-  byRemovableList : (l : Layout) (k : ℕ) (m : Mark) → removableMarkOf l k ≡ Found m → Given l m
+  by_remove : (l : Layout) (m : Mark) (room : ℕ) (a : Removed) → Sized l → RemoveSays l m room a → a.outcome ≡ Done → Given a.layout a.free
+  by_free_list : (l : Layout) (k : ℕ) (m : Mark) → free_mark_of l k ≡ Found m → Given l m
+  by_removable_list : (l : Layout) (k : ℕ) (m : Mark) → removable_mark_of l k ≡ Found m → Given l m

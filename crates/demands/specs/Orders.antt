@@ -14,8 +14,8 @@ use Rattle.layout.specs.declared.layout.Layout.{Layout}
 use Rattle.layout.specs.declared.insert.Inserted.{Inserted}
 use Rattle.layout.specs.declared.remove.Removed.{Removed}
 use Rattle.layout.specs.Check.{limit, tree}
-use Rattle.layout.specs.Insert.{insertNo}
-use Rattle.layout.specs.Remove.{removeNo}
+use Rattle.layout.specs.Insert.{insert_no}
+use Rattle.layout.specs.Remove.{remove_no}
 use Rattle.demands.specs.Life.{NamesPiece}
 use Rattle.demands.specs.Calls.{InsertAccepted, RemoveAccepted}
 
@@ -24,17 +24,17 @@ pub data Step : Type 0 where
   booking : Mark → PartType → Rotation → InsertionShape → Step
   removal : Mark → ℕ → Step
 
-abbrev pub markOf : Step → Mark
-markOf (booking m p r s) = m
-markOf (removal m room) = m
+abbrev pub mark_of : Step → Mark
+mark_of (booking m p r s) = m
+mark_of (removal m room) = m
 
 abbrev pub place_of : Step → ℕ
-place_of s = (markOf s).place
+place_of s = (mark_of s).place
 
 -- what the call is refused with, on the layout l
-abbrev pub refusalOf : Layout → Step → Option Refusal
-refusalOf l (booking m p r s) = insertNo l m p r s
-refusalOf l (removal m room) = removeNo l m room
+abbrev pub refusal_of : Layout → Step → Option Refusal
+refusal_of l (booking m p r s) = insert_no l m p r s
+refusal_of l (removal m room) = remove_no l m room
 
 -- it is refused with nothing but 8; and with nothing but 8 or 9
 abbrev pub OnlyEight : Option Refusal → Type 0
@@ -64,7 +64,7 @@ Pairwise R (s ∷ ss) = Each (R s) ss × Pairwise R ss
 
 -- "each naming a piece of the layout the list starts from"
 abbrev pub Naming : Layout → List Step → Type 0
-Naming l ss = Each (λ s. NamesPiece l (markOf s)) ss
+Naming l ss = Each (λ s. NamesPiece l (mark_of s)) ss
 
 -- one books and the other removes
 abbrev pub Mixed : Step → Step → Type 0

@@ -7,11 +7,11 @@ use native.Mathlib.Omega.{arith}
 use lib.Ieee.{Float}
 use Rattle.piece.specs.Sides.{area}
 use Rattle.tree.specs.Tree.{count}
-use Rattle.tree.specs.Figures.{partArea, freeArea, sheetUsage, treeUsage}
+use Rattle.tree.specs.Figures.{part_area, free_area, sheet_usage, tree_usage}
 use Rattle.marks.specs.declared.Refusal.{Refusal}
 use Rattle.marks.specs.declared.Refusal.TheVariants.{NotSound}
 use Rattle.layout.specs.declared.layout.Layout.{Layout}
-use Rattle.layout.specs.Check.{tree, soundB}
+use Rattle.layout.specs.Check.{tree, sound_b}
 use Rattle.questions.specs.declared.replies.AreaAnswer.{AreaAnswer}
 use Rattle.questions.specs.declared.replies.AreaAnswer.TheVariants as areas
 use Rattle.questions.specs.declared.replies.CountAnswer.{CountAnswer}
@@ -20,7 +20,7 @@ use Rattle.questions.specs.declared.replies.EmptyAnswer.{EmptyAnswer}
 use Rattle.questions.specs.declared.replies.EmptyAnswer.TheVariants as empties
 use Rattle.questions.specs.declared.replies.UsageAnswer.{UsageAnswer}
 use Rattle.questions.specs.declared.replies.UsageAnswer.TheVariants as usages
-use Rattle.questions.specs.Answers.{usedAreaOf, freeAreaOf, nodesHeldOf, isEmptyOf, sheetUsageOf, treeUsageOf, allFree}
+use Rattle.questions.specs.Answers.{used_area_of, free_area_of, nodes_held_of, is_empty_of, sheet_usage_of, tree_usage_of, all_free}
 
 -- what is answered after refusal 1, and what is refused, by the kind of the answer
 area-given : (b : Bool) {x y : ℕ} → areas.Area x ≡ cond b (areas.Area y) (areas.Refused NotSound) → (b ≡ true) × (x ≡ y)
@@ -57,50 +57,50 @@ usage-refused false y h = refl
 
 -- the six figures
 module _ (l : Layout) where
-  pub used-is : {a : AreaAnswer} {x : ℕ} → a ≡ usedAreaOf l → a ≡ areas.Area x → (soundB l ≡ true) × (x ≡ partArea (tree l))
-  unfolding usedAreaOf
-  used-is e h = area-given (soundB l) (sym h ∙ e)
+  pub used-is : {a : AreaAnswer} {x : ℕ} → a ≡ used_area_of l → a ≡ areas.Area x → (sound_b l ≡ true) × (x ≡ part_area (tree l))
+  unfolding used_area_of
+  used-is e h = area-given (sound_b l) (sym h ∙ e)
 
-  pub used-not : {a : AreaAnswer} {r : Refusal} → a ≡ usedAreaOf l → a ≡ areas.Refused r → soundB l ≡ false
-  unfolding usedAreaOf
-  used-not e h = area-refused (soundB l) (partArea (tree l)) (sym h ∙ e)
+  pub used-not : {a : AreaAnswer} {r : Refusal} → a ≡ used_area_of l → a ≡ areas.Refused r → sound_b l ≡ false
+  unfolding used_area_of
+  used-not e h = area-refused (sound_b l) (part_area (tree l)) (sym h ∙ e)
 
-  pub free-is : {a : AreaAnswer} {x : ℕ} → a ≡ freeAreaOf l → a ≡ areas.Area x → (soundB l ≡ true) × (x ≡ freeArea (tree l))
-  unfolding freeAreaOf
-  free-is e h = area-given (soundB l) (sym h ∙ e)
+  pub free-is : {a : AreaAnswer} {x : ℕ} → a ≡ free_area_of l → a ≡ areas.Area x → (sound_b l ≡ true) × (x ≡ free_area (tree l))
+  unfolding free_area_of
+  free-is e h = area-given (sound_b l) (sym h ∙ e)
 
-  pub free-not : {a : AreaAnswer} {r : Refusal} → a ≡ freeAreaOf l → a ≡ areas.Refused r → soundB l ≡ false
-  unfolding freeAreaOf
-  free-not e h = area-refused (soundB l) (freeArea (tree l)) (sym h ∙ e)
+  pub free-not : {a : AreaAnswer} {r : Refusal} → a ≡ free_area_of l → a ≡ areas.Refused r → sound_b l ≡ false
+  unfolding free_area_of
+  free-not e h = area-refused (sound_b l) (free_area (tree l)) (sym h ∙ e)
 
-  pub nodes-is : {a : CountAnswer} {x : ℕ} → a ≡ nodesHeldOf l → a ≡ counts.Count x → (soundB l ≡ true) × (x ≡ count (tree l))
-  unfolding nodesHeldOf
-  nodes-is e h = count-given (soundB l) (sym h ∙ e)
+  pub nodes-is : {a : CountAnswer} {x : ℕ} → a ≡ nodes_held_of l → a ≡ counts.Count x → (sound_b l ≡ true) × (x ≡ count (tree l))
+  unfolding nodes_held_of
+  nodes-is e h = count-given (sound_b l) (sym h ∙ e)
 
-  pub nodes-not : {a : CountAnswer} {r : Refusal} → a ≡ nodesHeldOf l → a ≡ counts.Refused r → soundB l ≡ false
-  unfolding nodesHeldOf
-  nodes-not e h = count-refused (soundB l) (count (tree l)) (sym h ∙ e)
+  pub nodes-not : {a : CountAnswer} {r : Refusal} → a ≡ nodes_held_of l → a ≡ counts.Refused r → sound_b l ≡ false
+  unfolding nodes_held_of
+  nodes-not e h = count-refused (sound_b l) (count (tree l)) (sym h ∙ e)
 
-  pub empty-is : {a : EmptyAnswer} {x : Bool} → a ≡ isEmptyOf l → a ≡ empties.Says x → (soundB l ≡ true) × (x ≡ allFree (tree l))
-  unfolding isEmptyOf
-  empty-is e h = empty-given (soundB l) (sym h ∙ e)
+  pub empty-is : {a : EmptyAnswer} {x : Bool} → a ≡ is_empty_of l → a ≡ empties.Says x → (sound_b l ≡ true) × (x ≡ all_free (tree l))
+  unfolding is_empty_of
+  empty-is e h = empty-given (sound_b l) (sym h ∙ e)
 
-  pub empty-not : {a : EmptyAnswer} {r : Refusal} → a ≡ isEmptyOf l → a ≡ empties.Refused r → soundB l ≡ false
-  unfolding isEmptyOf
-  empty-not e h = empty-refused (soundB l) (allFree (tree l)) (sym h ∙ e)
+  pub empty-not : {a : EmptyAnswer} {r : Refusal} → a ≡ is_empty_of l → a ≡ empties.Refused r → sound_b l ≡ false
+  unfolding is_empty_of
+  empty-not e h = empty-refused (sound_b l) (all_free (tree l)) (sym h ∙ e)
 
-  pub sheet-is : {a : UsageAnswer} {x : Float} → a ≡ sheetUsageOf l → a ≡ usages.Usage x → (soundB l ≡ true) × (x ≡ sheetUsage (partArea (tree l)) (area l.settings.sheet))
-  unfolding sheetUsageOf
-  sheet-is e h = usage-given (soundB l) (sym h ∙ e)
+  pub sheet-is : {a : UsageAnswer} {x : Float} → a ≡ sheet_usage_of l → a ≡ usages.Usage x → (sound_b l ≡ true) × (x ≡ sheet_usage (part_area (tree l)) (area l.settings.sheet))
+  unfolding sheet_usage_of
+  sheet-is e h = usage-given (sound_b l) (sym h ∙ e)
 
-  pub sheet-not : {a : UsageAnswer} {r : Refusal} → a ≡ sheetUsageOf l → a ≡ usages.Refused r → soundB l ≡ false
-  unfolding sheetUsageOf
-  sheet-not e h = usage-refused (soundB l) (sheetUsage (partArea (tree l)) (area l.settings.sheet)) (sym h ∙ e)
+  pub sheet-not : {a : UsageAnswer} {r : Refusal} → a ≡ sheet_usage_of l → a ≡ usages.Refused r → sound_b l ≡ false
+  unfolding sheet_usage_of
+  sheet-not e h = usage-refused (sound_b l) (sheet_usage (part_area (tree l)) (area l.settings.sheet)) (sym h ∙ e)
 
-  pub tree_is : {a : UsageAnswer} {x : Float} → a ≡ treeUsageOf l → a ≡ usages.Usage x → (soundB l ≡ true) × (x ≡ treeUsage (tree l))
-  unfolding treeUsageOf
-  tree_is e h = usage-given (soundB l) (sym h ∙ e)
+  pub tree_is : {a : UsageAnswer} {x : Float} → a ≡ tree_usage_of l → a ≡ usages.Usage x → (sound_b l ≡ true) × (x ≡ tree_usage (tree l))
+  unfolding tree_usage_of
+  tree_is e h = usage-given (sound_b l) (sym h ∙ e)
 
-  pub tree-not : {a : UsageAnswer} {r : Refusal} → a ≡ treeUsageOf l → a ≡ usages.Refused r → soundB l ≡ false
-  unfolding treeUsageOf
-  tree-not e h = usage-refused (soundB l) (treeUsage (tree l)) (sym h ∙ e)
+  pub tree-not : {a : UsageAnswer} {r : Refusal} → a ≡ tree_usage_of l → a ≡ usages.Refused r → sound_b l ≡ false
+  unfolding tree_usage_of
+  tree-not e h = usage-refused (sound_b l) (tree_usage (tree l)) (sym h ∙ e)

@@ -7,50 +7,50 @@ use mathlib.Core.List.{List, [], ◌∷◌}
 use Prim.Native.Nat.{ℕ}
 use lib.Dec.{eqb}
 use borrow.Author.Tests.{eqb-true}
-use Rattle.piece.specs.Numbers.{turnListed}
+use Rattle.piece.specs.Numbers.{turn_listed}
 use Rattle.piece.proofs.Numbers.{turn-stays}
-use Rattle.frames.specs.Requests.{Form, bareForm, opIn, requestOf}
+use Rattle.frames.specs.Requests.{Form, bare_form, op_in, request_of}
 use Rattle.frames.proofs.Laws.{by-test, first-true}
 use Rattle.frames.proofs.Forms.{none, more}
 use Rattle.frames.proofs.Heard.{Meaning, HeardBy, bare-means, table-heard, heard, request-fits}
 use Rattle.desk_frames.specs.declared.Question.TheVariants.{FreePiece, RemovablePiece, PartNumbers, Figures, Snapshot, Cuts, EatenArea, Amounts}
 use Rattle.desk_frames.specs.declared.DeskRequest.{DeskRequest}
 use Rattle.desk_frames.specs.declared.DeskRequest.TheVariants.{Asks, Tidy, AtCounter}
-use Rattle.desk_frames.specs.Requests.{isOwn, malformedLine, whyNotForm, lightForm, positionForm, questionForm, deskRequestOf, deskCarriedBy, deskFrameOf}
+use Rattle.desk_frames.specs.Requests.{is_own, malformed_line, why_not_form, light_form, position_form, question_form, desk_request_of, desk_carried_by, desk_frame_of}
 use Rattle.desk_frames.specs.Ranges.{DeskRequestFits}
 
 -- ---- each op of the desk's own
 abbrev Meant : ℕ → Form DeskRequest → Type 0
-Meant op f = Meaning malformedLine deskCarriedBy DeskRequestFits op f
+Meant op f = Meaning malformed_line desk_carried_by DeskRequestFits op f
 
-why-not-meant : Meant 17 whyNotForm
-unfolding deskCarriedBy
+why-not-meant : Meant 17 why_not_form
+unfolding desk_carried_by
 why-not-meant vs (more a (more b (more c (more d (more e (more f (more {v = n} g none))))))) h =
-    let k = turn-stays n (first-true (turnListed n) true h) in
+    let k = turn-stays n (first-true (turn_listed n) true h) in
     record {
       carries = inr (rw k refl);
       fits = (record { layout = a; place = b; serial = c }, record { number = d; size = record { width = e; height = f } });
     }
 
-light-meant : Meant 18 lightForm
-unfolding deskCarriedBy
+light-meant : Meant 18 light_form
+unfolding desk_carried_by
 light-meant vs (more d (more e (more f (more {v = n} g none)))) h =
-    let k = turn-stays n (first-true (turnListed n) true h) in
+    let k = turn-stays n (first-true (turn_listed n) true h) in
     record { carries = inr (rw k refl); fits = record { number = d; size = record { width = e; height = f } } }
 
-free-meant : Meant 19 (positionForm FreePiece)
-unfolding deskCarriedBy
+free-meant : Meant 19 (position_form FreePiece)
+unfolding desk_carried_by
 free-meant vs (more a none) h = record { carries = inr refl; fits = a }
 
-removable-meant : Meant 20 (positionForm RemovablePiece)
-unfolding deskCarriedBy
+removable-meant : Meant 20 (position_form RemovablePiece)
+unfolding desk_carried_by
 removable-meant vs (more a none) h = record { carries = inr refl; fits = a }
 
-bare-meant : (op : ℕ) (q : DeskRequest) → (q ≡ malformedLine) ⊎ (deskCarriedBy q ≡ op ∷ []) → DeskRequestFits q → Meant op (bareForm q)
-bare-meant = bare-means malformedLine deskCarriedBy DeskRequestFits tt
+bare-meant : (op : ℕ) (q : DeskRequest) → (q ≡ malformed_line) ⊎ (desk_carried_by q ≡ op ∷ []) → DeskRequestFits q → Meant op (bare_form q)
+bare-meant = bare-means malformed_line desk_carried_by DeskRequestFits tt
 
-question-meant : (op : ℕ) → Meant op (questionForm op)
-unfolding questionForm deskCarriedBy
+question-meant : (op : ℕ) → Meant op (question_form op)
+unfolding question_form desk_carried_by
 question-meant op =
     by-test (eqb op 17) (λ e. rw (eqb-true op 17 e) why-not-meant)
     (λ e17. by-test (eqb op 18) (λ e. rw (eqb-true op 18 e) light-meant)
@@ -63,22 +63,22 @@ question-meant op =
     (λ e24. by-test (eqb op 25) (λ e. rw (eqb-true op 25 e) (bare-meant 25 (Asks EatenArea) (inr refl) tt))
     (λ e25. by-test (eqb op 26) (λ e. rw (eqb-true op 26 e) (bare-meant 26 (Asks Amounts) (inr refl) tt))
     (λ e26. by-test (eqb op 27) (λ e. rw (eqb-true op 27 e) (bare-meant 27 Tidy (inr refl) tt))
-    (λ e27. rw (e17, e18, e19, e20, e21, e22, e23, e24, e25, e26, e27) (bare-meant op malformedLine (inl refl) tt))))))))))))
+    (λ e27. rw (e17, e18, e19, e20, e21, e22, e23, e24, e25, e26, e27) (bare-meant op malformed_line (inl refl) tt))))))))))))
 
 -- ---- every line
 module _ (line : List ℕ) where
-  at-counter : HeardBy malformedLine deskCarriedBy DeskRequestFits line (AtCounter (requestOf line))
-  unfolding deskCarriedBy
+  at-counter : HeardBy malformed_line desk_carried_by DeskRequestFits line (AtCounter (request_of line))
+  unfolding desk_carried_by
   at-counter = record { frame = ⊎_elim (λ m. inl (ap AtCounter m)) inr (heard line); fits = request-fits line }
 
-  line-heard : HeardBy malformedLine deskCarriedBy DeskRequestFits line (deskRequestOf line)
-  unfolding deskRequestOf
+  line-heard : HeardBy malformed_line desk_carried_by DeskRequestFits line (desk_request_of line)
+  unfolding desk_request_of
   line-heard =
-      by-test (isOwn (opIn line)) (λ e. rw e (table-heard malformedLine deskCarriedBy DeskRequestFits tt questionForm question-meant line)) (λ e. rw e at-counter)
+      by-test (is_own (op_in line)) (λ e. rw e (table-heard malformed_line desk_carried_by DeskRequestFits tt question_form question-meant line)) (λ e. rw e at-counter)
 
-  pub desk-heard : (deskRequestOf line ≡ malformedLine) ⊎ (line ≡ deskFrameOf (deskRequestOf line))
+  pub desk-heard : (desk_request_of line ≡ malformed_line) ⊎ (line ≡ desk_frame_of (desk_request_of line))
   desk-heard = line-heard.frame
 
   -- and a line asks only what fits
-  pub desk-request-fits : DeskRequestFits (deskRequestOf line)
+  pub desk-request-fits : DeskRequestFits (desk_request_of line)
   desk-request-fits = line-heard.fits

@@ -11,9 +11,9 @@ use Rattle.layout.specs.declared.layout.Layout.{Layout}
 use Rattle.layout.specs.declared.replies.Outcome.{Outcome}
 use Rattle.layout.specs.declared.replies.Outcome.TheVariants.{Done, Refused}
 use Rattle.layout.specs.declared.tidy.Tidied.{Tidied}
-use Rattle.layout.specs.Check.{tree, soundB}
+use Rattle.layout.specs.Check.{tree, sound_b}
 use Rattle.layout.specs.SoundLayout.{Sized}
-use Rattle.layout.specs.Tidy.{TidySays, tidyNo}
+use Rattle.layout.specs.Tidy.{TidySays, tidy_no}
 use Rattle.layout.proofs.Exactly.{sound-says}
 use Rattle.layout.proofs.TidyEnds.{empties-most}
 use Rattle.layout.proofs.Tidying.{chain-means, tidy-accepted, tidy-refused}
@@ -28,9 +28,9 @@ passed : (b : Bool) (o : Option Refusal) → cond b o (some NotSound) ≡ none �
 passed true o h = refl
 passed false o h = let z : ◌≡◌ {A = ℕ} 0 1 = cc in absurd (omega arith)
 
-not-refused : (l : Layout) → tidyNo l ≡ none → soundB l ≡ true
-unfolding tidyNo
-not-refused l h = passed (soundB l) _ h
+not-refused : (l : Layout) → tidy_no l ≡ none → sound_b l ≡ true
+unfolding tidy_no
+not-refused l h = passed (sound_b l) _ h
 
 pub tidy-leaves : (l : Layout) (d : Tidied) → Sized l → TidySays l d → TidyLeaves l d
 tidy-leaves l d sized says = go d.outcome refl

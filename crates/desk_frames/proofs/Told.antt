@@ -15,34 +15,34 @@ use Rattle.marks.specs.declared.Refusal.TheVariants.{NotSound, BufferTooShort}
 use Rattle.layout.specs.declared.layout.Layout.{Layout}
 use Rattle.layout.specs.declared.replies.Outcome.TheVariants as outcomes
 use Rattle.layout.specs.declared.replies.Outcome.TheVariants.{Done}
-use Rattle.layout.specs.Check.{limit, tree, soundB}
+use Rattle.layout.specs.Check.{limit, tree, sound_b}
 use Rattle.layout.specs.SoundLayout.{Sized}
 use Rattle.layout.proofs.Exactly.{sound-says}
 use Rattle.questions.specs.declared.why_not.WhyAnswer.{WhyAnswer}
-use Rattle.questions.specs.Reasons.{reasonNo}
+use Rattle.questions.specs.Reasons.{reason_no}
 use Rattle.questions.specs.declared.replies.CountAnswer.{CountAnswer}
 use Rattle.questions.specs.declared.replies.CountAnswer.TheVariants.{Count, Refused}
-use Rattle.questions.specs.Written.{answerTo, leftInBuffer, snapshotBytes, heldNumbers}
+use Rattle.questions.specs.Written.{answer_to, left_in_buffer, snapshot_bytes, held_numbers}
 use Rattle.questions.proofs.Lent.{numbers-room}
 use Rattle.questions.proofs.Snapshots.{snapshot-length}
-use Rattle.saw.specs.Written.{amountBytes, sawBytes}
+use Rattle.saw.specs.Written.{amount_bytes, saw_bytes}
 use Rattle.saw.proofs.Copied.{take-stored}
 use Rattle.saw.proofs.Layouts.{counted, list-room, amounts-room}
-use Rattle.frames.specs.Answers.{contentOf, refused}
+use Rattle.frames.specs.Answers.{content_of, refused}
 use Rattle.frames.specs.Bytes.{two}
 use Rattle.frames.specs.Writing.{line_for, LinePut}
 use Rattle.desk_frames.specs.declared.Question.{Question}
-use Rattle.desk_frames.specs.Answers.{Found, found, refusedWith, ifSound, reasonsFound, foundIn, questionOp, contentFor, Tells}
+use Rattle.desk_frames.specs.Answers.{Found, found, refused_with, if_sound, reasons_found, found_in, question_op, content_for, Tells}
 
 -- ---- the line of what is found, and of a refusal
 
 module _ (l : Layout) (q : Question) {before after : List ℕ} {n : ℕ} where
-  pub told : {f : Found} → f ≡ foundIn l q → LinePut before (contentFor (questionOp q) f) after n → Tells l q before after n
+  pub told : {f : Found} → f ≡ found_in l q → LinePut before (content_for (question_op q) f) after n → Tells l q before after n
   told e y = rw e at y
 
-  pub refusal-told : {e : Refusal} → refusedWith e ≡ foundIn l q → LinePut before (contentOf (refused (questionOp q) e)) after n
+  pub refusal-told : {e : Refusal} → refused_with e ≡ found_in l q → LinePut before (content_of (refused (question_op q) e)) after n
       → Tells l q before after n
-  unfolding contentOf
+  unfolding content_of
   refusal-told e y = told e y
 
 -- a line leaves a buffer as long as it was
@@ -51,20 +51,20 @@ line-room {before} {content} {after} {n} y = ap length y.line ∙ length-sets be
 
 -- ---- the reasons
 
-pub reasons-found : {a b : WhyAnswer} {x y : ℕ} → a ≡ b → a.outcome ≡ Done → x ≡ reasonNo a.default → y ≡ reasonNo a.rotated
-    → found (x ∷ y ∷ []) ≡ reasonsFound b
+pub reasons-found : {a b : WhyAnswer} {x y : ℕ} → a ≡ b → a.outcome ≡ Done → x ≡ reason_no a.default → y ≡ reason_no a.rotated
+    → found (x ∷ y ∷ []) ≡ reasons_found b
 reasons-found e h f g = rw (← e, h, f, g) refl
 
-pub why-refused : {a b : WhyAnswer} {r : Refusal} → a ≡ b → a.outcome ≡ outcomes.Refused r → refusedWith r ≡ reasonsFound b
+pub why-refused : {a b : WhyAnswer} {r : Refusal} → a ≡ b → a.outcome ≡ outcomes.Refused r → refused_with r ≡ reasons_found b
 why-refused e h = rw (← e, h) refl
 
 -- ---- where only refusal 1 can be given
 
 module _ (l : Layout) where
-  pub sound-found : {x bs : List ℕ} → soundB l ≡ true → x ≡ bs → found x ≡ ifSound l bs
+  pub sound-found : {x bs : List ℕ} → sound_b l ≡ true → x ≡ bs → found x ≡ if_sound l bs
   sound-found h e = rw (h, e) refl
 
-  pub unsound-found : (bs : List ℕ) {e : Refusal} → soundB l ≡ false → e ≡ NotSound → refusedWith e ≡ ifSound l bs
+  pub unsound-found : (bs : List ℕ) {e : Refusal} → sound_b l ≡ false → e ≡ NotSound → refused_with e ≡ if_sound l bs
   unsound-found bs h e = rw (h, e) refl
 
 -- how many, and what is counted
@@ -73,19 +73,19 @@ counted-bytes e f = rw (e, f) refl
 
 -- a call that is to write `what` into a buffer of zeros
 module _ (l : Layout) (what : List ℕ) (room : ℕ) (after : List ℕ) {r : CountAnswer}
-    (leaves : after ≡ leftInBuffer l what (zeros room)) (answers : r ≡ answerTo l what (length (zeros room))) where
+    (leaves : after ≡ left_in_buffer l what (zeros room)) (answers : r ≡ answer_to l what (length (zeros room))) where
   -- its count is that of what is written, which then stands first
-  pub lent-count : {n : ℕ} → r ≡ Count n → (soundB l ≡ true) × (n ≡ length what) × (n ≤ length after) × (take n after ≡ what)
+  pub lent-count : {n : ℕ} → r ≡ Count n → (sound_b l ≡ true) × (n ≡ length what) × (n ≤ length after) × (take n after ≡ what)
   lent-count {n} h =
       let before = zeros room in
       let w =
-      counted (soundB l) (leb (length what) (length before)) (length what) n before (sets before 0 what) after (sym h ∙ answers) leaves in
+      counted (sound_b l) (leb (length what) (length before)) (length what) n before (sets before 0 what) after (sym h ∙ answers) leaves in
       let fits = leb-true (length what) (length before) w.1 in
       (w.0, w.2, omega (arith, w.2, ap length w.3, length-sets before 0 what), rw (w.3, w.2) (take-stored what before (length what) refl fits))
 
   -- with room for all, it is refused only where the layout isn't sound
-  pub lent-refused : (soundB l ≡ true → length what ≤ room) → {e : Refusal} → r ≡ Refused e → (soundB l ≡ false) × (e ≡ NotSound)
-  lent-refused enough {e} h = go (soundB l) enough (sym h ∙ answers)
+  pub lent-refused : (sound_b l ≡ true → length what ≤ room) → {e : Refusal} → r ≡ Refused e → (sound_b l ≡ false) × (e ≡ NotSound)
+  lent-refused enough {e} h = go (sound_b l) enough (sym h ∙ answers)
     where
       go : (b : Bool) → (b ≡ true → length what ≤ room)
           → Refused e ≡ cond b (cond (leb (length what) (length (zeros room))) (Count (length what)) (Refused BufferTooShort)) (Refused NotSound)
@@ -98,15 +98,15 @@ module _ (l : Layout) (what : List ℕ) (room : ℕ) (after : List ℕ) {r : Cou
       go false fits f = (refl, cc)
 
 -- the four buffers have room for all that a sound layout can have
-module _ (l : Layout) (sized : Sized l) (ok : soundB l ≡ true) where
-  pub numbers_fit : length (heldNumbers l) ≤ limit
+module _ (l : Layout) (sized : Sized l) (ok : sound_b l ≡ true) where
+  pub numbers_fit : length (held_numbers l) ≤ limit
   numbers_fit = numbers-room l (sound-says l sized ok)
 
-  pub snapshot-count : (length (snapshotBytes l) ≡ 14 * count (tree l)) × (count (tree l) ≤ limit)
+  pub snapshot-count : (length (snapshot_bytes l) ≡ 14 * count (tree l)) × (count (tree l) ≤ limit)
   snapshot-count = let s = sound-says l sized ok in (snapshot-length l s, s.sound.room)
 
-  pub cuts_fit : length (sawBytes l) ≤ 9 * limit
+  pub cuts_fit : length (saw_bytes l) ≤ 9 * limit
   cuts_fit = list-room l (sound-says l sized ok)
 
-  pub amounts-fit : length (amountBytes l) ≤ limit
+  pub amounts-fit : length (amount_bytes l) ≤ limit
   amounts-fit = amounts-room l (sound-says l sized ok)

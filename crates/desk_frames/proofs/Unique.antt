@@ -16,10 +16,10 @@ use Rattle.desk_frames.specs.declared.Question.{Question}
 use Rattle.desk_frames.specs.declared.DeskRequest.{DeskRequest}
 use Rattle.desk_frames.specs.declared.DeskStepped.{DeskStepped}
 use Rattle.desk_frames.specs.declared.listener.DeskTurn.{DeskTurn}
-use Rattle.desk_frames.specs.Requests.{malformedLine, deskRequestOf}
-use Rattle.desk_frames.specs.Answers.{contentFor, tidyFound, tidyOp, Tells}
-use Rattle.desk_frames.specs.Desk.{deskContent, DeskSteps}
-use Rattle.desk_frames.specs.Listener.{deskTextOf, DeskTurned, DeskTakes, DeskEnds}
+use Rattle.desk_frames.specs.Requests.{malformed_line, desk_request_of}
+use Rattle.desk_frames.specs.Answers.{content_for, tidy_found, tidy_op, Tells}
+use Rattle.desk_frames.specs.Desk.{desk_content, DeskSteps}
+use Rattle.desk_frames.specs.Listener.{desk_text_of, DeskTurned, DeskTakes, DeskEnds}
 use Rattle.desk_frames.proofs.Decided.{desk-answers-once, desk-runs-once}
 
 module _ (before a b : List ℕ) where
@@ -33,31 +33,31 @@ module _ (before a b : List ℕ) where
   answer-is-one l q n m = same_line refl
 
   -- ---- what is answered to a tidying
-  pub tidied-is-one : (v : Outcome) (k n m : ℕ) → LinePut before (contentFor tidyOp (tidyFound v k)) a n
-      → LinePut before (contentFor tidyOp (tidyFound v k)) b m → (a ≡ b) × (n ≡ m)
+  pub tidied-is-one : (v : Outcome) (k n m : ℕ) → LinePut before (content_for tidy_op (tidy_found v k)) a n
+      → LinePut before (content_for tidy_op (tidy_found v k)) b m → (a ≡ b) × (n ≡ m)
   tidied-is-one v k n m = same_line refl
 
   -- ---- a request, a line, and a line that is malformed as it stands
   pub desk-asked-is-one : (s : Session) (q : DeskRequest) (r p : DeskStepped) → DeskSteps s q before a r → DeskSteps s q before b p → (a ≡ b) × (r ≡ p)
   desk-asked-is-one s q r p x y =
       let e = desk-answers-once s q r.session p.session x.answer y.answer x.answers y.answers in
-      let same = same_line (ap deskContent e.1) x.put y.put in
+      let same = same_line (ap desk_content e.1) x.put y.put in
       (same.0, λ i. record { session = e.0 i; count = same.1 i })
 
-  pub desk-step-is-one : (s : Session) (line : List ℕ) (r p : DeskStepped) → DeskSteps s (deskRequestOf line) before a r
-      → DeskSteps s (deskRequestOf line) before b p → (a ≡ b) × (r ≡ p)
-  desk-step-is-one s line = desk-asked-is-one s (deskRequestOf line)
+  pub desk-step-is-one : (s : Session) (line : List ℕ) (r p : DeskStepped) → DeskSteps s (desk_request_of line) before a r
+      → DeskSteps s (desk_request_of line) before b p → (a ≡ b) × (r ≡ p)
+  desk-step-is-one s line = desk-asked-is-one s (desk_request_of line)
 
-  pub desk-malformed-is-one : (s : Session) (r p : DeskStepped) → DeskSteps s malformedLine before a r → DeskSteps s malformedLine before b p
+  pub desk-malformed-is-one : (s : Session) (r p : DeskStepped) → DeskSteps s malformed_line before a r → DeskSteps s malformed_line before b p
       → (a ≡ b) × (r ≡ p)
-  desk-malformed-is-one s = desk-asked-is-one s malformedLine
+  desk-malformed-is-one s = desk-asked-is-one s malformed_line
 
   -- ---- the listener: the same lines were answered, and the chunk goes on at the same position
   turned-is-one : (d : Listener) (f : Fed) (r p : DeskTurn) → r.next ≡ p.next → DeskTurned d f before a r → DeskTurned d f before b p
       → (a ≡ b) × (r ≡ p)
   turned-is-one d f r p next x y =
       let e = desk-runs-once x.runs y.runs in
-      let text = ap deskTextOf e.0 in
+      let text = ap desk_text_of e.0 in
       let pending = only r.listener.pending p.listener.pending x.pending y.pending in
       let count = x.count ∙ ap length text ∙ sym y.count in (
         x.written ∙ ap (sets before 0) text ∙ sym y.written,

@@ -5,15 +5,15 @@ use Rattle.std.specs.Float.{binary64}
 use Rattle.std.specs.Float.Ieee.{to_bits}
 use Rattle.piece.specs.Sides.{area}
 use Rattle.tree.specs.Tree.{count}
-use Rattle.tree.specs.Figures.{partArea, freeArea, sheetUsage, treeUsage}
-use Rattle.marks.specs.Marks.{zeroMark}
+use Rattle.tree.specs.Figures.{part_area, free_area, sheet_usage, tree_usage}
+use Rattle.marks.specs.Marks.{zero_mark}
 use Rattle.marks.specs.declared.Refusal.{Refusal}
 use Rattle.marks.specs.declared.Refusal.TheVariants.{NotSound}
-use Rattle.marks.specs.Refusals.{refusalNo}
+use Rattle.marks.specs.Refusals.{refusal_no}
 use Rattle.layout.specs.declared.layout.Layout.{Layout}
 use Rattle.layout.specs.declared.replies.Outcome.{Outcome}
 use Rattle.layout.specs.declared.replies.Outcome.TheVariants as outcomes
-use Rattle.layout.specs.Check.{tree, soundB}
+use Rattle.layout.specs.Check.{tree, sound_b}
 use Rattle.questions.specs.declared.replies.AreaAnswer.{AreaAnswer}
 use Rattle.questions.specs.declared.replies.AreaAnswer.TheVariants as areas
 use Rattle.questions.specs.declared.replies.LightAnswer.{LightAnswer}
@@ -21,15 +21,15 @@ use Rattle.questions.specs.declared.replies.LightAnswer.TheVariants as lights
 use Rattle.questions.specs.declared.replies.MarkAnswer.{MarkAnswer}
 use Rattle.questions.specs.declared.replies.MarkAnswer.TheVariants as marks
 use Rattle.questions.specs.declared.why_not.WhyAnswer.{WhyAnswer}
-use Rattle.questions.specs.Answers.{allFree, eatenAreaOf, freeMarkOf, removableMarkOf}
-use Rattle.questions.specs.Light.{lightOf}
-use Rattle.questions.specs.Reasons.{reasonNo}
-use Rattle.questions.specs.WhyNot.{whyCall}
-use Rattle.questions.specs.Written.{snapshotBytes, heldNumbers}
+use Rattle.questions.specs.Answers.{all_free, eaten_area_of, free_mark_of, removable_mark_of}
+use Rattle.questions.specs.Light.{light_of}
+use Rattle.questions.specs.Reasons.{reason_no}
+use Rattle.questions.specs.WhyNot.{why_call}
+use Rattle.questions.specs.Written.{snapshot_bytes, held_numbers}
 use Rattle.saw.specs.Cuts.{cuts}
-use Rattle.saw.specs.Written.{amountBytes, sawBytes}
+use Rattle.saw.specs.Written.{amount_bytes, saw_bytes}
 use Rattle.frames.specs.Bytes.{two, eight}
-use Rattle.frames.specs.Fields.{markBytes}
+use Rattle.frames.specs.Fields.{mark_bytes}
 use Rattle.frames.specs.Answers.{each}
 use Rattle.frames.specs.Writing.{LinePut}
 use Rattle.desk_frames.specs.declared.Question.{Question}
@@ -39,43 +39,43 @@ use Rattle.desk_frames.specs.declared.write.FigureList.{FigureList}
 -- the bytes that are answered behind the op and 00; or a refusal
 pub data Found : Type 0 where
   found : List ℕ → Found
-  refusedWith : Refusal → Found
+  refused_with : Refusal → Found
 
 -- a layout that isn't sound has nothing to find: refusal 1
-abbrev pub ifSound : Layout → List ℕ → Found
-ifSound l bs = cond (soundB l) (found bs) (refusedWith NotSound)
+abbrev pub if_sound : Layout → List ℕ → Found
+if_sound l bs = cond (sound_b l) (found bs) (refused_with NotSound)
 
 -- "reason in rotation Default 1, reason in rotation Rotated 1": refusals 1, 3, 4, 5, 6
-abbrev pub whyBy : Outcome → List ℕ → Found
-whyBy outcomes.Done bs = found bs
-whyBy (outcomes.Refused e) bs = refusedWith e
+abbrev pub why_by : Outcome → List ℕ → Found
+why_by outcomes.Done bs = found bs
+why_by (outcomes.Refused e) bs = refused_with e
 
-abbrev pub reasonsFound : WhyAnswer → Found
-reasonsFound a = whyBy a.outcome (reasonNo a.default ∷ reasonNo a.rotated ∷ [])
+abbrev pub reasons_found : WhyAnswer → Found
+reasons_found a = why_by a.outcome (reason_no a.default ∷ reason_no a.rotated ∷ [])
 
 -- "01 and its mark 7; or 00 and seven zero bytes": refusals 1, 3
-abbrev pub lightFound : LightAnswer → Found
-lightFound (lights.Room m) = found (1 ∷ markBytes m)
-lightFound lights.NoRoom = found (0 ∷ markBytes zeroMark)
-lightFound (lights.Refused e) = refusedWith e
+abbrev pub light_found : LightAnswer → Found
+light_found (lights.Room m) = found (1 ∷ mark_bytes m)
+light_found lights.NoRoom = found (0 ∷ mark_bytes zero_mark)
+light_found (lights.Refused e) = refused_with e
 
 -- "mark 7": refusals 1, 12
-abbrev pub markFound : MarkAnswer → Found
-markFound (marks.Found m) = found (markBytes m)
-markFound (marks.Refused e) = refusedWith e
+abbrev pub mark_found : MarkAnswer → Found
+mark_found (marks.Found m) = found (mark_bytes m)
+mark_found (marks.Refused e) = refused_with e
 
 -- "area 8": refusal 1
-abbrev pub areaFound : AreaAnswer → Found
-areaFound (areas.Area a) = found (eight a)
-areaFound (areas.Refused e) = refusedWith e
+abbrev pub area_found : AreaAnswer → Found
+area_found (areas.Area a) = found (eight a)
+area_found (areas.Refused e) = refused_with e
 
 -- "how many 2; part number 2 each"
-abbrev pub numbersBytes : List ℕ → List ℕ
-numbersBytes ns = two (length ns) ++ each two ns
+abbrev pub numbers_bytes : List ℕ → List ℕ
+numbers_bytes ns = two (length ns) ++ each two ns
 
 -- "used area 8, free area 8, nodes held 2, is it empty 1, sheet usage 8, tree usage 8"
-abbrev pub figuresBytes : FigureList → List ℕ
-figuresBytes f =
+abbrev pub figures_bytes : FigureList → List ℕ
+figures_bytes f =
     eight f.used
     ++ (eight f.free
     ++ (two f.nodes
@@ -83,69 +83,69 @@ figuresBytes f =
     ∷ (eight f.sheet
     ++ eight f.tree))))
 
-abbrev pub yesNo : Bool → ℕ
-yesNo b = cond b 1 0
+abbrev pub yes_no : Bool → ℕ
+yes_no b = cond b 1 0
 
-abbrev pub figuresOf : Layout → FigureList
-figuresOf l =
+abbrev pub figures_of : Layout → FigureList
+figures_of l =
     record {
-      used = partArea (tree l);
-      free = freeArea (tree l);
+      used = part_area (tree l);
+      free = free_area (tree l);
       nodes = count (tree l);
-      empty = yesNo (allFree (tree l));
-      sheet = to_bits binary64 (sheetUsage (partArea (tree l)) (area l.settings.sheet));
-      tree = to_bits binary64 (treeUsage (tree l));
+      empty = yes_no (all_free (tree l));
+      sheet = to_bits binary64 (sheet_usage (part_area (tree l)) (area l.settings.sheet));
+      tree = to_bits binary64 (tree_usage (tree l));
     }
 
 -- "how many nodes 2; each 14 bytes"; "how many cuts 2; each 9 bytes"; "how many cuts 2; what each eats 1"
-abbrev pub snapshotFound : Layout → List ℕ
-snapshotFound l = two (count (tree l)) ++ snapshotBytes l
+abbrev pub snapshot_found : Layout → List ℕ
+snapshot_found l = two (count (tree l)) ++ snapshot_bytes l
 
-abbrev pub cutsFound : Layout → List ℕ
-cutsFound l = two (length (cuts (tree l))) ++ sawBytes l
+abbrev pub cuts_found : Layout → List ℕ
+cuts_found l = two (length (cuts (tree l))) ++ saw_bytes l
 
-abbrev pub amountsFound : Layout → List ℕ
-amountsFound l = two (length (cuts (tree l))) ++ amountBytes l
+abbrev pub amounts_found : Layout → List ℕ
+amounts_found l = two (length (cuts (tree l))) ++ amount_bytes l
 
 -- THE RULE: what each question finds in a layout
-unfoldable pub foundIn : Layout → Question → Found
-foundIn l (WhyNot mark part) = reasonsFound (whyCall l mark part)
-foundIn l (RoomLight part) = lightFound (lightOf l part)
-foundIn l (FreePiece position) = markFound (freeMarkOf l position)
-foundIn l (RemovablePiece position) = markFound (removableMarkOf l position)
-foundIn l PartNumbers = ifSound l (numbersBytes (heldNumbers l))
-foundIn l Figures = ifSound l (figuresBytes (figuresOf l))
-foundIn l Snapshot = ifSound l (snapshotFound l)
-foundIn l Cuts = ifSound l (cutsFound l)
-foundIn l EatenArea = areaFound (eatenAreaOf l)
-foundIn l Amounts = ifSound l (amountsFound l)
+unfoldable pub found_in : Layout → Question → Found
+found_in l (WhyNot mark part) = reasons_found (why_call l mark part)
+found_in l (RoomLight part) = light_found (light_of l part)
+found_in l (FreePiece position) = mark_found (free_mark_of l position)
+found_in l (RemovablePiece position) = mark_found (removable_mark_of l position)
+found_in l PartNumbers = if_sound l (numbers_bytes (held_numbers l))
+found_in l Figures = if_sound l (figures_bytes (figures_of l))
+found_in l Snapshot = if_sound l (snapshot_found l)
+found_in l Cuts = if_sound l (cuts_found l)
+found_in l EatenArea = area_found (eaten_area_of l)
+found_in l Amounts = if_sound l (amounts_found l)
 
 -- its op
-abbrev pub questionOp : Question → ℕ
-questionOp (WhyNot mark part) = 17
-questionOp (RoomLight part) = 18
-questionOp (FreePiece position) = 19
-questionOp (RemovablePiece position) = 20
-questionOp PartNumbers = 21
-questionOp Figures = 22
-questionOp Snapshot = 23
-questionOp Cuts = 24
-questionOp EatenArea = 25
-questionOp Amounts = 26
+abbrev pub question_op : Question → ℕ
+question_op (WhyNot mark part) = 17
+question_op (RoomLight part) = 18
+question_op (FreePiece position) = 19
+question_op (RemovablePiece position) = 20
+question_op PartNumbers = 21
+question_op Figures = 22
+question_op Snapshot = 23
+question_op Cuts = 24
+question_op EatenArea = 25
+question_op Amounts = 26
 
 -- of tidying, the answer is "how many 2": refusals 1, 9
-abbrev pub tidyFound : Outcome → ℕ → Found
-tidyFound outcomes.Done count = found (two count)
-tidyFound (outcomes.Refused e) count = refusedWith e
+abbrev pub tidy_found : Outcome → ℕ → Found
+tidy_found outcomes.Done count = found (two count)
+tidy_found (outcomes.Refused e) count = refused_with e
 
-abbrev pub tidyOp : ℕ
-tidyOp = 27
+abbrev pub tidy_op : ℕ
+tidy_op = 27
 
 -- the bytes of the answer, before their check: "A refusal is op, number, check"
-abbrev pub contentFor : ℕ → Found → List ℕ
-contentFor op (found bs) = op ∷ 0 ∷ bs
-contentFor op (refusedWith e) = op ∷ refusalNo e ∷ []
+abbrev pub content_for : ℕ → Found → List ℕ
+content_for op (found bs) = op ∷ 0 ∷ bs
+content_for op (refused_with e) = op ∷ refusal_no e ∷ []
 
 -- what the functions of `replies` leave in the lent line
 abbrev pub Tells : Layout → Question → List ℕ → List ℕ → ℕ → Type 0
-Tells l q before after n = LinePut before (contentFor (questionOp q) (foundIn l q)) after n
+Tells l q before after n = LinePut before (content_for (question_op q) (found_in l q)) after n

@@ -7,12 +7,12 @@ use Rattle.desk_frames.specs.declared.DeskStepped.{DeskStepped}
 use Rattle.desk_frames.specs.declared.listener.DeskTurn.{DeskTurn}
 
 -- an answer of the counter's, once its line stands in the one that was lent
-abbrev pub copiedFrom : Stepped → DeskStepped
-copiedFrom r = record { session = r.session; count = r.count }
+abbrev pub copied_from : Stepped → DeskStepped
+copied_from r = record { session = r.session; count = r.count }
 
 -- a turn with an answer, after which nothing is pending; and one without
-abbrev pub deskSpoken : DeskStepped → ℕ → DeskTurn
-deskSpoken r n = record { listener = record { session = r.session; pending = empty }; next = n; count = r.count }
+abbrev pub desk_spoken : DeskStepped → ℕ → DeskTurn
+desk_spoken r n = record { listener = record { session = r.session; pending = empty }; next = n; count = r.count }
 
-abbrev pub deskSilent : Listener → ℕ → DeskTurn
-deskSilent d n = record { listener = d; next = n; count = 0 }
+abbrev pub desk_silent : Listener → ℕ → DeskTurn
+desk_silent d n = record { listener = d; next = n; count = 0 }

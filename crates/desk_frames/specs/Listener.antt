@@ -9,60 +9,60 @@ use Rattle.frames.specs.Ranges.{Each}
 use Rattle.frames.specs.Writing.{line_for}
 use Rattle.session.specs.declared.Session.{Session}
 use Rattle.session.specs.declared.listener.Listener.{Listener}
-use Rattle.session.specs.Listener.{RunsBy, oneStep, lastStep}
+use Rattle.session.specs.Listener.{RunsBy, one_step, last_step}
 use Rattle.desk_frames.specs.declared.DeskRequest.{DeskRequest}
 use Rattle.desk_frames.specs.declared.listener.DeskTurn.{DeskTurn}
-use Rattle.desk_frames.specs.Requests.{malformedLine, deskRequestOf}
+use Rattle.desk_frames.specs.Requests.{malformed_line, desk_request_of}
 use Rattle.desk_frames.specs.declared.DeskRequest.TheVariants.{Asks, Tidy, AtCounter}
-use Rattle.desk_frames.specs.Desk.{DeskAnswer, counters, told, DeskAnswers, deskContent}
+use Rattle.desk_frames.specs.Desk.{DeskAnswer, counters, told, DeskAnswers, desk_content}
 
 -- what a line asks
-abbrev pub deskAskedIn : Line → DeskRequest
-deskAskedIn (whole chars) = deskRequestOf chars
-deskAskedIn long = malformedLine
-deskAskedIn cut = malformedLine
+abbrev pub desk_asked_in : Line → DeskRequest
+desk_asked_in (whole chars) = desk_request_of chars
+desk_asked_in long = malformed_line
+desk_asked_in cut = malformed_line
 
 -- the lines, one after another, each with its answer, take the state s to the state u
 abbrev pub DeskRuns : Session → List Line → List DeskAnswer → Session → Type 0
-DeskRuns s lines answers u = RunsBy deskAskedIn DeskAnswers s lines answers u
+DeskRuns s lines answers u = RunsBy desk_asked_in DeskAnswers s lines answers u
 
 -- ---- the counter in it: the lines that ask no question; and the answers that are the counter's
-abbrev pub isQuestion : DeskRequest → Bool
-isQuestion (Asks q) = true
-isQuestion Tidy = false
-isQuestion (AtCounter q) = false
+abbrev pub is_question : DeskRequest → Bool
+is_question (Asks q) = true
+is_question Tidy = false
+is_question (AtCounter q) = false
 
 -- no line tidies: what does is no line of the counter's
 abbrev pub NoneTidies : List Line → Type 0
-NoneTidies lines = Each (λ line. deskAskedIn line ≡ Tidy → ⊥) lines
+NoneTidies lines = Each (λ line. desk_asked_in line ≡ Tidy → ⊥) lines
 
-unfoldable pub counterLines : List Line → List Line
-counterLines [] = []
-counterLines (line ∷ lines) = cond (isQuestion (deskAskedIn line)) (counterLines lines) (line ∷ counterLines lines)
+unfoldable pub counter_lines : List Line → List Line
+counter_lines [] = []
+counter_lines (line ∷ lines) = cond (is_question (desk_asked_in line)) (counter_lines lines) (line ∷ counter_lines lines)
 
-unfoldable pub counterAnswers : List DeskAnswer → List Answer
-counterAnswers [] = []
-counterAnswers (counters a ∷ xs) = a ∷ counterAnswers xs
-counterAnswers (told op f ∷ xs) = counterAnswers xs
+unfoldable pub counter_answers : List DeskAnswer → List Answer
+counter_answers [] = []
+counter_answers (counters a ∷ xs) = a ∷ counter_answers xs
+counter_answers (told op f ∷ xs) = counter_answers xs
 
 -- ---- its text: what answers look like on the output: their lines, one after another
-abbrev pub deskTextOf : List DeskAnswer → List ℕ
-deskTextOf xs = each (λ a. line_for (deskContent a)) xs
+abbrev pub desk_text_of : List DeskAnswer → List ℕ
+desk_text_of xs = each (λ a. line_for (desk_content a)) xs
 
 -- the listener has answered these lines, its answers' text stands first in the lent line, and this is pending
 pub record DeskTurned (d : Listener) (f : Fed) (before after : List ℕ) (r : DeskTurn) : Type 0 where
   pub answers : List DeskAnswer
   pub runs : DeskRuns d.session f.lines answers r.listener.session
   pub pending : r.listener.pending ≡ f.left
-  pub count : r.count ≡ length (deskTextOf answers)
-  pub written : after ≡ sets before 0 (deskTextOf answers)
+  pub count : r.count ≡ length (desk_text_of answers)
+  pub written : after ≡ sets before 0 (desk_text_of answers)
 
 -- what `turn` says
 pub record DeskTakes (d : Listener) (chunk : List ℕ) (at : ℕ) (before after : List ℕ) (r : DeskTurn) : Type 0 where
   pub next : r.next ≡ (take_of d.pending chunk at).next
-  pub turned : DeskTurned d (oneStep d.pending chunk at) before after r
+  pub turned : DeskTurned d (one_step d.pending chunk at) before after r
 
 -- what `finish` says
 pub record DeskEnds (d : Listener) (before after : List ℕ) (r : DeskTurn) : Type 0 where
   pub next : r.next ≡ 0
-  pub turned : DeskTurned d (lastStep d.pending) before after r
+  pub turned : DeskTurned d (last_step d.pending) before after r

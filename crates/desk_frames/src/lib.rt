@@ -5,9 +5,9 @@ ghost use Rattle.std.specs.Prelude.{◌≡◌, ◌≤◌, length, take};
 ghost use Rattle.std.proofs.lemmas.List.Edits.{sets};
 ghost use Rattle.desk_frames.specs.declared.DeskRequest.TheVariants as requests;
 ghost use Rattle.frames.specs.declared.Request.TheVariants as counters;
-ghost use Rattle.desk_frames.specs.Requests.{deskRequestOf};
-ghost use Rattle.desk_frames.specs.Desk.{DeskSteps, deskLongest};
-ghost use Rattle.desk_frames.specs.Inner.{copiedFrom};
+ghost use Rattle.desk_frames.specs.Requests.{desk_request_of};
+ghost use Rattle.desk_frames.specs.Desk.{DeskSteps, desk_longest};
+ghost use Rattle.desk_frames.specs.Inner.{copied_from};
 
 use frames::Request;
 use marks::Mark;
@@ -45,7 +45,7 @@ pub enum DeskRequest {
     AtCounter(Request),
 }
 
-// The characters of the longest answer, a snapshot of all nodes, with its newline: `deskLongest` of specs/Desk.antt.
+// The characters of the longest answer, a snapshot of all nodes, with its newline: `desk_longest` of specs/Desk.antt.
 pub const LONGEST_ANSWER: usize = 2 * (2 + 2 + NODE * LIMIT + 1) + 1;
 
 // The next state, and how many characters of the lent line are the answer, its newline among them.
@@ -58,7 +58,7 @@ pub struct DeskStepped {
 // The counter's answer, copied into the lent line.
 fn copied(stepped: Stepped, out: &mut [u8]) -> DeskStepped
     requires { (stepped.count ≤ length stepped.line) × (stepped.count ≤ length out.old) }
-    ensures result { result ≡ copiedFrom stepped }
+    ensures result { result ≡ copied_from stepped }
     ensures written { out.new ≡ sets out.old 0 (take stepped.count stepped.line) }
 {
     let line = stepped.line;
@@ -70,7 +70,7 @@ fn copied(stepped: Stepped, out: &mut [u8]) -> DeskStepped
 
 // The layout is tidied; what is kept stays.
 fn tidied(session: Session, out: &mut [u8]) -> DeskStepped
-    requires { deskLongest ≤ length out.old }
+    requires { desk_longest ≤ length out.old }
     ensures { DeskSteps session requests.Tidy out.old out.new result }
 {
     let layout = session.layout;
@@ -86,7 +86,7 @@ fn tidied(session: Session, out: &mut [u8]) -> DeskStepped
 }
 
 pub fn asked(session: Session, request: DeskRequest, out: &mut [u8]) -> DeskStepped
-    requires { deskLongest ≤ length out.old }
+    requires { desk_longest ≤ length out.old }
     ensures { DeskSteps session request out.old out.new result }
 {
     match request {
@@ -102,15 +102,15 @@ pub fn asked(session: Session, request: DeskRequest, out: &mut [u8]) -> DeskStep
 
 // The answer to the characters of a line, without its newline.
 pub fn step(session: Session, line: &[u8], out: &mut [u8]) -> DeskStepped
-    requires { deskLongest ≤ length out.old }
-    ensures { DeskSteps session (deskRequestOf line.now) out.old out.new result }
+    requires { desk_longest ≤ length out.old }
+    ensures { DeskSteps session (desk_request_of line.now) out.old out.new result }
 {
     asked(session, read::request(line), out)
 }
 
 // The answer to a line that is malformed as it stands.
 pub fn malformed(session: Session, out: &mut [u8]) -> DeskStepped
-    requires { deskLongest ≤ length out.old }
+    requires { desk_longest ≤ length out.old }
     ensures { DeskSteps session (requests.AtCounter counters.Malformed) out.old out.new result }
 {
     asked(session, DeskRequest::AtCounter(Request::Malformed), out)

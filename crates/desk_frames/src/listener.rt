@@ -1,10 +1,10 @@
 // The desk's listener: the state and the line that has begun, taken through a text that arrives in chunks, as the counter's (session/src/listener.rt).
 // Each line is answered when its newline arrives, in a line that is lent. Rests on `lines` for where lines end and on lib.rt for the answers.
 ghost use Rattle.std.specs.Prelude.{◌≡◌, ◌≤◌, length, take};
-ghost use Rattle.desk_frames.specs.Requests.{deskRequestOf};
-ghost use Rattle.desk_frames.specs.Desk.{DeskSteps, deskLongest};
+ghost use Rattle.desk_frames.specs.Requests.{desk_request_of};
+ghost use Rattle.desk_frames.specs.Desk.{DeskSteps, desk_longest};
 ghost use Rattle.desk_frames.specs.Listener.{DeskTakes, DeskEnds};
-ghost use Rattle.desk_frames.specs.Inner.{deskSpoken, deskSilent};
+ghost use Rattle.desk_frames.specs.Inner.{desk_spoken, desk_silent};
 
 use crate::{DeskStepped, malformed, step};
 use lines::stream::{Event, MOST, Pending, none};
@@ -21,8 +21,8 @@ pub struct DeskTurn {
 
 // The answer to the line that is pending.
 fn answer(session: Session, pending: Pending, out: &mut [u8]) -> DeskStepped
-    requires { deskLongest ≤ length out.old }
-    ensures { DeskSteps session (deskRequestOf (take pending.count pending.bytes)) out.old out.new result }
+    requires { desk_longest ≤ length out.old }
+    ensures { DeskSteps session (desk_request_of (take pending.count pending.bytes)) out.old out.new result }
 {
     let count = pending.count;
     let bytes = pending.bytes;
@@ -34,7 +34,7 @@ fn answer(session: Session, pending: Pending, out: &mut [u8]) -> DeskStepped
 
 // A line was answered, and nothing is pending.
 fn answered(stepped: DeskStepped, next: usize) -> DeskTurn
-    ensures { result ≡ deskSpoken stepped next }
+    ensures { result ≡ desk_spoken stepped next }
 {
     let session = stepped.session;
     DeskTurn {
@@ -49,7 +49,7 @@ fn answered(stepped: DeskStepped, next: usize) -> DeskTurn
 
 // No line was answered.
 fn unanswered(listener: Listener, next: usize) -> DeskTurn
-    ensures { result ≡ deskSilent listener next }
+    ensures { result ≡ desk_silent listener next }
 {
     DeskTurn {
         listener,
@@ -60,7 +60,7 @@ fn unanswered(listener: Listener, next: usize) -> DeskTurn
 
 // Takes the chunk from a position on, up to and with the next newline, or to the chunk's end.
 pub fn turn(listener: Listener, chunk: &[u8], at: usize, out: &mut [u8]) -> DeskTurn
-    requires { deskLongest ≤ length out.old }
+    requires { desk_longest ≤ length out.old }
     ensures { DeskTakes listener chunk.now at out.old out.new result }
 {
     let session = listener.session;
@@ -78,7 +78,7 @@ pub fn turn(listener: Listener, chunk: &[u8], at: usize, out: &mut [u8]) -> Desk
 
 // At the end of the input: a last line that lacks its newline gets its answer.
 pub fn finish(listener: Listener, out: &mut [u8]) -> DeskTurn
-    requires { deskLongest ≤ length out.old }
+    requires { desk_longest ≤ length out.old }
     ensures { DeskEnds listener out.old out.new result }
 {
     let session = listener.session;

@@ -1,6 +1,6 @@
 // What a line asks at the desk (docs/DESK.md). An op of the desk's own is read here, every other line as at the counter. Rests on `frames`.
 ghost use Rattle.std.specs.Prelude.{◌≡◌};
-ghost use Rattle.desk_frames.specs.Requests.{isOwn, malformedLine, readWhyNot, readLight, deskLengthOf, deskAskedBy, deskRequestOf};
+ghost use Rattle.desk_frames.specs.Requests.{is_own, malformed_line, read_why_not, read_light, desk_length_of, desk_asked_by, desk_request_of};
 
 use crate::{DeskRequest, Question};
 use frames::Request;
@@ -41,14 +41,14 @@ const LIGHT: usize = FIRST + PART + CHECK;
 const POSITION: usize = FIRST + TWO + CHECK;
 
 fn no() -> DeskRequest
-    ensures { result ≡ malformedLine }
+    ensures { result ≡ malformed_line }
 {
     DeskRequest::AtCounter(Request::Malformed)
 }
 
 // Whether an op is one of the desk's own.
 fn own(op: u8) -> bool
-    ensures { result ≡ isOwn op }
+    ensures { result ≡ is_own op }
 {
     WHY_NOT <= op && op <= TIDY
 }
@@ -56,7 +56,7 @@ fn own(op: u8) -> bool
 // One function for each op that carries something; it tests that a turn is listed.
 
 fn why_not(b: &[u8; 32]) -> DeskRequest
-    ensures { result ≡ readWhyNot b.now }
+    ensures { result ≡ read_why_not b.now }
 {
     let turn = b[WHY_PART + PART_TURN];
     if 2 < turn {
@@ -69,7 +69,7 @@ fn why_not(b: &[u8; 32]) -> DeskRequest
 }
 
 fn light(b: &[u8; 32]) -> DeskRequest
-    ensures { result ≡ readLight b.now }
+    ensures { result ≡ read_light b.now }
 {
     let turn = b[FIRST + PART_TURN];
     if 2 < turn {
@@ -82,7 +82,7 @@ fn light(b: &[u8; 32]) -> DeskRequest
 
 // Op and check among its bytes; an op that is not the desk's own carries nothing.
 fn length_of(op: u8) -> usize
-    ensures { result ≡ deskLengthOf op }
+    ensures { result ≡ desk_length_of op }
 {
     match op {
         17 => WHY,
@@ -94,7 +94,7 @@ fn length_of(op: u8) -> usize
 }
 
 fn asked_by(op: u8, b: &[u8; 32]) -> DeskRequest
-    ensures { result ≡ deskAskedBy op b.now }
+    ensures { result ≡ desk_asked_by op b.now }
 {
     match op {
         17 => why_not(b),
@@ -118,7 +118,7 @@ fn asked_by(op: u8, b: &[u8; 32]) -> DeskRequest
 
 // What a line asks, its newline not among its characters.
 pub fn request(line: &[u8]) -> DeskRequest
-    ensures { result ≡ deskRequestOf line.now }
+    ensures { result ≡ desk_request_of line.now }
 {
     let given = frame_in(line);
     if given.good {} else {

@@ -4,8 +4,8 @@ ghost use Rattle.std.specs.Prelude.{◌≡◌, ◌≤◌, length};
 ghost use Rattle.desk_frames.specs.declared.Question.TheVariants as questions;
 ghost use Rattle.marks.specs.declared.Refusal.TheVariants as refusals;
 ghost use Rattle.frames.specs.Writing.{LinePut};
-ghost use Rattle.desk_frames.specs.Answers.{Tells, contentFor, refusedWith, tidyFound, tidyOp, yesNo};
-ghost use Rattle.desk_frames.specs.Desk.{deskLongest};
+ghost use Rattle.desk_frames.specs.Answers.{Tells, content_for, refused_with, tidy_found, tidy_op, yes_no};
+ghost use Rattle.desk_frames.specs.Desk.{desk_longest};
 
 use crate::read::{
     AMOUNTS, CUTS, EATEN_AREA, FIGURES, FREE_PIECE, PART_NUMBERS, REMOVABLE_PIECE, ROOM_LIGHT,
@@ -29,7 +29,7 @@ const NODE: u16 = 14;
 const CUT: u16 = 9;
 
 fn why_not(layout: Layout, mark: Mark, part: PartType, out: &mut [u8]) -> usize
-    requires { deskLongest ≤ length out.old }
+    requires { desk_longest ≤ length out.old }
     ensures { Tells layout (questions.WhyNot mark part) out.old out.new result }
 {
     let answer = questions::why_not::why_not(layout, mark, part);
@@ -43,7 +43,7 @@ fn why_not(layout: Layout, mark: Mark, part: PartType, out: &mut [u8]) -> usize
 }
 
 fn room_light(layout: Layout, part: PartType, out: &mut [u8]) -> usize
-    requires { deskLongest ≤ length out.old }
+    requires { desk_longest ≤ length out.old }
     ensures { Tells layout (questions.RoomLight part) out.old out.new result }
 {
     match questions::room::room_light(layout, part) {
@@ -54,7 +54,7 @@ fn room_light(layout: Layout, part: PartType, out: &mut [u8]) -> usize
 }
 
 fn free_piece(layout: Layout, position: u16, out: &mut [u8]) -> usize
-    requires { deskLongest ≤ length out.old }
+    requires { desk_longest ≤ length out.old }
     ensures { Tells layout (questions.FreePiece position) out.old out.new result }
 {
     match questions::positions::free_mark(layout, position) {
@@ -64,7 +64,7 @@ fn free_piece(layout: Layout, position: u16, out: &mut [u8]) -> usize
 }
 
 fn removable_piece(layout: Layout, position: u16, out: &mut [u8]) -> usize
-    requires { deskLongest ≤ length out.old }
+    requires { desk_longest ≤ length out.old }
     ensures { Tells layout (questions.RemovablePiece position) out.old out.new result }
 {
     match questions::positions::removable_mark(layout, position) {
@@ -75,7 +75,7 @@ fn removable_piece(layout: Layout, position: u16, out: &mut [u8]) -> usize
 
 // The buffer has room for as many numbers as there are places, so refusal 13 is never given.
 fn part_numbers(layout: Layout, out: &mut [u8]) -> usize
-    requires { deskLongest ≤ length out.old }
+    requires { desk_longest ≤ length out.old }
     ensures { Tells layout questions.PartNumbers out.old out.new result }
 {
     let mut numbers = [0u16; LIMIT];
@@ -87,14 +87,14 @@ fn part_numbers(layout: Layout, out: &mut [u8]) -> usize
 
 fn unsound(out: &mut [u8], op: u8) -> usize
     requires { 7 ≤ length out.old }
-    ensures { LinePut out.old (contentFor op (refusedWith refusals.NotSound)) out.new result }
+    ensures { LinePut out.old (content_for op (refused_with refusals.NotSound)) out.new result }
 {
     refused(out, op, Refusal::NotSound)
 }
 
 // The figures are refused together: each where the layout isn't sound. Where it is, both usages are numbers, so that they have bits.
 fn figures(layout: Layout, out: &mut [u8]) -> usize
-    requires { deskLongest ≤ length out.old }
+    requires { desk_longest ≤ length out.old }
     ensures { Tells layout questions.Figures out.old out.new result }
 {
     let AreaAnswer::Area(used) = questions::figures::used_area(layout) else {
@@ -130,14 +130,14 @@ fn figures(layout: Layout, out: &mut [u8]) -> usize
 }
 
 fn yes_no(says: bool) -> u8
-    ensures { result ≡ yesNo says }
+    ensures { result ≡ yes_no says }
 {
     if says { 1 } else { 0 }
 }
 
 // The buffer has room for as many nodes as there are places.
 fn snapshot(layout: Layout, out: &mut [u8]) -> usize
-    requires { deskLongest ≤ length out.old }
+    requires { desk_longest ≤ length out.old }
     ensures { Tells layout questions.Snapshot out.old out.new result }
 {
     let mut bytes = [0u8; 14 * LIMIT];
@@ -149,7 +149,7 @@ fn snapshot(layout: Layout, out: &mut [u8]) -> usize
 
 // The buffer has room for as many cuts as there are places.
 fn cuts(layout: Layout, out: &mut [u8]) -> usize
-    requires { deskLongest ≤ length out.old }
+    requires { desk_longest ≤ length out.old }
     ensures { Tells layout questions.Cuts out.old out.new result }
 {
     let mut bytes = [0u8; saw::cuts::ROOM];
@@ -160,7 +160,7 @@ fn cuts(layout: Layout, out: &mut [u8]) -> usize
 }
 
 fn eaten_area(layout: Layout, out: &mut [u8]) -> usize
-    requires { deskLongest ≤ length out.old }
+    requires { desk_longest ≤ length out.old }
     ensures { Tells layout questions.EatenArea out.old out.new result }
 {
     match questions::figures::eaten_area(layout) {
@@ -171,7 +171,7 @@ fn eaten_area(layout: Layout, out: &mut [u8]) -> usize
 
 // The buffer has room for as many amounts as there are places.
 fn amounts(layout: Layout, out: &mut [u8]) -> usize
-    requires { deskLongest ≤ length out.old }
+    requires { desk_longest ≤ length out.old }
     ensures { Tells layout questions.Amounts out.old out.new result }
 {
     let mut bytes = [0u8; saw::cuts::AMOUNTS];
@@ -183,8 +183,8 @@ fn amounts(layout: Layout, out: &mut [u8]) -> usize
 
 // The answer to a tidying: how many structures were taken out, or its refusal.
 pub fn tidied(outcome: Outcome, count: u16, out: &mut [u8]) -> usize
-    requires { deskLongest ≤ length out.old }
-    ensures { LinePut out.old (contentFor tidyOp (tidyFound outcome count)) out.new result }
+    requires { desk_longest ≤ length out.old }
+    ensures { LinePut out.old (content_for tidy_op (tidy_found outcome count)) out.new result }
 {
     match outcome {
         Outcome::Done => write::count(out, TIDY, count),
@@ -194,7 +194,7 @@ pub fn tidied(outcome: Outcome, count: u16, out: &mut [u8]) -> usize
 
 // The answer to a question, in the lent line; and how many characters it has, its newline among them.
 pub fn answer(layout: Layout, question: Question, out: &mut [u8]) -> usize
-    requires { deskLongest ≤ length out.old }
+    requires { desk_longest ≤ length out.old }
     ensures { Tells layout question out.old out.new result }
 {
     match question {

@@ -1,10 +1,10 @@
 // An answer of the desk as a line, one function for each form (docs/DESK.md). Rests on the pen of `frames`.
 ghost use Rattle.std.specs.Prelude.{◌≡◌, [], ◌∷◌, ◌++◌, ◌+◌, ◌*◌, ◌≤◌, length, take};
 ghost use Rattle.frames.specs.Bytes.{two, eight};
-ghost use Rattle.frames.specs.Fields.{markBytes};
+ghost use Rattle.frames.specs.Fields.{mark_bytes};
 ghost use Rattle.frames.specs.Answers.{each};
 ghost use Rattle.frames.specs.Writing.{LinePut};
-ghost use Rattle.desk_frames.specs.Answers.{figuresBytes};
+ghost use Rattle.desk_frames.specs.Answers.{figures_bytes};
 
 use frames::write::{begin, end, put, put_bytes, put_eight, put_mark, put_two, put_twos};
 use marks::Mark;
@@ -33,7 +33,7 @@ pub fn pair(out: &mut [u8], op: u8, one: u8, other: u8) -> usize
 
 pub fn mark(out: &mut [u8], op: u8, mark: Mark) -> usize
     requires { 21 ≤ length out.old }
-    ensures { LinePut out.old (op ∷ 0 ∷ markBytes mark) out.new result }
+    ensures { LinePut out.old (op ∷ 0 ∷ mark_bytes mark) out.new result }
 {
     let pen = begin(out, op, 0);
     let next = put_mark(out, pen, mark);
@@ -43,7 +43,7 @@ pub fn mark(out: &mut [u8], op: u8, mark: Mark) -> usize
 // A byte, and a mark.
 pub fn light(out: &mut [u8], op: u8, yes: u8, mark: Mark) -> usize
     requires { 23 ≤ length out.old }
-    ensures { LinePut out.old (op ∷ 0 ∷ yes ∷ markBytes mark) out.new result }
+    ensures { LinePut out.old (op ∷ 0 ∷ yes ∷ mark_bytes mark) out.new result }
 {
     let pen = begin(out, op, 0);
     let said = put(out, pen, yes);
@@ -53,7 +53,7 @@ pub fn light(out: &mut [u8], op: u8, yes: u8, mark: Mark) -> usize
 
 pub fn figures(out: &mut [u8], op: u8, f: FigureList) -> usize
     requires { 77 ≤ length out.old }
-    ensures { LinePut out.old (op ∷ 0 ∷ figuresBytes f) out.new result }
+    ensures { LinePut out.old (op ∷ 0 ∷ figures_bytes f) out.new result }
 {
     let pen = begin(out, op, 0);
     let used = put_eight(out, pen, f.used);

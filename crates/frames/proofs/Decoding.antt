@@ -1,16 +1,16 @@
 -- The turns of the loop in `read::decode`.
 use Rattle.std.proofs.Common.{◌≡◌, ℕ, suc, ◌+◌, ◌*◌, ◌/◌, ◌%◌, ◌^◌, ◌<◌, ◌≤◌, Bool, true, false, List, [], ◌∷◌, ◌++◌, length, get_or, take, drop, set, replicate, sym, refl, ap, ◌∙◌, add-one, arith, length-take-le, take_all, take-suc, le-ltb, lt-ltb}
 use lib.Seq.{split_at}
-use Rattle.hex.specs.Hex.{pair_of}
+use Rattle.hexadecimal.specs.Hex.{pair_of}
 use Rattle.frames.specs.Bytes.{pairs, all_bytes, total}
-use Rattle.frames.specs.Framing.{paddedBytes}
+use Rattle.frames.specs.Framing.{padded_bytes}
 use Rattle.frames.specs.Inner.{Decodes}
 use Rattle.frames.proofs.Lists.{sets-append, length_pairs, pair-at, total-append, all_append}
 
 -- the first i bytes are read
 pub record Read (line bytes : List ℕ) (sum i : ℕ) : Type 0 where
   pub within : i ≤ length line / 2
-  pub stored : bytes ≡ paddedBytes (take i (pairs line))
+  pub stored : bytes ≡ padded_bytes (take i (pairs line))
   pub added : sum ≡ total (take i (pairs line)) % 256
   pub digits : all_bytes (take i (pairs line)) ≡ true
 
@@ -41,9 +41,9 @@ module _ (line bytes : List ℕ) (sum i : ℕ) (r : Read line bytes sum i) (more
       within = omega arith;
       stored =
           ap (λ (l : List ℕ). set l i b) r.stored
-          ∙ ap (λ (k : ℕ). set (paddedBytes (take i (pairs line))) k b) (sym length-read ∙ omega arith)
+          ∙ ap (λ (k : ℕ). set (padded_bytes (take i (pairs line))) k b) (sym length-read ∙ omega arith)
           ∙ sym (sets-append (take i (pairs line)) (b ∷ []) (replicate 32 0) 0)
-          ∙ ap paddedBytes (sym taken);
+          ∙ ap padded_bytes (sym taken);
       added = omega (arith, ap total taken, total-append (take i (pairs line)) (b ∷ []), r.added);
       digits = ap all_bytes taken ∙ all_append (take i (pairs line)) (b ∷ []) ∙ simp (r.digits, lt-ltb b 256 small);
     }
@@ -68,6 +68,6 @@ decoded line bytes sum i r h =
     let all : take i (pairs line) ≡ pairs line = take_all i (pairs line) (omega (arith, length_pairs line)) in
     record {
       good = sym (ap all_bytes (sym all) ∙ r.digits);
-      bytes = λ t. r.stored ∙ ap paddedBytes all;
+      bytes = λ t. r.stored ∙ ap padded_bytes all;
       sum = λ t. r.added ∙ ap (λ (l : List ℕ). total l % 256) all;
     }

@@ -4,27 +4,27 @@ use Rattle.piece.specs.declared.parttype.PartType.{PartType}
 use Rattle.piece.proofs.Numbers.{turn_small}
 use Rattle.marks.specs.declared.Mark.{Mark}
 use Rattle.frames.specs.Bytes.{all_bytes, two, four}
-use Rattle.frames.specs.Fields.{Width, single, double, quad, Field, markFields, partFields, size_of, widths, value_at, values, fieldBytes, written}
-use Rattle.frames.specs.Fields.{markNos, partNos, markBytes}
+use Rattle.frames.specs.Fields.{Width, single, double, quad, Field, mark_fields, part_fields, size_of, widths, value_at, values, field_bytes, written}
+use Rattle.frames.specs.Fields.{mark_nos, part_nos, mark_bytes}
 use Rattle.frames.specs.Ranges.{MarkFits, PartFits}
 use Rattle.frames.proofs.Laws.{first-true, second-true, AreBytes, no_bytes, then, join, are-two, are-four}
 
-abbrev boundOf : Width → ℕ
-boundOf single = 2 ^ 8
-boundOf double = 2 ^ 16
-boundOf quad = 2 ^ 32
+abbrev bound_of : Width → ℕ
+bound_of single = 2 ^ 8
+bound_of double = 2 ^ 16
+bound_of quad = 2 ^ 32
 
 -- each number fits its field
 pub data Fits : List Field → List ℕ → Type 0 where
   none : Fits [] []
-  more : {f : Field} {fs : List Field} {v : ℕ} {vs : List ℕ} → v < boundOf f.width → Fits fs vs → Fits (f ∷ fs) (v ∷ vs)
+  more : {f : Field} {fs : List Field} {v : ℕ} {vs : List ℕ} → v < bound_of f.width → Fits fs vs → Fits (f ∷ fs) (v ∷ vs)
 
 -- marks and parts that fit, before further numbers
 module _ {fs : List Field} {vs : List ℕ} (rest : Fits fs vs) where
-  pub mark-fits : (m : Mark) → MarkFits m → Fits (markFields ++ fs) (markNos m ++ vs)
+  pub mark-fits : (m : Mark) → MarkFits m → Fits (mark_fields ++ fs) (mark_nos m ++ vs)
   mark-fits m f = more f.layout (more f.place (more f.serial rest))
 
-  pub part-fits : (p : PartType) → PartFits p → Fits (partFields ++ fs) (partNos p ++ vs)
+  pub part-fits : (p : PartType) → PartFits p → Fits (part_fields ++ fs) (part_nos p ++ vs)
   part-fits p f = more f.number (more f.size.width (more f.size.height (more (turn_small p.turn) rest)))
 
 abbrev cons : ℕ → List ℕ → List ℕ
@@ -57,10 +57,10 @@ values-drop (f ∷ fs) b i =
     ∙ ap (values fs b) (omega arith))
 
 -- ---- numbers that fit, as bytes and back
-past : (fs : List Field) (w : Width) (v : ℕ) (rest : List ℕ) → values fs (fieldBytes w v ++ rest) (0 + size_of w) ≡ values fs rest 0
-past fs single v rest = sym (values-drop fs (fieldBytes single v ++ rest) 1)
-past fs double v rest = sym (values-drop fs (fieldBytes double v ++ rest) 2)
-past fs quad v rest = sym (values-drop fs (fieldBytes quad v ++ rest) 4)
+past : (fs : List Field) (w : Width) (v : ℕ) (rest : List ℕ) → values fs (field_bytes w v ++ rest) (0 + size_of w) ≡ values fs rest 0
+past fs single v rest = sym (values-drop fs (field_bytes single v ++ rest) 1)
+past fs double v rest = sym (values-drop fs (field_bytes double v ++ rest) 2)
+past fs quad v rest = sym (values-drop fs (field_bytes quad v ++ rest) 4)
 
 two_back : (n : ℕ) → n / 256 * 256 + n % 256 ≡ n
 two_back n = omega arith
@@ -68,7 +68,7 @@ two_back n = omega arith
 four-back : (n : ℕ) → n / 65536 * 65536 + n % 65536 ≡ n
 four-back n = omega arith
 
-value-back : (w : Width) (v : ℕ) (rest : List ℕ) → v < boundOf w → value_at w (fieldBytes w v ++ rest) 0 ≡ v
+value-back : (w : Width) (v : ℕ) (rest : List ℕ) → v < bound_of w → value_at w (field_bytes w v ++ rest) 0 ≡ v
 value-back single v rest h = omega arith
 value-back double v rest h = two_back v
 value-back quad v rest h = simp (two_back, four-back)
@@ -76,10 +76,10 @@ value-back quad v rest h = simp (two_back, four-back)
 pub values-back : {fs : List Field} {vs : List ℕ} → Fits fs vs → (rest : List ℕ) → values fs (written fs vs ++ rest) 0 ≡ vs
 values-back none rest = refl
 values-back (more {f} {fs} {v} {vs} h hs) rest =
-    ap (λ (l : List ℕ). values (f ∷ fs) l 0) (append_assoc (fieldBytes f.width v) (written fs vs) rest)
+    ap (λ (l : List ℕ). values (f ∷ fs) l 0) (append_assoc (field_bytes f.width v) (written fs vs) rest)
     ∙ ap₂ cons (value-back f.width v (written fs vs ++ rest) h) (past fs f.width v (written fs vs ++ rest) ∙ values-back hs rest)
 
-length-in : (w : Width) (v : ℕ) → length (fieldBytes w v) ≡ size_of w
+length-in : (w : Width) (v : ℕ) → length (field_bytes w v) ≡ size_of w
 length-in single v = refl
 length-in double v = refl
 length-in quad v = refl
@@ -87,9 +87,9 @@ length-in quad v = refl
 pub length-written : {fs : List Field} {vs : List ℕ} → Fits fs vs → length (written fs vs) ≡ widths fs
 length-written none = refl
 length-written (more {f} {fs} {v} {vs} h hs) =
-    omega (arith, length-append (fieldBytes f.width v) (written fs vs), length-in f.width v, length-written hs)
+    omega (arith, length-append (field_bytes f.width v) (written fs vs), length-in f.width v, length-written hs)
 
-are-in : (w : Width) (v : ℕ) → v < boundOf w → AreBytes (fieldBytes w v)
+are-in : (w : Width) (v : ℕ) → v < bound_of w → AreBytes (field_bytes w v)
 are-in single v h = then (omega arith) no_bytes
 are-in double v h = are-two v h
 are-in quad v h = are-four v h
@@ -98,7 +98,7 @@ pub are_written : {fs : List Field} {vs : List ℕ} → Fits fs vs → AreBytes 
 are_written none = no_bytes
 are_written (more {f} {fs} {v} {vs} h hs) = join (are-in f.width v h) (are_written hs)
 
-pub are-mark : (m : Mark) → MarkFits m → AreBytes (markBytes m)
+pub are-mark : (m : Mark) → MarkFits m → AreBytes (mark_bytes m)
 are-mark m f = are_written (mark-fits none m f)
 
 -- ---- bytes, as numbers and back
@@ -128,7 +128,7 @@ four-of x y h =
 
 -- a field, and what is left behind it
 field_back : (w : Width) (c : List ℕ) → all_bytes c ≡ true → size_of w ≤ length c
-    → (fieldBytes w (value_at w c 0) ++ drop (0 + size_of w) c ≡ c) × (value_at w c 0 < boundOf w)
+    → (field_bytes w (value_at w c 0) ++ drop (0 + size_of w) c ≡ c) × (value_at w c 0 < bound_of w)
 field_back single [] a h = absurd (omega arith)
 field_back single (x ∷ c) a h = let s = byte_at (x ∷ c) a 0 in (ap (λ (k : ℕ). k ∷ c) (omega arith), s)
 field_back double [] a h = absurd (omega arith)
@@ -169,8 +169,8 @@ whole (f ∷ fs) c a n =
       small = z.small;
       shown =
           sym w.0
-          ∙ ap (λ (l : List ℕ). fieldBytes f.width (value_at f.width c 0) ++ l)
+          ∙ ap (λ (l : List ℕ). field_bytes f.width (value_at f.width c 0) ++ l)
           (z.shown ∙ ap (λ (vs : List ℕ). written fs vs ++ (z.last ∷ [])) same)
-          ∙ sym (append_assoc (fieldBytes f.width (value_at f.width c 0)) (written fs (values fs c s)) (z.last ∷ []));
+          ∙ sym (append_assoc (field_bytes f.width (value_at f.width c 0)) (written fs (values fs c s)) (z.last ∷ []));
       fits = more w.1 (rw same at z.fits);
     }

@@ -1,26 +1,26 @@
 -- The laws of the format: the check, hexadecimal there and back, and that what fits its fields is made of bytes.
 use Rattle.std.proofs.Common.{◌≡◌, ℕ, ◌+◌, ◌-◌, ◌/◌, ◌%◌, ◌^◌, ◌<◌, ◌≤◌, Bool, true, false, ◌&&◌, ltb, List, [], ◌∷◌, ◌++◌, sym, refl, ◌∙◌, arith, ltb-false, ltb-true, le-ltb, lt-ltb}
-use Rattle.hex.specs.Hex.{digitOf, letterOf, pair_of}
-use Rattle.hex.proofs.Pairs.{both-good}
-use Rattle.frames.specs.Bytes.{pairs, all_bytes, charsOf, total, checkOf, framed, two, four, eight}
+use Rattle.hexadecimal.specs.Hex.{digit_of, letter_of, pair_of}
+use Rattle.hexadecimal.proofs.Pairs.{both-good}
+use Rattle.frames.specs.Bytes.{pairs, all_bytes, chars_of, total, check_of, framed, two, four, eight}
 use Rattle.frames.proofs.Lists.{total-append, all_append}
 
 -- ---- the check: the bytes of every frame add to 0
 pub framed-adds : (bs : List ℕ) → total (framed bs) % 256 ≡ 0
 unfolding total
-framed-adds bs = omega (arith, total-append bs (checkOf bs ∷ []))
+framed-adds bs = omega (arith, total-append bs (check_of bs ∷ []))
 
 -- ---- hexadecimal there and back
 pub by-test : {P : Type 0} (b : Bool) → (b ≡ true → P) → (b ≡ false → P) → P
 by-test true t f = t refl
 by-test false t f = f refl
 
-digit : (d : ℕ) → d < 10 → digitOf (d + 48) ≡ d
-unfolding digitOf
+digit : (d : ℕ) → d < 10 → digit_of (d + 48) ≡ d
+unfolding digit_of
 digit d h = rw (le-ltb (d + 48) 48 (omega arith), lt-ltb (d + 48) 58 (omega arith)) (omega arith)
 
-letter : (d : ℕ) → 10 ≤ d → d < 16 → digitOf (d + 87) ≡ d
-unfolding digitOf
+letter : (d : ℕ) → 10 ≤ d → d < 16 → digit_of (d + 87) ≡ d
+unfolding digit_of
 letter d l h =
     rw (
       le-ltb (d + 87) 48 (omega arith),
@@ -29,16 +29,16 @@ letter d l h =
       lt-ltb (d + 87) 103 (omega arith),
     ) (omega arith)
 
-pub digit-letter : (d : ℕ) → d < 16 → digitOf (letterOf d) ≡ d
-unfolding letterOf
+pub digit-letter : (d : ℕ) → d < 16 → digit_of (letter_of d) ≡ d
+unfolding letter_of
 digit-letter d h =
     by-test (ltb d 10) (λ e. rw e (digit d (ltb-true d 10 e))) (λ e. rw e (letter d (ltb-false d 10 e) h))
 
-pub pair-letters : (b : ℕ) → b < 256 → pair_of (letterOf (b / 16)) (letterOf (b % 16)) ≡ b
+pub pair-letters : (b : ℕ) → b < 256 → pair_of (letter_of (b / 16)) (letter_of (b % 16)) ≡ b
 pair-letters b h =
     let e = digit-letter (b / 16) (omega arith) in
     let f = digit-letter (b % 16) (omega arith) in
-    sym (both-good (letterOf (b / 16)) (letterOf (b % 16)) (omega arith) (omega arith)) ∙ rw (e, f) (omega arith)
+    sym (both-good (letter_of (b / 16)) (letter_of (b % 16)) (omega arith) (omega arith)) ∙ rw (e, f) (omega arith)
 
 pub first-true : (a b : Bool) → (a && b) ≡ true → a ≡ true
 first-true true b e = refl
@@ -48,8 +48,8 @@ pub second-true : (a b : Bool) → (a && b) ≡ true → b ≡ true
 second-true true b e = e
 second-true false b e = absurd (let z : ◌≡◌ {A = ℕ} 0 1 = cc in omega arith)
 
-pub pairs-chars : (bs : List ℕ) → all_bytes bs ≡ true → pairs (charsOf bs) ≡ bs
-unfolding pairs charsOf all_bytes
+pub pairs-chars : (bs : List ℕ) → all_bytes bs ≡ true → pairs (chars_of bs) ≡ bs
+unfolding pairs chars_of all_bytes
 pairs-chars [] e = refl
 pairs-chars (b ∷ bs) e =
     let small = ltb-true b 256 (first-true (ltb b 256) (all_bytes bs) e) in

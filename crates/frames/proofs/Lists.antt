@@ -1,8 +1,8 @@
 -- Laws of the definitions of `specs/Bytes`, and of stores in a row.
 use Rattle.std.proofs.Common.{◌≡◌, ℕ, zero, suc, ◌+◌, ◌*◌, ◌/◌, ◌<◌, Bool, true, false, ◌&&◌, ltb, List, [], ◌∷◌, ◌++◌, length, get_or, set, refl, ap, ◌∙◌, add-zero, add-suc, suc-add, arith}
 use lib.Seq.{sets}
-use Rattle.hex.specs.Hex.{pair_of}
-use Rattle.frames.specs.Bytes.{pairs, all_bytes, charsOf, total}
+use Rattle.hexadecimal.specs.Hex.{pair_of}
+use Rattle.frames.specs.Bytes.{pairs, all_bytes, chars_of, total}
 
 pub sets-append : (a b l : List ℕ) (i : ℕ) → sets l i (a ++ b) ≡ sets (sets l i a) (i + length a) b
 sets-append [] b l i = rw add-zero refl
@@ -38,12 +38,12 @@ unfolding all_bytes
 all_append [] b = refl
 all_append (x ∷ a) b = ap (λ (t : Bool). ltb x 256 && t) (all_append a b) ∙ and_assoc (ltb x 256) (all_bytes a) (all_bytes b)
 
-pub chars-append : (a b : List ℕ) → charsOf (a ++ b) ≡ charsOf a ++ charsOf b
-unfolding charsOf
+pub chars-append : (a b : List ℕ) → chars_of (a ++ b) ≡ chars_of a ++ chars_of b
+unfolding chars_of
 chars-append [] b = refl
 chars-append (x ∷ a) b = rw (chars-append a b) refl
 
-pub length-chars : (a : List ℕ) → length (charsOf a) ≡ 2 * length a
-unfolding charsOf
+pub length-chars : (a : List ℕ) → length (chars_of a) ≡ 2 * length a
+unfolding chars_of
 length-chars [] = refl
 length-chars (x ∷ a) = omega (arith, length-chars a)

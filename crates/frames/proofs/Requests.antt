@@ -5,8 +5,8 @@ use lib.Seq.{sets-eq}
 use borrow.Author.Tests.{lt-leb}
 use Rattle.frames.specs.declared.read.Frame.{Frame}
 use Rattle.frames.specs.Bytes.{pairs, all_bytes, total}
-use Rattle.frames.specs.Requests.{Form, formLength, madeBy, read_by, isFrame, opIn, lineAsks}
-use Rattle.frames.specs.Framing.{paddedBytes, ReadsFrame}
+use Rattle.frames.specs.Requests.{Form, form_length, made_by, read_by, is_frame, op_in, line_asks}
+use Rattle.frames.specs.Framing.{padded_bytes, ReadsFrame}
 use Rattle.frames.proofs.Lists.{length_pairs}
 use Rattle.frames.proofs.Laws.{first-true}
 use Rattle.frames.proofs.Forms.{values_same}
@@ -21,39 +21,39 @@ with-zeros [] z none i = none i
 with-zeros (x ∷ b) z none zero = refl
 with-zeros (x ∷ b) z none (suc i) = with-zeros b z none i
 
-pub held_at : (b : List ℕ) → length b ≤ 32 → (i : ℕ) → get_or (paddedBytes b) i 0 ≡ get_or b i 0
+pub held_at : (b : List ℕ) → length b ≤ 32 → (i : ℕ) → get_or (padded_bytes b) i 0 ≡ get_or b i 0
 held_at b h i =
     ap (λ (l : List ℕ). get_or l i 0) (sets-eq b (replicate 32 0) 0 (omega arith))
     ∙ with-zeros b (drop (0 + length b) (replicate 32 0))
     (λ j. get_or-drop (0 + length b) (replicate 32 0) j 0 ∙ all-zero 32 (0 + length b + j)) i
 
--- ---- the exits of `frame_in`: each is a clause of `isFrame`
+-- ---- the exits of `frame_in`: each is a clause of `is_frame`
 module _ (line : List ℕ) where
-  pub too_long : 64 < length line → isFrame line ≡ false
-  unfolding isFrame
+  pub too_long : 64 < length line → is_frame line ≡ false
+  unfolding is_frame
   too_long h = rw (lt-leb (length line) 64 h) refl
 
   module _ (short : length line ≤ 64) where
-    pub odd : (length line % 2 ≡ 0 → ⊥) → isFrame line ≡ false
-    unfolding isFrame
+    pub odd : (length line % 2 ≡ 0 → ⊥) → is_frame line ≡ false
+    unfolding is_frame
     odd h = rw (le-leb (length line) 64 short, ne_eqb (length line % 2) 0 h) refl
 
     module _ (even : length line % 2 ≡ 0) where
-      pub no_digit : all_bytes (pairs line) ≡ false → isFrame line ≡ false
-      unfolding isFrame
+      pub no_digit : all_bytes (pairs line) ≡ false → is_frame line ≡ false
+      unfolding is_frame
       no_digit h = rw (le-leb (length line) 64 short, eq-eqb (length line % 2) 0 even, h) refl
 
       module _ (digits : all_bytes (pairs line) ≡ true) where
-        pub wrong-sum : (total (pairs line) % 256 ≡ 0 → ⊥) → isFrame line ≡ false
-        unfolding isFrame
+        pub wrong-sum : (total (pairs line) % 256 ≡ 0 → ⊥) → is_frame line ≡ false
+        unfolding is_frame
         wrong-sum h = rw (le-leb (length line) 64 short, eq-eqb (length line % 2) 0 even, digits, ne_eqb (total (pairs line) % 256) 0 h) refl
 
-        pub a-frame : total (pairs line) % 256 ≡ 0 → isFrame line ≡ true
-        unfolding isFrame
+        pub a-frame : total (pairs line) % 256 ≡ 0 → is_frame line ≡ true
+        unfolding is_frame
         a-frame h = rw (le-leb (length line) 64 short, eq-eqb (length line % 2) 0 even, digits, eq-eqb (total (pairs line) % 256) 0 h) refl
 
-  short-bytes : isFrame line ≡ true → length (pairs line) ≤ 32
-  unfolding isFrame
+  short-bytes : is_frame line ≡ true → length (pairs line) ≤ 32
+  unfolding is_frame
   short-bytes h =
       let rest : Bool = eqb (length line % 2) 0 && (all_bytes (pairs line) && eqb (total (pairs line) % 256) 0) in
       let short = leb-true (length line) 64 (first-true (leb (length line) 64) rest h) in
@@ -62,10 +62,10 @@ module _ (line : List ℕ) where
 no : ◌≡◌ {A = Bool} false true → ⊥
 no t = let z : ◌≡◌ {A = ℕ} 0 1 = cc in omega arith
 
-pub reads_none : {line : List ℕ} {f : Frame} → f.good ≡ false → isFrame line ≡ false → ReadsFrame line f
+pub reads_none : {line : List ℕ} {f : Frame} → f.good ≡ false → is_frame line ≡ false → ReadsFrame line f
 reads_none {line} {f} g e = record { good = g ∙ sym e; bytes = λ t. absurd (no (sym g ∙ t)); count = λ t. absurd (no (sym g ∙ t)) }
 
-pub reads-one : {line bytes : List ℕ} → isFrame line ≡ true → bytes ≡ paddedBytes (pairs line)
+pub reads-one : {line bytes : List ℕ} → is_frame line ≡ true → bytes ≡ padded_bytes (pairs line)
     → ReadsFrame line (record { bytes = bytes; count = length line / 2; good = true })
 reads-one {line} e b = record { good = sym e; bytes = λ t. b; count = λ t. sym (length_pairs line) }
 
@@ -73,32 +73,32 @@ reads-one {line} e b = record { good = sym e; bytes = λ t. b; count = λ t. sym
 module _ {A : Type 0} (bad : A) (forms : ℕ → Form A) (line : List ℕ) where
   -- only the bytes count, by their places
   read_same : (x b : List ℕ) → ((i : ℕ) → get_or x i 0 ≡ get_or b i 0) → (f : Form A) → read_by bad f x ≡ read_by bad f b
-  read_same x b same f = ap (madeBy bad f) (values_same x b same f.fields 1)
+  read_same x b same f = ap (made_by bad f) (values_same x b same f.fields 1)
 
-  pub no-frame : isFrame line ≡ false → bad ≡ lineAsks bad forms line
+  pub no-frame : is_frame line ≡ false → bad ≡ line_asks bad forms line
   no-frame h = rw h refl
 
   module _ {f : Frame} (r : ReadsFrame line f) (good : f.good ≡ true) where
-    is-frame : isFrame line ≡ true
+    is-frame : is_frame line ≡ true
     is-frame = sym r.good ∙ good
 
     held : (i : ℕ) → get_or f.bytes i 0 ≡ get_or (pairs line) i 0
     held i = ap (λ (l : List ℕ). get_or l i 0) (r.bytes good) ∙ held_at (pairs line) (short-bytes line is-frame) i
 
-    pub op-read : get_or f.bytes 0 0 ≡ opIn line
+    pub op-read : get_or f.bytes 0 0 ≡ op_in line
     op-read = held 0
 
-    length-is : formLength (forms (get_or f.bytes 0 0)) ≡ formLength (forms (opIn line))
-    length-is = ap (λ (op : ℕ). formLength (forms op)) op-read
+    length-is : form_length (forms (get_or f.bytes 0 0)) ≡ form_length (forms (op_in line))
+    length-is = ap (λ (op : ℕ). form_length (forms op)) op-read
 
-    pub wrong-length : (f.count ≡ formLength (forms (get_or f.bytes 0 0)) → ⊥) → bad ≡ lineAsks bad forms line
+    pub wrong-length : (f.count ≡ form_length (forms (get_or f.bytes 0 0)) → ⊥) → bad ≡ line_asks bad forms line
     wrong-length h =
-        let not : length (pairs line) ≡ formLength (forms (opIn line)) → ⊥ = λ e. h (r.count good ∙ e ∙ sym length-is) in
-        rw (is-frame, ne_eqb (length (pairs line)) (formLength (forms (opIn line))) not) refl
+        let not : length (pairs line) ≡ form_length (forms (op_in line)) → ⊥ = λ e. h (r.count good ∙ e ∙ sym length-is) in
+        rw (is-frame, ne_eqb (length (pairs line)) (form_length (forms (op_in line))) not) refl
 
-    pub well : f.count ≡ formLength (forms (get_or f.bytes 0 0)) → read_by bad (forms (get_or f.bytes 0 0)) f.bytes ≡ lineAsks bad forms line
+    pub well : f.count ≡ form_length (forms (get_or f.bytes 0 0)) → read_by bad (forms (get_or f.bytes 0 0)) f.bytes ≡ line_asks bad forms line
     well h =
-        let yes : length (pairs line) ≡ formLength (forms (opIn line)) = sym (r.count good) ∙ h ∙ length-is in
+        let yes : length (pairs line) ≡ form_length (forms (op_in line)) = sym (r.count good) ∙ h ∙ length-is in
         ap (λ (op : ℕ). read_by bad (forms op) f.bytes) op-read
-        ∙ read_same f.bytes (pairs line) held (forms (opIn line))
-        ∙ sym (rw (is-frame, eq-eqb (length (pairs line)) (formLength (forms (opIn line))) yes) refl)
+        ∙ read_same f.bytes (pairs line) held (forms (op_in line))
+        ∙ sym (rw (is-frame, eq-eqb (length (pairs line)) (form_length (forms (op_in line))) yes) refl)

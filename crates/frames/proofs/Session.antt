@@ -3,7 +3,7 @@
 use Rattle.std.proofs.Common.{◌≡◌, ℕ, List, [] as none, ◌∷◌ as ◌and◌, refl}
 use Prim.Native.Char.{code}
 use Prim.Native.String.{String, [], ◌∷◌}
-use Rattle.hex.specs.Hex.{digitOf, letterOf, pair_of}
+use Rattle.hexadecimal.specs.Hex.{digit_of, letter_of, pair_of}
 use Rattle.piece.specs.declared.orientation.Orientation.TheVariants.{Vertical}
 use Rattle.piece.specs.declared.rotation.Rotation.TheVariants.{Default}
 use Rattle.piece.specs.declared.parttype.Turn.TheVariants.{Either}
@@ -12,9 +12,9 @@ use Rattle.marks.specs.declared.Mark.{Mark}
 use Rattle.marks.specs.declared.Refusal.TheVariants.{Gone}
 use Rattle.frames.specs.declared.Ask.TheVariants.{Open, Insert}
 use Rattle.frames.specs.declared.Request.TheVariants.{OfLayout, Malformed}
-use Rattle.frames.specs.Bytes.{pairs, all_bytes, charsOf, total}
-use Rattle.frames.specs.Requests.{form_of, isFrame, requestOf}
-use Rattle.frames.specs.Answers.{opened, inserted, refused, malformed, each, contentOf, answerLine}
+use Rattle.frames.specs.Bytes.{pairs, all_bytes, chars_of, total}
+use Rattle.frames.specs.Requests.{form_of, is_frame, request_of}
+use Rattle.frames.specs.Answers.{opened, inserted, refused, malformed, each, content_of, answer_line}
 
 unfoldable pub codes : String → List ℕ
 codes [] = none
@@ -24,39 +24,39 @@ abbrev pub mark : ℕ → ℕ → Mark
 mark place serial = record { layout = 1; place = place; serial = serial }
 
 pub asks-opening :
-    requestOf (codes "010001000000640000003c0103005a")
+    request_of (codes "010001000000640000003c0103005a")
     ≡ OfLayout (Open (record { number = 1; settings = record { stages = 3; blade = 0; sheet = record { width = 100; height = 60 } }; cut = Vertical }))
-unfolding codes requestOf isFrame pairs all_bytes total form_of digitOf pair_of
+unfolding codes request_of is_frame pairs all_bytes total form_of digit_of pair_of
 asks-opening = refl
 
 pub asks-insertion :
-    requestOf (codes "03000101000000020007000000280000003c0000018d")
+    request_of (codes "03000101000000020007000000280000003c0000018d")
     ≡ OfLayout (Insert (mark 1 2) (record { number = 7; size = record { width = 40; height = 60 }; turn = Either }) Default AlongCurrentCut)
-unfolding codes requestOf isFrame pairs all_bytes total form_of digitOf pair_of
+unfolding codes request_of is_frame pairs all_bytes total form_of digit_of pair_of
 asks-insertion = refl
 
 -- an empty line, an upper-case digit, a character too many, a wrong check
 pub malformed-lines :
-    (requestOf none ≡ Malformed)
-    × (requestOf (codes "010001000000640000003C0103005a") ≡ Malformed)
-    × (requestOf (codes "010001000000640000003c0103005a0") ≡ Malformed)
-    × (requestOf (codes "010001000000640000003c0103005b") ≡ Malformed)
-unfolding codes requestOf isFrame pairs all_bytes total form_of digitOf pair_of
+    (request_of none ≡ Malformed)
+    × (request_of (codes "010001000000640000003C0103005a") ≡ Malformed)
+    × (request_of (codes "010001000000640000003c0103005a0") ≡ Malformed)
+    × (request_of (codes "010001000000640000003c0103005b") ≡ Malformed)
+unfolding codes request_of is_frame pairs all_bytes total form_of digit_of pair_of
 malformed-lines = (refl, refl, refl, refl)
 
-pub answers-opening : answerLine (opened (mark 1 2)) ≡ codes "010000010100000002fb\n"
-unfolding codes contentOf charsOf total letterOf
+pub answers-opening : answer_line (opened (mark 1 2)) ≡ codes "010000010100000002fb\n"
+unfolding codes content_of chars_of total letter_of
 answers-opening = refl
 
 pub answers-insertion :
-    answerLine (inserted (mark 1 3) (mark 1 3) (mark 2 4 and none)) ≡ codes "030000010100000003000101000000030100010200000004eb\n"
-unfolding codes contentOf charsOf total letterOf each
+    answer_line (inserted (mark 1 3) (mark 1 3) (mark 2 4 and none)) ≡ codes "030000010100000003000101000000030100010200000004eb\n"
+unfolding codes content_of chars_of total letter_of each
 answers-insertion = refl
 
-pub answers-gone : answerLine (refused 3 Gone) ≡ codes "0305f8\n"
-unfolding codes contentOf charsOf total letterOf
+pub answers-gone : answer_line (refused 3 Gone) ≡ codes "0305f8\n"
+unfolding codes content_of chars_of total letter_of
 answers-gone = refl
 
-pub answers-malformed : answerLine malformed ≡ codes "ff0ef3\n"
-unfolding codes contentOf charsOf total letterOf
+pub answers-malformed : answer_line malformed ≡ codes "ff0ef3\n"
+unfolding codes content_of chars_of total letter_of
 answers-malformed = refl

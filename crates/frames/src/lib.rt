@@ -1,5 +1,5 @@
 // The counter's frames (document 01, "Counter frames"): reading a line into what it asks, writing an answer as a line.
-// Rests on hex (digits), piece (parts, sizes, shapes) and answers (marks, refusals).
+// Rests on hexadecimal (digits), piece (parts, sizes, shapes) and answers (marks, refusals).
 use marks::Mark;
 use piece::insertion_blueprint::InsertionShape;
 use piece::parttype::PartType;

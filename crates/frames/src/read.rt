@@ -1,10 +1,10 @@
-// Reading a frame: characters to bytes with their check, then the fields of each op. Rests on hex.
+// Reading a frame: characters to bytes with their check, then the fields of each op. Rests on hexadecimal.
 ghost use Rattle.std.specs.Prelude.{◌≡◌, ◌+◌, ◌≤◌, false, length};
-ghost use Rattle.frames.specs.Bytes.{twoAt, fourAt};
+ghost use Rattle.frames.specs.Bytes.{two_at, four_at};
 ghost use Rattle.frames.specs.Inner.{Decodes};
 ghost use Rattle.frames.specs.Framing.{ReadsFrame};
-ghost use Rattle.frames.specs.Fields.{markFields, partFields, widths, size_at, markAt, part_at};
-ghost use Rattle.frames.specs.Requests.{readOpen, readOffers, readInsert, readRemove, length_of, askedBy, requestOf};
+ghost use Rattle.frames.specs.Fields.{mark_fields, part_fields, widths, size_at, mark_at, part_at};
+ghost use Rattle.frames.specs.Requests.{read_open, read_offers, read_insert, read_remove, length_of, asked_by, request_of};
 
 use crate::{Ask, Request};
 use marks::Mark;
@@ -91,8 +91,8 @@ fn decode(line: &[u8]) -> Decoded
     let mut sum: u8 = 0;
     let mut i: usize = 0;
     while i < line.len() / 2 {
-        let pair = hex::byte(line[i * 2], line[i * 2 + 1]);
-        if hex::NO_BYTE <= pair {
+        let pair = hexadecimal::byte(line[i * 2], line[i * 2 + 1]);
+        if hexadecimal::NO_BYTE <= pair {
             return Decoded {
                 bytes,
                 sum,
@@ -115,14 +115,14 @@ fn decode(line: &[u8]) -> Decoded
 
 pub fn two_at(b: &[u8; 32], i: usize) -> u16
     requires { i + 2 ≤ 32 }
-    ensures { result ≡ twoAt b.now i }
+    ensures { result ≡ two_at b.now i }
 {
-    hex::two(b[i], b[i + 1])
+    hexadecimal::two(b[i], b[i + 1])
 }
 
 fn four_at(b: &[u8; 32], i: usize) -> u32
     requires { i + 4 ≤ 32 }
-    ensures { result ≡ fourAt b.now i }
+    ensures { result ≡ four_at b.now i }
 {
     (two_at(b, i) as u32) * 65536 + two_at(b, i + 2) as u32
 }
@@ -144,8 +144,8 @@ fn wide(byte: u8) -> u16
 }
 
 pub fn mark_at(b: &[u8; 32], i: usize) -> Mark
-    requires { i + widths markFields ≤ 32 }
-    ensures { result ≡ markAt b.now i }
+    requires { i + widths mark_fields ≤ 32 }
+    ensures { result ≡ mark_at b.now i }
 {
     Mark {
         layout: two_at(b, i),
@@ -155,7 +155,7 @@ pub fn mark_at(b: &[u8; 32], i: usize) -> Mark
 }
 
 pub fn part_at(b: &[u8; 32], i: usize) -> PartType
-    requires { i + widths partFields ≤ 32 }
+    requires { i + widths part_fields ≤ 32 }
     ensures { result ≡ part_at b.now i }
 {
     PartType {
@@ -168,7 +168,7 @@ pub fn part_at(b: &[u8; 32], i: usize) -> PartType
 // One function for each op that carries something; it tests that a cut, a turn, a rotation and a shape are listed.
 
 fn open(b: &[u8; 32]) -> Request
-    ensures { result ≡ readOpen b.now }
+    ensures { result ≡ read_open b.now }
 {
     let cut = b[OPEN_CUT];
     if 1 < cut {
@@ -188,7 +188,7 @@ fn open(b: &[u8; 32]) -> Request
 }
 
 fn offers(b: &[u8; 32]) -> Request
-    ensures { result ≡ readOffers b.now }
+    ensures { result ≡ read_offers b.now }
 {
     let turn = b[OFFERS_TURN];
     if 2 < turn {
@@ -201,7 +201,7 @@ fn offers(b: &[u8; 32]) -> Request
 }
 
 fn insert(b: &[u8; 32]) -> Request
-    ensures { result ≡ readInsert b.now }
+    ensures { result ≡ read_insert b.now }
 {
     let turn = b[INSERT_TURN];
     let rotation = b[INSERT_ROTATION];
@@ -227,7 +227,7 @@ fn insert(b: &[u8; 32]) -> Request
 }
 
 fn remove(b: &[u8; 32]) -> Request
-    ensures { result ≡ readRemove b.now }
+    ensures { result ≡ read_remove b.now }
 {
     Request::OfLayout(Ask::Remove {
         mark: mark_at(b, FIRST),
@@ -248,7 +248,7 @@ fn length_of(op: u8) -> usize
 }
 
 fn asked_by(op: u8, b: &[u8; 32]) -> Request
-    ensures { result ≡ askedBy op b.now }
+    ensures { result ≡ asked_by op b.now }
 {
     match op {
         1 => open(b),
@@ -308,7 +308,7 @@ pub fn frame_in(line: &[u8]) -> Frame
 
 // What a line asks.
 pub fn request(line: &[u8]) -> Request
-    ensures { result ≡ requestOf line.now }
+    ensures { result ≡ request_of line.now }
 {
     let given = frame_in(line);
     if given.good {} else {

@@ -1,11 +1,11 @@
 // Writing an answer: its bytes as characters into a lent buffer, then their check and a newline. The pen and what it writes are for the desk too, whose
-// answers have the same form. Rests on hex.
+// answers have the same form. Rests on hexadecimal.
 ghost use Rattle.std.specs.Prelude.{◌≡◌, ◌+◌, ◌*◌, ◌≤◌, [], ◌∷◌, length, take};
 ghost use Rattle.std.proofs.lemmas.List.Edits.{sets};
 ghost use Rattle.frames.specs.Bytes.{two, four, eight};
-ghost use Rattle.frames.specs.Fields.{markBytes};
-ghost use Rattle.frames.specs.Answers.{Answer, offerBytes, each};
-ghost use Rattle.frames.specs.Writing.{AnswerPut, Wrote, freshPen, ending};
+ghost use Rattle.frames.specs.Fields.{mark_bytes};
+ghost use Rattle.frames.specs.Answers.{Answer, offer_bytes, each};
+ghost use Rattle.frames.specs.Writing.{AnswerPut, Wrote, fresh_pen, ending};
 
 use marks::{Mark, Refusal};
 use piece::insertion_option::{Offer, OfferList};
@@ -22,8 +22,8 @@ pub fn put(out: &mut [u8], pen: Pen, byte: u8) -> Pen
     ensures { Wrote out.old pen (byte ∷ []) out.new result }
 {
     let at = pen.at;
-    out[at] = hex::letter(byte / 16);
-    out[at + 1] = hex::letter(byte % 16);
+    out[at] = hexadecimal::letter(byte / 16);
+    out[at + 1] = hexadecimal::letter(byte % 16);
     Pen {
         at: at + 2,
         sum: std::num::wrapping_add_u8(pen.sum, byte),
@@ -58,7 +58,7 @@ pub fn put_eight(out: &mut [u8], pen: Pen, n: u64) -> Pen
 
 pub fn put_mark(out: &mut [u8], pen: Pen, mark: Mark) -> Pen
     requires { pen.at + 14 ≤ length out.old }
-    ensures { Wrote out.old pen (markBytes mark) out.new result }
+    ensures { Wrote out.old pen (mark_bytes mark) out.new result }
 {
     let layout = put_two(out, pen, mark.layout);
     let place = put(out, layout, (mark.place % 256) as u8);
@@ -67,7 +67,7 @@ pub fn put_mark(out: &mut [u8], pen: Pen, mark: Mark) -> Pen
 
 fn put_offer(out: &mut [u8], pen: Pen, offer: Offer) -> Pen
     requires { pen.at + 4 ≤ length out.old }
-    ensures { Wrote out.old pen (offerBytes offer) out.new result }
+    ensures { Wrote out.old pen (offer_bytes offer) out.new result }
 {
     let rotation = offer.rotation;
     let shape = offer.shape;
@@ -93,7 +93,7 @@ pub fn put_bytes(out: &mut [u8], pen: Pen, bytes: &[u8], n: usize) -> Pen
 
 fn put_offers(out: &mut [u8], pen: Pen, offers: OfferList) -> Pen
     requires { (offers.count ≤ 4) × (pen.at + (2 + 4 * offers.count) ≤ length out.old) }
-    ensures { Wrote out.old pen (offers.count ∷ each offerBytes (take offers.count offers.list)) out.new result }
+    ensures { Wrote out.old pen (offers.count ∷ each offer_bytes (take offers.count offers.list)) out.new result }
 {
     let count = offers.count;
     let mut next = put(out, pen, count as u8);
@@ -107,7 +107,7 @@ fn put_offers(out: &mut [u8], pen: Pen, offers: OfferList) -> Pen
 
 fn put_marks(out: &mut [u8], pen: Pen, marks: [Mark; 2], count: usize) -> Pen
     requires { (count ≤ 2) × (pen.at + (2 + 14 * count) ≤ length out.old) }
-    ensures { Wrote out.old pen (count ∷ each markBytes (take count marks)) out.new result }
+    ensures { Wrote out.old pen (count ∷ each mark_bytes (take count marks)) out.new result }
 {
     let mut next = put(out, pen, count as u8);
     let mut i: usize = 0;
@@ -144,7 +144,7 @@ fn put_numbers(out: &mut [u8], pen: Pen, numbers: &[u16], count: usize) -> Pen
 
 pub fn begin(out: &mut [u8], op: u8, number: u8) -> Pen
     requires { 4 ≤ length out.old }
-    ensures { Wrote out.old freshPen (op ∷ number ∷ []) out.new result }
+    ensures { Wrote out.old fresh_pen (op ∷ number ∷ []) out.new result }
 {
     let pen = Pen { at: 0, sum: 0 };
     let next = put(out, pen, op);

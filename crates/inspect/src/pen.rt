@@ -66,8 +66,8 @@ pub fn end(out: &mut [u8; ROOM], pen: Pen) -> bool {
 // Fields, highest byte first.
 
 pub fn put_byte(out: &mut [u8; ROOM], pen: Pen, byte: u8) -> Pen {
-    let next = put(out, pen, hex::letter(byte / 16));
-    put(out, next, hex::letter(byte % 16))
+    let next = put(out, pen, hexadecimal::letter(byte / 16));
+    put(out, next, hexadecimal::letter(byte % 16))
 }
 
 pub fn put_two(out: &mut [u8; ROOM], pen: Pen, n: u16) -> Pen {

@@ -15,14 +15,14 @@ use Rattle.frames.specs.Writing.{LinePut}
 use Rattle.desk_frames.specs.declared.Question.{Question}
 use Rattle.desk_frames.specs.declared.DeskRequest.{DeskRequest}
 use Rattle.desk_frames.specs.declared.DeskRequest.TheVariants.{Asks, Tidy, AtCounter}
-use Rattle.desk_frames.specs.Answers.{Tells, contentFor, tidyFound, tidyOp}
-use Rattle.desk_frames.specs.Desk.{deskLongest}
+use Rattle.desk_frames.specs.Answers.{Tells, content_for, tidy_found, tidy_op}
+use Rattle.desk_frames.specs.Desk.{desk_longest}
 use Rattle.desk_frames.proofs.Stepping.{has_room}
 use Rattle.kiosk.specs.declared.records.LayoutRecord.{LayoutRecord}
 use Rattle.kiosk.specs.declared.records.SessionRecord.{SessionRecord}
-use Rattle.kiosk.specs.Records.{layout_of, layoutRecord}
+use Rattle.kiosk.specs.Records.{layout_of, layout_record}
 use Rattle.kiosk.specs.Step.{Answered}
-use Rattle.kiosk.specs.Desk.{blank, recordTidied, DeskAnswered, question, tidying, at-counter}
+use Rattle.kiosk.specs.Desk.{blank, record_tidied, DeskAnswered, question, tidying, at-counter}
 
 -- the same request by another name
 pub desk-asks : {given next : SessionRecord} {p q : DeskRequest} {line : List ℕ} {n : ℕ} → p ≡ q → DeskAnswered given p next line n
@@ -35,11 +35,11 @@ question-answered e t = question (rw e at t)
 
 -- tidying: where it is accepted the layout's record is written anew, and where it is refused none is
 module _ {given : SessionRecord} {l : Layout} {line : List ℕ} {n : ℕ} (d : Tidied) (e : l ≡ layout_of given.layout) (t : TidySays l d)
-    (y : LinePut blank (contentFor tidyOp (tidyFound d.outcome d.count)) line n) where
-  tidy-answered : {next : SessionRecord} → next ≡ recordTidied given d → DeskAnswered given Tidy next line n
+    (y : LinePut blank (content_for tidy_op (tidy_found d.outcome d.count)) line n) where
+  tidy-answered : {next : SessionRecord} → next ≡ record_tidied given d → DeskAnswered given Tidy next line n
   tidy-answered h = rw h (tidying d (rw e at t) y)
 
-  pub tidy-done : {r : LayoutRecord} → d.outcome ≡ Done → r ≡ layoutRecord d.layout
+  pub tidy-done : {r : LayoutRecord} → d.outcome ≡ Done → r ≡ layout_record d.layout
       → DeskAnswered given Tidy (record { layout = r; kept = given.kept }) line n
   tidy-done h w = tidy-answered (rw (h, w) refl)
 
@@ -48,9 +48,9 @@ module _ {given : SessionRecord} {l : Layout} {line : List ℕ} {n : ℕ} (d : T
 
 module _ {given next : SessionRecord} {q : Request} {said : List ℕ} {n : ℕ} (a : Answered given q next said n) where
   -- the counter's answer is its line's first characters, and the desk's line has room for it
-  pub counter-room : (n ≤ length said) × (n ≤ deskLongest)
+  pub counter-room : (n ≤ length said) × (n ≤ desk_longest)
   counter-room =
-      let all = length-replicate {A = ℕ} deskLongest 0 in
+      let all = length-replicate {A = ℕ} desk_longest 0 in
       let h = has_room blank a.steps (omega (arith, all)) in
       rw (a.written, a.counted) (h.0, omega (arith, all, h.1))
 

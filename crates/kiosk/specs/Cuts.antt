@@ -4,20 +4,20 @@
 use Rattle.std.specs.Prelude.{◌≡◌, cond, List, ℕ, length}
 use Rattle.std.proofs.lemmas.List.Edits.{sets}
 use Rattle.layout.specs.declared.layout.Layout.{Layout}
-use Rattle.layout.specs.Check.{soundB}
-use Rattle.saw.specs.Written.{sawBytes}
+use Rattle.layout.specs.Check.{sound_b}
+use Rattle.saw.specs.Written.{saw_bytes}
 use Rattle.kiosk.specs.declared.records.LayoutRecord.{LayoutRecord}
 use Rattle.kiosk.specs.Records.{layout_of}
 
 -- how many bytes are said, of what is to be written
-abbrev pub listCount : Layout → List ℕ → ℕ
-listCount l what = cond (soundB l) (length what) 65535
+abbrev pub list_count : Layout → List ℕ → ℕ
+list_count l what = cond (sound_b l) (length what) 65535
 
 -- what the lent bytes then are
-abbrev pub listLeft : Layout → List ℕ → List ℕ → List ℕ
-listLeft l what before = cond (soundB l) (sets before 0 what) before
+abbrev pub list_left : Layout → List ℕ → List ℕ → List ℕ
+list_left l what before = cond (sound_b l) (sets before 0 what) before
 
 -- from the layout's record and the bytes before, these bytes afterwards and this count
 pub record Handed (given : LayoutRecord) (before after : List ℕ) (count : ℕ) : Type 0 where
-  pub counted : count ≡ listCount (layout_of given) (sawBytes (layout_of given))
-  pub written : after ≡ listLeft (layout_of given) (sawBytes (layout_of given)) before
+  pub counted : count ≡ list_count (layout_of given) (saw_bytes (layout_of given))
+  pub written : after ≡ list_left (layout_of given) (saw_bytes (layout_of given)) before

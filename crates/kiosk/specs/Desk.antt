@@ -7,28 +7,28 @@ use Rattle.layout.specs.declared.replies.Outcome.TheVariants.{Done, Refused}
 use Rattle.layout.specs.declared.tidy.Tidied.{Tidied}
 use Rattle.layout.specs.Tidy.{TidySays}
 use Rattle.frames.specs.declared.Request.{Request}
-use Rattle.frames.specs.Answers.{contentOf}
+use Rattle.frames.specs.Answers.{content_of}
 use Rattle.frames.specs.Writing.{LinePut}
 use Rattle.desk_frames.specs.declared.Question.{Question}
 use Rattle.desk_frames.specs.declared.DeskRequest.{DeskRequest}
 use Rattle.desk_frames.specs.declared.DeskRequest.TheVariants.{Asks, Tidy, AtCounter}
-use Rattle.desk_frames.specs.Answers.{Tells, contentFor, tidyFound, tidyOp}
-use Rattle.desk_frames.specs.Desk.{deskLongest}
+use Rattle.desk_frames.specs.Answers.{Tells, content_for, tidy_found, tidy_op}
+use Rattle.desk_frames.specs.Desk.{desk_longest}
 use Rattle.kiosk.specs.declared.records.SessionRecord.{SessionRecord}
 use Rattle.kiosk.specs.Records.{layout_of}
-use Rattle.kiosk.specs.Step.{Answered, recordWithLayout}
+use Rattle.kiosk.specs.Step.{Answered, record_with_layout}
 
 -- the answer's line stands in zeros
 abbrev pub blank : List ℕ
-blank = replicate deskLongest 0
+blank = replicate desk_longest 0
 
 abbrev pub is_refused : Outcome → Bool
 is_refused Done = false
 is_refused (Refused e) = true
 
 -- the record after a tidying
-abbrev pub recordTidied : SessionRecord → Tidied → SessionRecord
-recordTidied r d = cond (is_refused d.outcome) r (recordWithLayout r d.layout)
+abbrev pub record_tidied : SessionRecord → Tidied → SessionRecord
+record_tidied r d = cond (is_refused d.outcome) r (record_with_layout r d.layout)
 
 -- from the record before, the request gives the record next and an answer whose first count characters are its line
 pub data DeskAnswered (before : SessionRecord) : DeskRequest → SessionRecord → List ℕ → ℕ → Type 0 where
@@ -37,8 +37,8 @@ pub data DeskAnswered (before : SessionRecord) : DeskRequest → SessionRecord �
       → DeskAnswered before (Asks q) before answer count
   -- tidying: the layout of the record is tidied
   tidying : (d : Tidied) {answer : List ℕ} {count : ℕ} → TidySays (layout_of before.layout) d
-      → LinePut blank (contentFor tidyOp (tidyFound d.outcome d.count)) answer count
-      → DeskAnswered before Tidy (recordTidied before d) answer count
+      → LinePut blank (content_for tidy_op (tidy_found d.outcome d.count)) answer count
+      → DeskAnswered before Tidy (record_tidied before d) answer count
   -- at the counter: the record is that of the counter's own step, and the answer has its line
   at-counter : {q : Request} {next : SessionRecord} {said answer : List ℕ} {count : ℕ} (answered : Answered before q next said count)
-      → LinePut blank (contentOf answered.steps.answer) answer count → DeskAnswered before (AtCounter q) next answer count
+      → LinePut blank (content_of answered.steps.answer) answer count → DeskAnswered before (AtCounter q) next answer count

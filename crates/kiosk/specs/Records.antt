@@ -3,12 +3,12 @@
 use Rattle.std.specs.Prelude.{Bool, cond, ◌&&◌, List, map, ℕ, ◌<◌, ◌≤◌, length, get_or, replicate}
 use Rattle.piece.specs.declared.node.Datum.{Datum}
 use Rattle.piece.specs.Sides.{sized}
-use Rattle.piece.specs.Numbers.{kindNo, cutNo, cut_of, kind_of, kindListed, cutListed}
+use Rattle.piece.specs.Numbers.{kind_no, cut_no, cut_of, kind_of, kind_listed, cut_listed}
 use Rattle.lists.specs.Lists.{limit, zeros}
 use Rattle.lists.specs.Search.{every}
 use Rattle.table.specs.declared.Node.{Node}
 use Rattle.layout.specs.declared.layout.Layout.{Layout}
-use Rattle.layout.specs.Zero.{zeroLayout}
+use Rattle.layout.specs.Zero.{zero_layout}
 use Rattle.session.specs.declared.Session.{Session}
 use Rattle.kiosk.specs.declared.records.DatumRecord.{DatumRecord}
 use Rattle.kiosk.specs.declared.records.NodeRecord.{NodeRecord}
@@ -17,16 +17,16 @@ use Rattle.kiosk.specs.declared.records.SessionRecord.{SessionRecord}
 
 -- ---- the record of zeros
 
-abbrev pub noDatum : DatumRecord
-noDatum = record { serial = 0; width = 0; height = 0; number = 0; level = 0; kind = 0; cut = 0; eaten = 0 }
+abbrev pub no_datum : DatumRecord
+no_datum = record { serial = 0; width = 0; height = 0; number = 0; level = 0; kind = 0; cut = 0; eaten = 0 }
 
-abbrev pub noRecord : NodeRecord
-noRecord = record { datum = noDatum; parent = 0; first = 0; last = 0; prev = 0; next = 0 }
+abbrev pub no_record : NodeRecord
+no_record = record { datum = no_datum; parent = 0; first = 0; last = 0; prev = 0; next = 0 }
 
 abbrev pub no_layout : LayoutRecord
 no_layout =
     record {
-      nodes = replicate limit noRecord;
+      nodes = replicate limit no_record;
       free = zeros limit;
       removable = zeros limit;
       held = 0;
@@ -41,28 +41,28 @@ no_layout =
       height = 0;
     }
 
-abbrev pub noSession : SessionRecord
-noSession = record { layout = no_layout; kept = no_layout }
+abbrev pub no_session : SessionRecord
+no_session = record { layout = no_layout; kept = no_layout }
 
 -- ---- kinds and cuts that are listed, and the test of them
 
 unfoldable pub Listed : NodeRecord → Type 0
 Listed r = (r.datum.kind ≤ 2) × (r.datum.cut ≤ 1)
 
-unfoldable pub listedB : NodeRecord → Bool
-listedB r = kindListed r.datum.kind && cutListed r.datum.cut
+unfoldable pub listed_b : NodeRecord → Bool
+listed_b r = kind_listed r.datum.kind && cut_listed r.datum.cut
 
 -- at each place
 abbrev pub AllListed : List NodeRecord → Type 0
-AllListed rs = (i : ℕ) → i < length rs → Listed (get_or rs i noRecord)
+AllListed rs = (i : ℕ) → i < length rs → Listed (get_or rs i no_record)
 
-unfoldable pub allListedB : List NodeRecord → Bool
-allListedB rs = every (λ i. listedB (get_or rs i noRecord)) (length rs)
+unfoldable pub all_listed_b : List NodeRecord → Bool
+all_listed_b rs = every (λ i. listed_b (get_or rs i no_record)) (length rs)
 
 -- ---- from a record
 
-abbrev pub datumOf : DatumRecord → Datum
-datumOf d =
+abbrev pub datum_of : DatumRecord → Datum
+datum_of d =
     record {
       serial = d.serial;
       size = sized d.width d.height;
@@ -73,10 +73,10 @@ datumOf d =
       eaten = d.eaten;
     }
 
-unfoldable pub nodeOfRecord : NodeRecord → Node
-nodeOfRecord r =
+unfoldable pub node_of_record : NodeRecord → Node
+node_of_record r =
     record {
-      datum = datumOf r.datum;
+      datum = datum_of r.datum;
       parent = r.parent;
       first = r.first;
       last = r.last;
@@ -84,14 +84,14 @@ nodeOfRecord r =
       next = r.next;
     }
 
-abbrev pub nodesOfRecords : List NodeRecord → List Node
-nodesOfRecords rs = map nodeOfRecord rs
+abbrev pub nodes_of_records : List NodeRecord → List Node
+nodes_of_records rs = map node_of_record rs
 
 -- field by field
 unfoldable pub fields_of : LayoutRecord → Layout
 fields_of r =
     record {
-      nodes = nodesOfRecords r.nodes;
+      nodes = nodes_of_records r.nodes;
       free = r.free;
       removable = r.removable;
       held = r.held;
@@ -105,30 +105,30 @@ fields_of r =
 
 -- the layout that a record stands for
 unfoldable pub layout_of : LayoutRecord → Layout
-layout_of r = cond (allListedB r.nodes) (fields_of r) zeroLayout
+layout_of r = cond (all_listed_b r.nodes) (fields_of r) zero_layout
 
-abbrev pub sessionOf : SessionRecord → Session
-sessionOf r = record { layout = layout_of r.layout; kept = layout_of r.kept }
+abbrev pub session_of : SessionRecord → Session
+session_of r = record { layout = layout_of r.layout; kept = layout_of r.kept }
 
 -- ---- to a record
 
-abbrev pub datumRecord : Datum → DatumRecord
-datumRecord d =
+abbrev pub datum_record : Datum → DatumRecord
+datum_record d =
     record {
       serial = d.serial;
       width = d.size.width;
       height = d.size.height;
       number = d.number;
       level = d.level;
-      kind = kindNo d.kind;
-      cut = cutNo d.cut;
+      kind = kind_no d.kind;
+      cut = cut_no d.cut;
       eaten = d.eaten;
     }
 
-unfoldable pub nodeRecord : Node → NodeRecord
-nodeRecord n =
+unfoldable pub node_record : Node → NodeRecord
+node_record n =
     record {
-      datum = datumRecord n.datum;
+      datum = datum_record n.datum;
       parent = n.parent;
       first = n.first;
       last = n.last;
@@ -136,13 +136,13 @@ nodeRecord n =
       next = n.next;
     }
 
-abbrev pub nodeRecords : List Node → List NodeRecord
-nodeRecords ns = map nodeRecord ns
+abbrev pub node_records : List Node → List NodeRecord
+node_records ns = map node_record ns
 
-unfoldable pub layoutRecord : Layout → LayoutRecord
-layoutRecord l =
+unfoldable pub layout_record : Layout → LayoutRecord
+layout_record l =
     record {
-      nodes = nodeRecords l.nodes;
+      nodes = node_records l.nodes;
       free = l.free;
       removable = l.removable;
       held = l.held;
@@ -157,5 +157,5 @@ layoutRecord l =
       height = l.settings.sheet.height;
     }
 
-abbrev pub recordOf : Session → SessionRecord
-recordOf s = record { layout = layoutRecord s.layout; kept = layoutRecord s.kept }
+abbrev pub record_of : Session → SessionRecord
+record_of s = record { layout = layout_record s.layout; kept = layout_record s.kept }

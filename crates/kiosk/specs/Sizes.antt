@@ -8,21 +8,21 @@ abbrev pub up_to : ℕ → ℕ → ℕ
 up_to k n = n + (k - n % k) % k
 
 -- serial, width and height 4 bytes each, number 2; level, kind, cut and what was eaten 1 each
-abbrev pub datumBytes : ℕ
-datumBytes = up_to 4 (3 * 4 + 2 + 4 * 1)
+abbrev pub datum_bytes : ℕ
+datum_bytes = up_to 4 (3 * 4 + 2 + 4 * 1)
 
 -- the datum, and five links of 2
-abbrev pub nodeRecordBytes : ℕ
-nodeRecordBytes = up_to 4 (datumBytes + 5 * 2)
+abbrev pub node_record_bytes : ℕ
+node_record_bytes = up_to 4 (datum_bytes + 5 * 2)
 
 -- the nodes, two lists of places and three counts, 2 bytes each; used area 8; serial 4, number 2, stages and blade 1 each; width and height 4 each
-abbrev pub layoutBytes : ℕ
-layoutBytes = up_to 8 (up_to 8 (limit * nodeRecordBytes + 2 * (limit * 2) + 3 * 2) + 8 + up_to 4 (4 + 2 + 2 * 1) + 2 * 4)
+abbrev pub layout_bytes : ℕ
+layout_bytes = up_to 8 (up_to 8 (limit * node_record_bytes + 2 * (limit * 2) + 3 * 2) + 8 + up_to 4 (4 + 2 + 2 * 1) + 2 * 4)
 
 -- the layout, and the kept one
-abbrev pub sessionBytes : ℕ
-sessionBytes = 2 * layoutBytes
+abbrev pub session_bytes : ℕ
+session_bytes = 2 * layout_bytes
 
 -- the bytes that are lent for a list of saw cuts: 9 for each place, which is more than any list has
-abbrev pub roomBytes : ℕ
-roomBytes = 9 * limit
+abbrev pub room_bytes : ℕ
+room_bytes = 9 * limit

@@ -11,31 +11,31 @@ use Rattle.session.specs.Replies.{refusal}
 use Rattle.kiosk.specs.declared.SteppedRecord.{SteppedRecord}
 use Rattle.kiosk.specs.declared.records.LayoutRecord.{LayoutRecord}
 use Rattle.kiosk.specs.declared.records.SessionRecord.{SessionRecord}
-use Rattle.kiosk.specs.Records.{sessionOf, layoutRecord}
+use Rattle.kiosk.specs.Records.{session_of, layout_record}
 
 -- the record of what is kept after an accepted request that leaves the layout l: keep alone writes it
-abbrev pub keptRecord : SessionRecord → Request → Layout → LayoutRecord
-keptRecord r (OfLayout ask) l = r.kept
-keptRecord r Keep l = layoutRecord l
-keptRecord r Restore l = r.kept
-keptRecord r Malformed l = r.kept
+abbrev pub kept_record : SessionRecord → Request → Layout → LayoutRecord
+kept_record r (OfLayout ask) l = r.kept
+kept_record r Keep l = layout_record l
+kept_record r Restore l = r.kept
+kept_record r Malformed l = r.kept
 
 -- the record afterwards: where the answer says no, the record before; else that of the layout l, and of what is kept
-abbrev pub recordAfter : SessionRecord → Bool → Request → Layout → SessionRecord
-recordAfter r refused q l = cond refused r (record { layout = layoutRecord l; kept = keptRecord r q l })
+abbrev pub record_after : SessionRecord → Bool → Request → Layout → SessionRecord
+record_after r refused q l = cond refused r (record { layout = layout_record l; kept = kept_record r q l })
 
 -- from the record before, the request q gives the record next and an answer whose first count characters are its line
 pub record Answered (before : SessionRecord) (q : Request) (next : SessionRecord) (answer : List ℕ) (count : ℕ) : Type 0 where
   pub stepped : Stepped
-  pub steps : Steps (sessionOf before) q stepped
-  pub left : next ≡ recordAfter before (refusal steps.answer) q stepped.session.layout
+  pub steps : Steps (session_of before) q stepped
+  pub left : next ≡ record_after before (refusal steps.answer) q stepped.session.layout
   pub written : answer ≡ stepped.line
   pub counted : count ≡ stepped.count
 
 -- the record with the layout l, and what is kept as it was
-abbrev pub recordWithLayout : SessionRecord → Layout → SessionRecord
-recordWithLayout r l = record { layout = layoutRecord l; kept = r.kept }
+abbrev pub record_with_layout : SessionRecord → Layout → SessionRecord
+record_with_layout r l = record { layout = layout_record l; kept = r.kept }
 
 -- the record s, and what is said
-abbrev pub recordStepTo : SessionRecord → Said → SteppedRecord
-recordStepTo s said = record { session = s; line = said.line; count = said.count }
+abbrev pub record_step_to : SessionRecord → Said → SteppedRecord
+record_step_to s said = record { session = s; line = said.line; count = said.count }

@@ -2,8 +2,8 @@
 // `desk_frames` for the questions and the tidying.
 ghost use Rattle.std.specs.Prelude.{◌≡◌};
 ghost use Rattle.desk_frames.specs.declared.DeskRequest.TheVariants as asks;
-ghost use Rattle.desk_frames.specs.Requests.{deskRequestOf};
-ghost use Rattle.desk_frames.specs.Desk.{deskLongest};
+ghost use Rattle.desk_frames.specs.Requests.{desk_request_of};
+ghost use Rattle.desk_frames.specs.Desk.{desk_longest};
 ghost use Rattle.kiosk.specs.Desk.{DeskAnswered};
 
 use crate::asked;
@@ -85,7 +85,7 @@ fn at_counter(given: SessionRecord, request: Request) -> DeskRecord
 
 // The step by value: the characters of a line, without its newline.
 fn desk_stepped(given: SessionRecord, line: &[u8]) -> DeskRecord
-    ensures { DeskAnswered given (deskRequestOf line.now) result.session result.line result.count }
+    ensures { DeskAnswered given (desk_request_of line.now) result.session result.line result.count }
 {
     match request(line) {
         DeskRequest::Asks(question) => told(given, question),
@@ -102,7 +102,7 @@ pub extern "C" fn nickelgrove_desk(
     line: &[u8],
     answer: &mut [u8; LONGEST_ANSWER],
 ) -> usize
-    ensures { DeskAnswered session.old (deskRequestOf line.now) session.new answer.new result }
+    ensures { DeskAnswered session.old (desk_request_of line.now) session.new answer.new result }
 {
     let next = desk_stepped(*session, line);
     *session = next.session;
@@ -113,7 +113,7 @@ pub extern "C" fn nickelgrove_desk(
 // The bytes that are lent for an answer of the desk.
 #[unsafe(no_mangle)]
 pub extern "C" fn nickelgrove_desk_longest() -> usize
-    ensures { result ≡ deskLongest }
+    ensures { result ≡ desk_longest }
 {
     LONGEST_ANSWER
 }

@@ -2,8 +2,8 @@
 // from its record by restore alone, and keep alone writes one; a refusal writes none. Rests on records.rt for the records and on `session` for the
 // answers.
 ghost use Rattle.std.specs.Prelude.{◌≡◌, cond};
-ghost use Rattle.frames.specs.Requests.{requestOf};
-ghost use Rattle.kiosk.specs.Step.{Answered, recordStepTo, recordWithLayout};
+ghost use Rattle.frames.specs.Requests.{request_of};
+ghost use Rattle.kiosk.specs.Step.{Answered, record_step_to, record_with_layout};
 
 use frames::Request;
 use frames::read::request;
@@ -27,7 +27,7 @@ pub struct SteppedRecord {
 
 // The state as it is, and what is said.
 fn says(session: SessionRecord, said: Said) -> SteppedRecord
-    ensures { result ≡ recordStepTo session said }
+    ensures { result ≡ record_step_to session said }
 {
     let line = said.line;
     SteppedRecord {
@@ -39,7 +39,7 @@ fn says(session: SessionRecord, said: Said) -> SteppedRecord
 
 // The state with the layout of an answer, and what that says. The kept record stays, and where the answer is a refusal both do.
 fn told(mut given: SessionRecord, answer: Response) -> SteppedRecord
-    ensures { result ≡ recordStepTo (cond answer.refused given (recordWithLayout given answer.layout)) answer.said }
+    ensures { result ≡ record_step_to (cond answer.refused given (record_with_layout given answer.layout)) answer.said }
 {
     let said = answer.said;
     if answer.refused {
@@ -82,7 +82,7 @@ pub(crate) fn asked(given: SessionRecord, request: Request) -> SteppedRecord
 
 // The step by value: the characters of a line, without its newline.
 fn stepped(given: SessionRecord, line: &[u8]) -> SteppedRecord
-    ensures { Answered given (requestOf line.now) result.session result.line result.count }
+    ensures { Answered given (request_of line.now) result.session result.line result.count }
 {
     asked(given, request(line))
 }
@@ -94,7 +94,7 @@ pub extern "C" fn nickelgrove_step(
     line: &[u8],
     answer: &mut [u8; LONGEST_ANSWER],
 ) -> usize
-    ensures { Answered session.old (requestOf line.now) session.new answer.new result }
+    ensures { Answered session.old (request_of line.now) session.new answer.new result }
 {
     let next = stepped(*session, line);
     *session = next.session;

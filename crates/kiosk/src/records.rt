@@ -4,8 +4,8 @@
 ghost use Rattle.std.specs.Prelude.{◌≡◌, replicate};
 ghost use Rattle.piece.specs.Numbers.{cut_of};
 ghost use Rattle.lists.specs.Lists.{limit};
-ghost use Rattle.kiosk.specs.Records.{listedB, allListedB, nodeOfRecord, nodesOfRecords, fields_of, layout_of};
-ghost use Rattle.kiosk.specs.Records.{nodeRecord, nodeRecords, layoutRecord, noRecord};
+ghost use Rattle.kiosk.specs.Records.{listed_b, all_listed_b, node_of_record, nodes_of_records, fields_of, layout_of};
+ghost use Rattle.kiosk.specs.Records.{node_record, node_records, layout_record, no_record};
 
 use layout::layout::Layout;
 use piece::node::{Datum, Kind};
@@ -68,7 +68,7 @@ pub struct SessionRecord {
 
 // A kind and a cut that document 01 lists.
 fn listed(given: NodeRecord) -> bool
-    ensures { result ≡ listedB given }
+    ensures { result ≡ listed_b given }
 {
     let d = given.datum;
     d.kind <= 2 && d.cut <= 1
@@ -76,7 +76,7 @@ fn listed(given: NodeRecord) -> bool
 
 // At each place.
 fn all_listed(records: [NodeRecord; LIMIT]) -> bool
-    ensures { result ≡ allListedB records }
+    ensures { result ≡ all_listed_b records }
 {
     let mut i: usize = 0;
     while i < LIMIT {
@@ -90,7 +90,7 @@ fn all_listed(records: [NodeRecord; LIMIT]) -> bool
 }
 
 fn node_of(given: NodeRecord) -> Node
-    ensures { result ≡ nodeOfRecord given }
+    ensures { result ≡ node_of_record given }
 {
     let d = given.datum;
     Node {
@@ -115,7 +115,7 @@ fn node_of(given: NodeRecord) -> Node
 }
 
 fn nodes_of(records: [NodeRecord; LIMIT]) -> [Node; LIMIT]
-    ensures { result ≡ nodesOfRecords records }
+    ensures { result ≡ nodes_of_records records }
 {
     let mut nodes = empty_table();
     let mut i: usize = 0;
@@ -171,7 +171,7 @@ pub fn layout_of(given: LayoutRecord) -> Layout
 // ---- Writing.
 
 fn node_record(n: Node) -> NodeRecord
-    ensures { result ≡ nodeRecord n }
+    ensures { result ≡ node_record n }
 {
     let d = n.datum;
     let kind = d.kind;
@@ -197,7 +197,7 @@ fn node_record(n: Node) -> NodeRecord
 
 // Records of zeros.
 fn no_records() -> [NodeRecord; LIMIT]
-    ensures { result ≡ replicate limit noRecord }
+    ensures { result ≡ replicate limit no_record }
 {
     let zero = NodeRecord {
         datum: DatumRecord {
@@ -220,7 +220,7 @@ fn no_records() -> [NodeRecord; LIMIT]
 }
 
 fn node_records(nodes: [Node; LIMIT]) -> [NodeRecord; LIMIT]
-    ensures { result ≡ nodeRecords nodes }
+    ensures { result ≡ node_records nodes }
 {
     let mut records = no_records();
     let mut i: usize = 0;
@@ -233,7 +233,7 @@ fn node_records(nodes: [Node; LIMIT]) -> [NodeRecord; LIMIT]
 }
 
 pub fn layout_record(l: Layout) -> LayoutRecord
-    ensures { result ≡ layoutRecord l }
+    ensures { result ≡ layout_record l }
 {
     let table = l.nodes;
     let nodes = node_records(table);

@@ -3,7 +3,7 @@
 ghost use Rattle.std.specs.Prelude.{◌≡◌};
 ghost use Rattle.lists.specs.Lists.{limit};
 ghost use Rattle.session.specs.Session.{longest};
-ghost use Rattle.kiosk.specs.Sizes.{roomBytes, sessionBytes};
+ghost use Rattle.kiosk.specs.Sizes.{room_bytes, session_bytes};
 
 use saw::cuts::ROOM;
 use session::LONGEST_ANSWER;
@@ -35,7 +35,7 @@ pub extern "C" fn nickelgrove_longest() -> usize
 // The bytes that are lent for a list of saw cuts.
 #[unsafe(no_mangle)]
 pub extern "C" fn nickelgrove_room() -> usize
-    ensures { result ≡ roomBytes }
+    ensures { result ≡ room_bytes }
 {
     ROOM
 }
@@ -43,7 +43,7 @@ pub extern "C" fn nickelgrove_room() -> usize
 // The bytes of a session's record.
 #[unsafe(no_mangle)]
 pub extern "C" fn nickelgrove_session_bytes() -> usize
-    ensures { result ≡ sessionBytes }
+    ensures { result ≡ session_bytes }
 {
     2 * LAYOUT
 }

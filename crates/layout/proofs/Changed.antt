@@ -6,19 +6,19 @@ use Prim.Native.Nat.{ℕ, ◌-◌}
 use lib.ListN.{length, take, take-append-drop}
 use lib.Seq.{length-take-le}
 use Rattle.tree.specs.Tree.{Tree, count}
-use Rattle.tree.specs.Figures.{partArea}
+use Rattle.tree.specs.Figures.{part_area}
 use Rattle.table.proofs.Steps.{sound-tree}
 use Rattle.lists.specs.Lists.{padded}
 use Rattle.lists.proofs.Padded.{length-padded, drop-padded}
 use Rattle.layout_nodes.specs.declared.listing.Listing.{Listing}
 use Rattle.layout_nodes.specs.declared.LayoutNodes.{LayoutNodes}
-use Rattle.layout_nodes.specs.Listings.{Kept, entriesOf, listing}
+use Rattle.layout_nodes.specs.Listings.{Kept, entries_of, listing}
 use Rattle.layout_nodes.specs.Standing.{Stands}
 use Rattle.layout_nodes.proofs.Listed.{length-entries, room-entries}
 use Rattle.layout.specs.declared.layout.Layout.{Layout}
 use Rattle.layout.specs.Check.{limit, tree}
 use Rattle.layout.specs.SoundLayout.{Counted, SoundLayout, Sized}
-use Rattle.layout.specs.Parts.{nodesOf, with_nodes}
+use Rattle.layout.specs.Parts.{nodes_of, with_nodes}
 use Rattle.layout.specs.Next.{Next, removables}
 use Rattle.layout.proofs.Unique.{determined-layout}
 
@@ -33,7 +33,7 @@ kept-list l n e c =
 
 counted-list : (l : Listing) → Kept l → (length l.list ≡ limit) × Counted l.list l.count
 counted-list l k =
-    let xs = entriesOf l in
+    let xs = entries_of l in
     let same : l.list ≡ padded limit xs = ap (λ (m : Listing). m.list) k.zeros in
     let many : length xs ≡ l.count = length-entries k in (
       rw same (length-padded limit xs (room-entries k)),
@@ -42,20 +42,20 @@ counted-list l k =
 
 -- ---- the layout
 
-pub layout-stands : (l : Layout) → Sized l → SoundLayout l → Stands l.settings l.serial (tree l) (nodesOf l)
+pub layout-stands : (l : Layout) → Sized l → SoundLayout l → Stands l.settings l.serial (tree l) (nodes_of l)
 layout-stands l s h =
     record {
       sound = h.sound;
       holds = h.holds;
       free = h.free;
       removable = h.removable;
-      freeKept = kept-list l.free l.frees s.free h.freeTail;
-      removableKept = kept-list l.removable l.removables s.removable h.removableTail;
+      free_kept = kept-list l.free l.frees s.free h.free_tail;
+      removable_kept = kept-list l.removable l.removables s.removable h.removable_tail;
       serials = h.serials;
     }
 
 module _ (l : Layout) (last : ℕ) (w : Tree) (n : LayoutNodes) (stands : Stands l.settings last w n) (held used : ℕ)
-    (counts : held ≡ count w) (covers : used ≡ partArea w) where
+    (counts : held ≡ count w) (covers : used ≡ part_area w) where
   abbrev next : Layout
   next = with_nodes l n held used last
 
@@ -71,20 +71,20 @@ module _ (l : Layout) (last : ℕ) (w : Tree) (n : LayoutNodes) (stands : Stands
         used = rw same-tree covers;
         free = rw same-tree stands.free;
         removable = rw same-tree stands.removable;
-        freeTail = (counted-list n.free stands.freeKept).1;
-        removableTail = (counted-list n.removable stands.removableKept).1;
+        free_tail = (counted-list n.free stands.free_kept).1;
+        removable_tail = (counted-list n.removable stands.removable_kept).1;
         serials = rw same-tree stands.serials;
       }
 
-  pub stands-next : Next l w (entriesOf n.removable) last next
+  pub stands-next : Next l w (entries_of n.removable) last next
   stands-next =
       record {
         sound = sound;
         sized =
             record {
               nodes = stands.holds.len;
-              free = (counted-list n.free stands.freeKept).0;
-              removable = (counted-list n.removable stands.removableKept).0;
+              free = (counted-list n.free stands.free_kept).0;
+              removable = (counted-list n.removable stands.removable_kept).0;
             };
         tree = same-tree;
         removable = refl;

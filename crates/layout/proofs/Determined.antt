@@ -19,14 +19,14 @@ use Rattle.layout.specs.declared.restore.Restored.{Restored}
 use Rattle.layout.specs.declared.insert.Inserted.{Inserted}
 use Rattle.layout.specs.declared.remove.Removed.{Removed}
 use Rattle.layout.specs.declared.tidy.Tidied.{Tidied}
-use Rattle.layout.specs.Check.{soundB}
-use Rattle.layout.specs.Zero.{zeroLayout}
-use Rattle.layout.specs.Open.{openOf}
-use Rattle.layout.specs.Restore.{restoreOf}
-use Rattle.layout.specs.Asked.{freePieceOf}
-use Rattle.layout.specs.Insert.{InsertSays, bookingFor, insertIs, insertNo}
-use Rattle.layout.specs.Remove.{RemoveSays, numbersLeft, removeIs, removeNo}
-use Rattle.layout.specs.Tidy.{TidySays, tidyIs, tidyNo}
+use Rattle.layout.specs.Check.{sound_b}
+use Rattle.layout.specs.Zero.{zero_layout}
+use Rattle.layout.specs.Open.{open_of}
+use Rattle.layout.specs.Restore.{restore_of}
+use Rattle.layout.specs.Asked.{free_piece_of}
+use Rattle.layout.specs.Insert.{InsertSays, booking_for, insert_is, insert_no}
+use Rattle.layout.specs.Remove.{RemoveSays, numbers_left, remove_is, remove_no}
+use Rattle.layout.specs.Tidy.{TidySays, tidy_is, tidy_no}
 use Rattle.layout.proofs.Changed.{next-is-one}
 use Rattle.layout.proofs.Tidying.{tidies-once}
 
@@ -35,20 +35,20 @@ pub only : {A : Type 0} {x : A} (r s : A) → r ≡ x → s ≡ x → r ≡ s
 only r s p q = p ∙ sym q
 
 module _ (l : Layout) where
-  pub sound-is-one : (r s : Bool) → r ≡ soundB l → s ≡ soundB l → r ≡ s
+  pub sound-is-one : (r s : Bool) → r ≡ sound_b l → s ≡ sound_b l → r ≡ s
   sound-is-one = only
 
-  pub free-piece-is-one : (m : Mark) (p : PartType) (r s : Sought) → r ≡ freePieceOf l m p → s ≡ freePieceOf l m p → r ≡ s
+  pub free-piece-is-one : (m : Mark) (p : PartType) (r s : Sought) → r ≡ free_piece_of l m p → s ≡ free_piece_of l m p → r ≡ s
   free-piece-is-one m p = only
 
 pub open-is-one : (o : Opening) (r s : Opened)
-    → r ≡ openOf o → s ≡ openOf o → r ≡ s
+    → r ≡ open_of o → s ≡ open_of o → r ≡ s
 open-is-one o = only
 
-pub restore-is-one : (l m : Layout) (r s : Restored) → r ≡ restoreOf l m → s ≡ restoreOf l m → r ≡ s
+pub restore-is-one : (l m : Layout) (r s : Restored) → r ≡ restore_of l m → s ≡ restore_of l m → r ≡ s
 restore-is-one l m = only
 
-pub zero-is-one : (r s : Layout) → r ≡ zeroLayout → s ≡ zeroLayout → r ≡ s
+pub zero-is-one : (r s : Layout) → r ≡ zero_layout → s ≡ zero_layout → r ≡ s
 zero-is-one = only
 
 -- ---- the calls that change a layout
@@ -56,7 +56,7 @@ zero-is-one = only
 same-inserted : (a b : Inserted) → a.outcome ≡ b.outcome → a.marks ≡ b.marks → a.layout ≡ b.layout → a ≡ b
 same-inserted a b o m l = λ i. record { outcome = o i; marks = m i; layout = l i }
 
-inserted-is-one : (o : Option Refusal) (l : Layout) (x : ℕ) (k : Booking) (a b : Inserted) → insertIs o l x k a → insertIs o l x k b → a ≡ b
+inserted-is-one : (o : Option Refusal) (l : Layout) (x : ℕ) (k : Booking) (a b : Inserted) → insert_is o l x k a → insert_is o l x k b → a ≡ b
 inserted-is-one (some e) l x k a b p q = only a b p q
 inserted-is-one none l x k a b p q =
     same-inserted a b (only a.outcome b.outcome p.outcome q.outcome) (only a.marks b.marks p.marks q.marks)
@@ -65,10 +65,10 @@ inserted-is-one none l x k a b p q =
 pub insert-is-one : (l : Layout) (m : Mark) (p : PartType) (r : Rotation) (s : InsertionShape) (a b : Inserted)
     → InsertSays l m p r s a → InsertSays l m p r s b → a ≡ b
 unfolding InsertSays
-insert-is-one l m p r s a b = inserted-is-one (insertNo l m p r s) l m.place (bookingFor l m.place p r s) a b
+insert-is-one l m p r s a b = inserted-is-one (insert_no l m p r s) l m.place (booking_for l m.place p r s) a b
 
 -- accepted, each field is said; the layout is the one next layout
-removed-is-one : (o : Option Refusal) (l : Layout) (x : ℕ) (r s : Removed) → removeIs o l x r → removeIs o l x s → r ≡ s
+removed-is-one : (o : Option Refusal) (l : Layout) (x : ℕ) (r s : Removed) → remove_is o l x r → remove_is o l x s → r ≡ s
 removed-is-one (some e) l x r s a b = only r s a b
 removed-is-one none l x r s a b =
     let outcome = only r.outcome s.outcome a.outcome b.outcome in
@@ -80,13 +80,13 @@ removed-is-one none l x r s a b =
 module _ (l : Layout) (m : Mark) where
   pub remove-is-one : (room : ℕ) (r s : Removed) → RemoveSays l m room r → RemoveSays l m room s → r ≡ s
   unfolding RemoveSays
-  remove-is-one room = removed-is-one (removeNo l m room) l m.place
+  remove-is-one room = removed-is-one (remove_no l m room) l m.place
 
-  pub remove-leaves-one : (out a b : List ℕ) → a ≡ numbersLeft l m out → b ≡ numbersLeft l m out → a ≡ b
+  pub remove-leaves-one : (out a b : List ℕ) → a ≡ numbers_left l m out → b ≡ numbers_left l m out → a ≡ b
   remove-leaves-one out = only
 
 -- accepted, the steps are the same, each the lowest in its turn
-tidied-is-one : (o : Option Refusal) (l : Layout) (a b : Tidied) → tidyIs o l a → tidyIs o l b → a ≡ b
+tidied-is-one : (o : Option Refusal) (l : Layout) (a b : Tidied) → tidy_is o l a → tidy_is o l b → a ≡ b
 tidied-is-one (some e) l a b p q = only a b p q
 tidied-is-one none l a b p q =
     let outcome = only a.outcome b.outcome p.outcome q.outcome in
@@ -95,4 +95,4 @@ tidied-is-one none l a b p q =
 
 pub tidy-is-one : (l : Layout) (a b : Tidied) → TidySays l a → TidySays l b → a ≡ b
 unfolding TidySays
-tidy-is-one l = tidied-is-one (tidyNo l) l
+tidy-is-one l = tidied-is-one (tidy_no l) l

@@ -8,7 +8,7 @@ use Prim.Native.Nat.{ℕ, ◌+◌, ◌≤◌}
 use lib.ListN.{length}
 use lib.Seq.{sets}
 use Rattle.piece.specs.declared.node.Datum.{Datum}
-use Rattle.piece.specs.Kinds.{isFree}
+use Rattle.piece.specs.Kinds.{is_free}
 use Rattle.tree.specs.Tree.{At, Inside}
 use Rattle.tree.specs.Removal.{cleared}
 use Rattle.tree.proofs.Laws.UntouchedByRemoval.{untouched-by-removal}
@@ -22,74 +22,74 @@ use Rattle.layout.specs.declared.replies.Outcome.TheVariants.{Done, Refused}
 use Rattle.layout.specs.declared.replies.Sought.{Sought}
 use Rattle.layout.specs.declared.replies.Sought.TheVariants as sought
 use Rattle.layout.specs.declared.remove.Removed.{Removed}
-use Rattle.layout.specs.Check.{limit, tree, soundB}
-use Rattle.layout.specs.Asked.{soughtOf}
+use Rattle.layout.specs.Check.{limit, tree, sound_b}
+use Rattle.layout.specs.Asked.{sought_of}
 use Rattle.layout.specs.SoundLayout.{SoundLayout, Sized}
 use Rattle.layout.specs.Refusing.{or_else}
-use Rattle.layout.specs.Remove.{RemoveDone, RemoveSays, goNo, goingNo, numbersLeft, numbersOut, placeFor}
+use Rattle.layout.specs.Remove.{RemoveDone, RemoveSays, go_no, going_no, numbers_left, numbers_out, place_for}
 use Rattle.layout.specs.Inner.{Takeable}
-use Rattle.layout.specs.Remove.{refusedRemove, removeIs, removeNo, roomNo}
+use Rattle.layout.specs.Remove.{refused_remove, remove_is, remove_no, room_no}
 use Rattle.layout.proofs.Marks.{Names}
 use Rattle.layout.proofs.RemoveEnds.{takeable}
 use Rattle.layout.proofs.TakenOut.{numbers-fewer}
 
 -- ---- what the outcome says of the tests
 
-done-means : (o : Option Refusal) (l : Layout) (x : ℕ) (a : Removed) → removeIs o l x a → a.outcome ≡ Done → (o ≡ none) × RemoveDone l x a
+done-means : (o : Option Refusal) (l : Layout) (x : ℕ) (a : Removed) → remove_is o l x a → a.outcome ≡ Done → (o ≡ none) × RemoveDone l x a
 done-means none l x a h d = (refl, h)
 done-means (some e) l x a h d = let z : Refused e ≡ Done = sym (ap (λ (r : Removed). r.outcome) h) ∙ d in absurd (clash (cc))
 
-refused-means : (o : Option Refusal) (l : Layout) (x : ℕ) (a : Removed) (e : Refusal) → removeIs o l x a → a.outcome ≡ Refused e
-    → (o ≡ some e) × (a ≡ refusedRemove l e)
+refused-means : (o : Option Refusal) (l : Layout) (x : ℕ) (a : Removed) (e : Refusal) → remove_is o l x a → a.outcome ≡ Refused e
+    → (o ≡ some e) × (a ≡ refused_remove l e)
 refused-means none l x a e h d = let z : Done ≡ Refused e = sym h.outcome ∙ d in absurd (clash (cc))
 refused-means (some f) l x a e h d =
     let z : Refused f ≡ Refused e = sym (ap (λ (r : Removed). r.outcome) h) ∙ d in
     let same : f ≡ e = cc in
-    (ap some same, h ∙ ap (refusedRemove l) same)
+    (ap some same, h ∙ ap (refused_remove l) same)
 
 -- past every test
 pub record Passed (l : Layout) (m : Mark) (room : ℕ) : Type 0 where
   pub piece : Datum
-  pub checked : soundB l ≡ true
-  pub named : soughtOf l m ≡ sought.Piece piece
-  pub allowed : goNo l m.place piece ≡ none
-  pub roomy : roomNo l m.place room ≡ none
+  pub checked : sound_b l ≡ true
+  pub named : sought_of l m ≡ sought.Piece piece
+  pub allowed : go_no l m.place piece ≡ none
+  pub roomy : room_no l m.place room ≡ none
 
 neither-refuses : (o p : Option Refusal) → or_else o p ≡ none → (o ≡ none) × (p ≡ none)
 neither-refuses none p h = (refl, h)
 neither-refuses (some e) p h = absurd (clash (cc))
 
-pub none_passes : (l : Layout) (m : Mark) (room : ℕ) → removeNo l m room ≡ none → Passed l m room
-unfolding removeNo
-none_passes l m room h = go (soundB l) refl (soughtOf l m) refl h
+pub none_passes : (l : Layout) (m : Mark) (room : ℕ) → remove_no l m room ≡ none → Passed l m room
+unfolding remove_no
+none_passes l m room h = go (sound_b l) refl (sought_of l m) refl h
   where
-    go : (b : Bool) → soundB l ≡ b → (f : Sought) → soughtOf l m ≡ f → cond b (goingNo l m.place room f) (some NotSound) ≡ none
+    go : (b : Bool) → sound_b l ≡ b → (f : Sought) → sought_of l m ≡ f → cond b (going_no l m.place room f) (some NotSound) ≡ none
         → Passed l m room
     go true e (sought.Piece d) f h =
-        let n = neither-refuses (goNo l m.place d) (roomNo l m.place room) h in
+        let n = neither-refuses (go_no l m.place d) (room_no l m.place room) h in
         record { piece = d; checked = e; named = f; allowed = n.0; roomy = n.1 }
     go true e (sought.Refused r) f h = absurd (clash (cc))
     go false e f g h = absurd (clash (cc))
 
 -- a removal that nothing refuses can be made
-pub may-take : (l : Layout) (m : Mark) (room : ℕ) → Sized l → removeNo l m room ≡ none → Takeable l m.place
+pub may-take : (l : Layout) (m : Mark) (room : ℕ) → Sized l → remove_no l m room ≡ none → Takeable l m.place
 may-take l m room sized h =
     let p = none_passes l m room h in takeable l m p.piece sized p.checked p.named p.allowed
 
 -- ---- an answer that meets the contract
 
 module _ (l : Layout) (m : Mark) (room : ℕ) (a : Removed) (says : RemoveSays l m room a) where
-  told : removeIs (removeNo l m room) l m.place a
+  told : remove_is (remove_no l m room) l m.place a
   unfolding RemoveSays
   told = says
 
   -- refused: the layout comes back as it came, and all else is zero
-  pub remove-refused : (e : Refusal) → a.outcome ≡ Refused e → (removeNo l m room ≡ some e) × (a ≡ refusedRemove l e)
-  remove-refused e d = refused-means (removeNo l m room) l m.place a e told d
+  pub remove-refused : (e : Refusal) → a.outcome ≡ Refused e → (remove_no l m room ≡ some e) × (a ≡ refused_remove l e)
+  remove-refused e d = refused-means (remove_no l m room) l m.place a e told d
 
   module _ (done : a.outcome ≡ Done) where
-    pub remove-accepted : (removeNo l m room ≡ none) × RemoveDone l m.place a
-    remove-accepted = done-means (removeNo l m room) l m.place a told done
+    pub remove-accepted : (remove_no l m room ≡ none) × RemoveDone l m.place a
+    remove-accepted = done-means (remove_no l m room) l m.place a told done
 
     pub removed-done : RemoveDone l m.place a
     removed-done = remove-accepted.1
@@ -100,7 +100,7 @@ module _ (l : Layout) (m : Mark) (room : ℕ) (a : Removed) (says : RemoveSays l
 
     -- what did not go stands where it stood, with its serial and all else that it is
     pub stays : (i : ℕ) (e : Datum) → At i e (cleared m.place (tree l)) → At i e (tree a.layout)
-    stays i e y = rw removed-done.next.tree (untouched-by-removal (tree l) m.place (placeFor l m.place) (l.serial + 1) i e y)
+    stays i e y = rw removed-done.next.tree (untouched-by-removal (tree l) m.place (place_for l m.place) (l.serial + 1) i e y)
 
     -- and keeps its mark
     pub mark-stays : (n : Mark) (e : Datum) → Names l n e → At n.place e (cleared m.place (tree l)) → Names a.layout n e
@@ -108,8 +108,8 @@ module _ (l : Layout) (m : Mark) (room : ℕ) (a : Removed) (says : RemoveSays l
         record { layout = h.layout ∙ sym removed-done.next.number; there = stays n.place e y; serial = h.serial }
 
     -- the numbers stand at the start of the buffer, and nothing else in it changes
-    pub numbers-left : (out : List ℕ) → length out ≡ room → numbersLeft l m out ≡ sets out 0 (numbersOut l m.place)
-    unfolding numbersLeft
+    pub numbers-left : (out : List ℕ) → length out ≡ room → numbers_left l m out ≡ sets out 0 (numbers_out l m.place)
+    unfolding numbers_left
     numbers-left out n = rw (n, remove-accepted.0) refl
 
     module _ (sized : Sized l) where
@@ -117,24 +117,24 @@ module _ (l : Layout) (m : Mark) (room : ℕ) (a : Removed) (says : RemoveSays l
       removal-takeable = may-take l m room sized remove-accepted.0
 
       -- of parts and structures all stay but the removed one and what is below it
-      pub solid-stays : (i : ℕ) (e : Datum) → At i e (tree l) → isFree e.kind ≡ false → (i ≡ m.place → ⊥)
+      pub solid-stays : (i : ℕ) (e : Datum) → At i e (tree l) → is_free e.kind ≡ false → (i ≡ m.place → ⊥)
           → (Inside m.place i (tree l) → ⊥) → At i e (tree a.layout)
       solid-stays i e y solid other outside =
           let t = removal-takeable in
           rw removed-done.next.tree
-          (solid-untouched-by-removal limit l.settings (tree l) m.place (placeFor l m.place) (l.serial + 1) i e
+          (solid-untouched-by-removal limit l.settings (tree l) m.place (place_for l m.place) (l.serial + 1) i e
           t.sound.sound t.removable y solid other outside)
 
       -- two nodes at least give no part number
-      pub numbers-fewest : length (numbersOut l m.place) + 2 ≤ limit
+      pub numbers-fewest : length (numbers_out l m.place) + 2 ≤ limit
       numbers-fewest = numbers-fewer l m.place removal-takeable
 
 -- ---- what the counter's session cites
 
 pub record TakenOut (l : Layout) (m : Mark) (room : ℕ) (a : Removed) : Type 0 where
-  pub few : length (numbersOut l m.place) + 2 ≤ limit
-  pub count : a.count ≡ length (numbersOut l m.place)
-  pub left : (out : List ℕ) → length out ≡ room → numbersLeft l m out ≡ sets out 0 (numbersOut l m.place)
+  pub few : length (numbers_out l m.place) + 2 ≤ limit
+  pub count : a.count ≡ length (numbers_out l m.place)
+  pub left : (out : List ℕ) → length out ≡ room → numbers_left l m out ≡ sets out 0 (numbers_out l m.place)
 
 pub remove-says : (l : Layout) (m : Mark) (room : ℕ) (a : Removed) → Sized l → RemoveSays l m room a → a.outcome ≡ Done → TakenOut l m room a
 remove-says l m room a sized says done =

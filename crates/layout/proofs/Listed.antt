@@ -13,8 +13,8 @@ use Rattle.piece.specs.declared.node.Datum.{Datum}
 use Rattle.piece.specs.declared.node.Kind.{Kind}
 use Rattle.piece.specs.declared.node.Kind.TheVariants.{Free, Part, Structure}
 use Rattle.piece.specs.Sides.{area}
-use Rattle.piece.specs.Kinds.{isFree}
-use Rattle.piece.specs.Numbers.{kindNo}
+use Rattle.piece.specs.Kinds.{is_free}
+use Rattle.piece.specs.Numbers.{kind_no}
 use Rattle.tree.specs.Tree.{Tree, At}
 use Rattle.tree.specs.Steps.{Marked}
 use Rattle.tree.proofs.Rows.{in?, at_in}
@@ -22,32 +22,32 @@ use Rattle.table.specs.declared.Node.{Node}
 use Rattle.table.specs.Table.{at, Held, Holds}
 use Rattle.table.proofs.Rep.{bound}
 use Rattle.table.proofs.Links.{datum-is}
-use Rattle.lists.specs.Search.{zeroTail}
-use Rattle.lists.specs.Flags.{okB, flags_of}
+use Rattle.lists.specs.Search.{zero_tail}
+use Rattle.lists.specs.Flags.{ok_b, flags_of}
 use Rattle.lists.proofs.Named.{ok-count, ok-below, ok-differ, ok-all, flag-named, flag_one}
 use Rattle.lists.proofs.Padded.{zero-tail-drop, drop-zero-tail}
-use Rattle.sound.specs.Columns.{areasOf, serialsOf, kindsOf}
-use Rattle.sound.specs.Listed.{wantedIn, coversB, sortedB}
+use Rattle.sound.specs.Columns.{areas_of, serials_of, kinds_of}
+use Rattle.sound.specs.Listed.{wanted_in, covers_b, sorted_b}
 use Rattle.sound.proofs.Says.{Says, clash, worded, eq-says, some-says, true-says, false-says, and-says, then-says, itself-says, same-says}
 use Rattle.sound.proofs.Worth.{serial-at, kind_at, area-at}
 use Rattle.sound.proofs.Serials.{shown-at}
 use Rattle.sound.proofs.Lists.{covers-says, covers-shown, sorted_all, sorted-shown}
 use Rattle.sound.proofs.Lists.{Before as Ordered}
-use Rattle.layout.specs.Check.{limit, coveredB}
+use Rattle.layout.specs.Check.{limit, covered_b}
 use Rattle.layout.specs.SoundLayout.{pieces_of, Before, Holding, FreeList, Counted}
 
 -- ---- tests
 
 -- the kind that a list holds, as its test reads it
-abbrev pub ofKind : Bool → Kind → Bool
-ofKind free κ = cond free (eqb (kindNo κ) 0) (not (eqb (kindNo κ) 0))
+abbrev pub of_kind : Bool → Kind → Bool
+of_kind free κ = cond free (eqb (kind_no κ) 0) (not (eqb (kind_no κ) 0))
 
-pub free-says : (κ : Kind) → Says (ofKind true κ) (κ ≡ Free)
+pub free-says : (κ : Kind) → Says (of_kind true κ) (κ ≡ Free)
 free-says Free = true-says refl
 free-says Part = worded false-says absurd (λ e. clash (cc))
 free-says Structure = worded false-says absurd (λ e. clash (cc))
 
-pub removable-says : (κ : Kind) → Says (ofKind false κ) (isFree κ ≡ false)
+pub removable-says : (κ : Kind) → Says (of_kind false κ) (is_free κ ≡ false)
 removable-says Free = worded false-says absurd (λ e. clash (sym e))
 removable-says Part = true-says refl
 removable-says Structure = true-says refl
@@ -75,17 +75,17 @@ module _ (t : List Node) (w : Tree) (h : Holds limit t w) where
       ⊎_elim (shown-at limit t limit limit i w h.rep)
       (λ n. let z = ap (λ (x : Node). x.datum.serial) (h.rest i b n) in let no-serial : ⊥ = omega arith in absurd no-serial) (in? i w)
 
-  pub serial-of : (i : ℕ) (d : Datum) → At i d w → get_or (serialsOf t) i 0 ≡ d.serial
+  pub serial-of : (i : ℕ) (d : Datum) → At i d w → get_or (serials_of t) i 0 ≡ d.serial
   serial-of i d y = serial-at t i ∙ ap (λ (x : Datum). x.serial) (piece_is i d y)
 
-  pub area_of : (i : ℕ) (d : Datum) → At i d w → get_or (areasOf t) i 0 ≡ area d.size
+  pub area_of : (i : ℕ) (d : Datum) → At i d w → get_or (areas_of t) i 0 ≡ area d.size
   area_of i d y = area-at t i ∙ ap (λ (x : Datum). area x.size) (piece_is i d y)
 
 -- ---- one list, of the pieces of which P holds
 
 module _ (t : List Node) (w : Tree) (h : Holds limit t w) (marked : Marked w) (free : Bool) (P : Datum → Type 0)
-    (means : (d : Datum) → Says (ofKind free d.kind) (P d)) where
-  wanted-says : (i : ℕ) → Says (wantedIn free (serialsOf t) (kindsOf t) i) (Held t i × P (at t i).datum)
+    (means : (d : Datum) → Says (of_kind free d.kind) (P d)) where
+  wanted-says : (i : ℕ) → Says (wanted_in free (serials_of t) (kinds_of t) i) (Held t i × P (at t i).datum)
   wanted-says i = rw (serial-at t i, kind_at t i) (and-says (some-says (at t i).datum.serial) (means (at t i).datum))
 
   module _ (l : List ℕ) (n : ℕ) (len : length l ≡ limit) where
@@ -93,19 +93,19 @@ module _ (t : List Node) (w : Tree) (h : Holds limit t w) (marked : Marked w) (f
     abbrev Names : ℕ → Type 0
     Names p = (k : ℕ) × (k < n) × (get_or l k 0 ≡ p)
 
-    flag-says : okB limit l n ≡ true → (p : ℕ) → p < limit → Says (eqb (get_or (flags_of limit l n) p 0) 1) (Names p)
+    flag-says : ok_b limit l n ≡ true → (p : ℕ) → p < limit → Says (eqb (get_or (flags_of limit l n) p 0) 1) (Names p)
     flag-says ok p b =
         worded (eq-says (get_or (flags_of limit l n) p 0) 1) (flag_one limit l n ok p b) (λ y. flag-named limit l n ok p y.0 b y.1 y.2)
 
-    covered-listed : okB limit l n ≡ true → coversB limit free (serialsOf t) (kindsOf t) (flags_of limit l n) ≡ true
+    covered-listed : ok_b limit l n ≡ true → covers_b limit free (serials_of t) (kinds_of t) (flags_of limit l n) ≡ true
         → Holding P (pieces_of w) (take n l)
     covered-listed ok e = record { each = each; all = all; once = once }
       where
         fits : n ≤ length l
         fits = let c = ok-count limit l n ok in omega arith
 
-        same : (p : ℕ) → p < limit → wantedIn free (serialsOf t) (kindsOf t) p ≡ eqb (get_or (flags_of limit l n) p 0) 1
-        same = covers-says limit free (serialsOf t) (kindsOf t) (flags_of limit l n) e
+        same : (p : ℕ) → p < limit → wanted_in free (serials_of t) (kinds_of t) p ≡ eqb (get_or (flags_of limit l n) p 0) 1
+        same = covers-says limit free (serials_of t) (kinds_of t) (flags_of limit l n) e
 
         each : (k : ℕ) → k < length (take n l) → (d : Datum) × At (get_or (take n l) k 0) d w × P d
         each k b =
@@ -118,7 +118,7 @@ module _ (t : List Node) (w : Tree) (h : Holds limit t w) (marked : Marked w) (f
         all p d y q =
             let low = piece-low t w h p d y in
             let is = piece_is t w h p d y in
-            let there : wantedIn free (serialsOf t) (kindsOf t) p ≡ true = (wanted-says p).passes (rw is (marked p d y, q)) in
+            let there : wanted_in free (serials_of t) (kinds_of t) p ≡ true = (wanted-says p).passes (rw is (marked p d y, q)) in
             let g = (flag-says ok p low).says (sym (same p low) ∙ there) in
             (g.0, rw (entries l n fits) g.1, get_or-take n l g.0 0 g.1 ∙ g.2)
 
@@ -139,7 +139,7 @@ module _ (t : List Node) (w : Tree) (h : Holds limit t w) (marked : Marked w) (f
       listed_at : (k : ℕ) → k < n → (d : Datum) × At (get_or l k 0) d w × P d
       listed_at k b = let c = within k b in rw c.1 at (holding.each k c.0)
 
-      listed_ok : okB limit l n ≡ true
+      listed_ok : ok_b limit l n ≡ true
       listed_ok =
           ok-all limit l n room (λ k b. let g = listed_at k b in piece-low t w h (get_or l k 0) g.0 g.1)
           (λ j k a b z.
@@ -147,9 +147,9 @@ module _ (t : List Node) (w : Tree) (h : Holds limit t w) (marked : Marked w) (f
           let d = within k b in
           holding.once j k c.0 d.0 (c.1 ∙ z ∙ sym d.1))
 
-      listed-covered : coversB limit free (serialsOf t) (kindsOf t) (flags_of limit l n) ≡ true
+      listed-covered : covers_b limit free (serials_of t) (kinds_of t) (flags_of limit l n) ≡ true
       listed-covered =
-          covers-shown limit free (serialsOf t) (kindsOf t) (flags_of limit l n)
+          covers-shown limit free (serials_of t) (kinds_of t) (flags_of limit l n)
           (λ p b. same-says (wanted-says p) (worded (flag-says listed_ok p b) (wants p) (names p b)))
         where
           wants : (p : ℕ) → Names p → Held t p × P (at t p).datum
@@ -163,19 +163,19 @@ module _ (t : List Node) (w : Tree) (h : Holds limit t w) (marked : Marked w) (f
               let c = entry l n fits g.0 g.1 in
               (g.0, c.0, sym c.1 ∙ g.2)
 
-    tail-says : okB limit l n ≡ true → Says (zeroTail limit l n) (Counted l n)
+    tail-says : ok_b limit l n ≡ true → Says (zero_tail limit l n) (Counted l n)
     tail-says ok =
         record {
           says = λ e. record { room = ok-count limit l n ok; tail = zero-tail-drop limit l n len e };
           passes = λ c. drop-zero-tail limit l n len c.tail;
         }
 
-    pub covered-says : Says (coveredB free l n (serialsOf t) (kindsOf t)) (Holding P (pieces_of w) (take n l) × Counted l n)
-    unfolding coveredB
+    pub covered-says : Says (covered_b free l n (serials_of t) (kinds_of t)) (Holding P (pieces_of w) (take n l) × Counted l n)
+    unfolding covered_b
     covered-says =
-        let ok = okB limit l n in
-        let covers = coversB limit free (serialsOf t) (kindsOf t) (flags_of limit l n) in
-        let tests : Says (ok && (covers && zeroTail limit l n)) ((ok ≡ true) × ((covers ≡ true) × Counted l n)) =
+        let ok = ok_b limit l n in
+        let covers = covers_b limit free (serials_of t) (kinds_of t) (flags_of limit l n) in
+        let tests : Says (ok && (covers && zero_tail limit l n)) ((ok ≡ true) × ((covers ≡ true) × Counted l n)) =
         then-says (itself-says ok) (λ e. and-says (itself-says covers) (tail-says e))
         in
         worded tests (λ g. (covered-listed g.0 g.1.0, g.1.1))
@@ -184,29 +184,29 @@ module _ (t : List Node) (w : Tree) (h : Holds limit t w) (marked : Marked w) (f
 -- ---- the order
 
 module _ (t : List Node) (w : Tree) (h : Holds limit t w) (l : List ℕ) (n : ℕ) (fits : n ≤ length l) where
-  ordered-is : (p q : ℕ) (d e : Datum) → At p d w → At q e w → Ordered (areasOf t) (serialsOf t) p q → Before d e
+  ordered-is : (p q : ℕ) (d e : Datum) → At p d w → At q e w → Ordered (areas_of t) (serials_of t) p q → Before d e
   ordered-is p q d e y z o =
       rw (area_of t w h p d y, area_of t w h q e z, serial-of t w h p d y, serial-of t w h q e z) at o
 
-  is-ordered : (p q : ℕ) (d e : Datum) → At p d w → At q e w → Before d e → Ordered (areasOf t) (serialsOf t) p q
+  is-ordered : (p q : ℕ) (d e : Datum) → At p d w → At q e w → Before d e → Ordered (areas_of t) (serials_of t) p q
   is-ordered p q d e y z o =
       rw (area_of t w h p d y, area_of t w h q e z, serial-of t w h p d y, serial-of t w h q e z) o
 
   pub free-list-says : Holding (λ (d : Datum). d.kind ≡ Free) (pieces_of w) (take n l)
-      → Says (sortedB (areasOf t) (serialsOf t) l n) (FreeList w (take n l))
+      → Says (sorted_b (areas_of t) (serials_of t) l n) (FreeList w (take n l))
   free-list-says holding = record { says = λ e. record { holding = holding; order = order e }; passes = sorted }
     where
-      order : sortedB (areasOf t) (serialsOf t) l n ≡ true → (j k : ℕ) → j < k → k < length (take n l) → (d e : Datum)
+      order : sorted_b (areas_of t) (serials_of t) l n ≡ true → (j k : ℕ) → j < k → k < length (take n l) → (d e : Datum)
           → At (get_or (take n l) j 0) d w → At (get_or (take n l) k 0) e w → Before d e
       order s j k a b d e y z =
           let u = entry l n fits j (omega arith) in
           let v = entry l n fits k b in
-          ordered-is (get_or l j 0) (get_or l k 0) d e (rw u.1 at y) (rw v.1 at z) (sorted_all (areasOf t) (serialsOf t) l n s k j a v.0)
+          ordered-is (get_or l j 0) (get_or l k 0) d e (rw u.1 at y) (rw v.1 at z) (sorted_all (areas_of t) (serials_of t) l n s k j a v.0)
 
-      sorted : FreeList w (take n l) → sortedB (areasOf t) (serialsOf t) l n ≡ true
-      sorted f = sorted-shown (areasOf t) (serialsOf t) l n next
+      sorted : FreeList w (take n l) → sorted_b (areas_of t) (serials_of t) l n ≡ true
+      sorted f = sorted-shown (areas_of t) (serials_of t) l n next
         where
-          next : (k : ℕ) → k + 1 < n → Ordered (areasOf t) (serialsOf t) (get_or l k 0) (get_or l (k + 1) 0)
+          next : (k : ℕ) → k + 1 < n → Ordered (areas_of t) (serials_of t) (get_or l k 0) (get_or l (k + 1) 0)
           next k b =
               let size = entries l n fits in
               let a : k < length (take n l) = omega arith in

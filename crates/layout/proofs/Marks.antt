@@ -9,7 +9,7 @@ use lib.Dec.{eqb, leb}
 use borrow.Author.Tests.{eq-eqb, ne_eqb, lt-leb, eqb-true, eqb-false, leb-false, not-false}
 use Rattle.piece.specs.declared.node.Datum.{Datum}
 use Rattle.piece.specs.declared.parttype.PartType.{PartType}
-use Rattle.piece.specs.Kinds.{isFree}
+use Rattle.piece.specs.Kinds.{is_free}
 use Rattle.tree.specs.Tree.{At}
 use Rattle.table.specs.Table.{at}
 use Rattle.marks.specs.declared.Mark.{Mark}
@@ -18,8 +18,8 @@ use Rattle.sound.proofs.Says.{clash}
 use Rattle.layout.specs.declared.layout.Layout.{Layout}
 use Rattle.layout.specs.declared.replies.Sought.{Sought}
 use Rattle.layout.specs.declared.replies.Sought.TheVariants as sought
-use Rattle.layout.specs.Check.{limit, tree, soundB}
-use Rattle.layout.specs.Asked.{partB, goneB, soughtOf, onlyFree, freePieceOf}
+use Rattle.layout.specs.Check.{limit, tree, sound_b}
+use Rattle.layout.specs.Asked.{part_b, gone_b, sought_of, only_free, free_piece_of}
 use Rattle.layout.specs.SoundLayout.{SoundLayout}
 use Rattle.layout.proofs.Listed.{piece-low, piece_is, piece-held}
 use Rattle.layout.proofs.Ways.{onward, ended, or_else}
@@ -46,7 +46,7 @@ found false g e d h = absurd (clash (cc))
 
 module _ (l : Layout) (s : SoundLayout l) where
   -- "gone: place not held, or another serial there": what is not gone is there
-  there-is : (m : Mark) → goneB l m ≡ false
+  there-is : (m : Mark) → gone_b l m ≡ false
       → At m.place (at l.nodes m.place).datum (tree l) × ((at l.nodes m.place).datum.serial ≡ m.serial)
   there-is m e =
       let serial = (at l.nodes m.place).datum.serial in
@@ -58,10 +58,10 @@ module _ (l : Layout) (s : SoundLayout l) where
       )
 
   -- `sought` finds exactly the piece that the mark names
-  pub sought-names : (m : Mark) (d : Datum) → soughtOf l m ≡ sought.Piece d → Names l m d
-  unfolding soughtOf
+  pub sought-names : (m : Mark) (d : Datum) → sought_of l m ≡ sought.Piece d → Names l m d
+  unfolding sought_of
   sought-names m d e =
-      let f = found (eqb m.layout l.number) (goneB l m) (at l.nodes m.place).datum d e in
+      let f = found (eqb m.layout l.number) (gone_b l m) (at l.nodes m.place).datum d e in
       let t = there-is m f.1 in
       record {
         layout = eqb-true m.layout l.number f.0;
@@ -69,15 +69,15 @@ module _ (l : Layout) (s : SoundLayout l) where
         serial = sym (ap (λ (x : Datum). x.serial) f.2) ∙ t.1;
       }
 
-  pub names-sought : (m : Mark) (d : Datum) → Names l m d → soughtOf l m ≡ sought.Piece d
-  unfolding soughtOf
+  pub names-sought : (m : Mark) (d : Datum) → Names l m d → sought_of l m ≡ sought.Piece d
+  unfolding sought_of
   names-sought m d n =
       let is = piece_is l.nodes (tree l) s.holds m.place d n.there in
       let low = piece-low l.nodes (tree l) s.holds m.place d n.there in
       let serial = ap (λ (x : Datum). x.serial) is in
       let least = s.serials.least m.place d n.there in
       let some : (at l.nodes m.place).datum.serial ≡ 0 → ⊥ = λ z. omega arith in
-      let gone : goneB l m ≡ false =
+      let gone : gone_b l m ≡ false =
       or_else (lt-leb limit m.place low) (or_else (ne_eqb _ 0 some) (ap not (eq-eqb _ m.serial (serial ∙ n.serial))))
       in
       sym (onward _ (eq-eqb m.layout l.number n.layout) (ended _ gone (ap sought.Piece (sym is))))
@@ -86,24 +86,24 @@ module _ (l : Layout) (s : SoundLayout l) where
 
 -- each of its refusals is passed, and d is the piece that the mark names
 pub record Headed (l : Layout) (m : Mark) (p : PartType) (d : Datum) : Type 0 where
-  pub sound : soundB l ≡ true
-  pub part : partB p ≡ true
-  pub named : soughtOf l m ≡ sought.Piece d
-  pub free : isFree d.kind ≡ true
+  pub sound : sound_b l ≡ true
+  pub part : part_b p ≡ true
+  pub named : sought_of l m ≡ sought.Piece d
+  pub free : is_free d.kind ≡ true
 
-free-only : (x d : Datum) (b : Bool) → isFree x.kind ≡ b → cond b (sought.Piece x) (sought.Refused NotFree) ≡ sought.Piece d
-    → (x ≡ d) × (isFree d.kind ≡ true)
+free-only : (x d : Datum) (b : Bool) → is_free x.kind ≡ b → cond b (sought.Piece x) (sought.Refused NotFree) ≡ sought.Piece d
+    → (x ≡ d) × (is_free d.kind ≡ true)
 free-only x d true e h = let is : x ≡ d = cc in (is, rw is at e)
 free-only x d false e h = absurd (clash (cc))
 
-pub headed : (l : Layout) (m : Mark) (p : PartType) (d : Datum) → freePieceOf l m p ≡ sought.Piece d → Headed l m p d
-unfolding freePieceOf
-headed l m p d = go (soundB l) refl (partB p) refl (soughtOf l m) refl
+pub headed : (l : Layout) (m : Mark) (p : PartType) (d : Datum) → free_piece_of l m p ≡ sought.Piece d → Headed l m p d
+unfolding free_piece_of
+headed l m p d = go (sound_b l) refl (part_b p) refl (sought_of l m) refl
   where
-    go : (a : Bool) → soundB l ≡ a → (b : Bool) → partB p ≡ b → (q : Sought) → soughtOf l m ≡ q
-        → cond a (cond b (onlyFree q) (sought.Refused PartOutside)) (sought.Refused NotSound) ≡ sought.Piece d → Headed l m p d
+    go : (a : Bool) → sound_b l ≡ a → (b : Bool) → part_b p ≡ b → (q : Sought) → sought_of l m ≡ q
+        → cond a (cond b (only_free q) (sought.Refused PartOutside)) (sought.Refused NotSound) ≡ sought.Piece d → Headed l m p d
     go true e true f (sought.Piece x) g h =
-        let o = free-only x d (isFree x.kind) refl h in
+        let o = free-only x d (is_free x.kind) refl h in
         record { sound = e; part = f; named = g ∙ ap sought.Piece o.0; free = o.1 }
     go true e true f (sought.Refused r) g h = absurd (clash (cc))
     go true e false f q g h = absurd (clash (cc))

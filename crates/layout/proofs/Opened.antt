@@ -10,8 +10,8 @@ use Rattle.piece.specs.declared.settings.Opening.{Opening}
 use Rattle.piece.specs.declared.node.Datum.{Datum}
 use Rattle.piece.specs.declared.node.Kind.TheVariants.{Free, Structure}
 use Rattle.tree.specs.Tree.{At}
-use Rattle.piece.specs.Kinds.{isFree}
-use Rattle.tree.specs.Open.{topDatum, firstFree, opened}
+use Rattle.piece.specs.Kinds.{is_free}
+use Rattle.tree.specs.Open.{top_datum, first_free, opened}
 use Rattle.tree.proofs.Laws.OpenSound.{open-sound}
 use Rattle.table.specs.Table.{Holds}
 use Rattle.table.proofs.Open.{opened-holds}
@@ -19,16 +19,16 @@ use Rattle.table.proofs.Unique.{tree_is}
 use Rattle.lists.specs.Lists.{padded}
 use Rattle.lists.proofs.Padded.{length-padded, take-padded, drop-padded}
 use Rattle.sound.proofs.FrameSays.{domain-says}
-use Rattle.layout.specs.Check.{limit, tree, domainB}
+use Rattle.layout.specs.Check.{limit, tree, domain_b}
 use Rattle.layout.specs.SoundLayout.{pieces_of, Holding, FreeList, RemovableList, Serials, Counted, SoundLayout, Sized}
-use Rattle.layout.specs.Open.{freshNodes, freshLayout}
+use Rattle.layout.specs.Open.{fresh_nodes, fresh_layout}
 
 module _ (o : Opening) where
   -- ---- the opened tree
 
   -- it has two pieces
   pieces : (i : ℕ) (d : Datum) → At i d (opened o)
-      → ((i ≡ 0) × (d ≡ topDatum o)) ⊎ ((i ≡ 1) × (d ≡ firstFree o))
+      → ((i ≡ 0) × (d ≡ top_datum o)) ⊎ ((i ≡ 1) × (d ≡ first_free o))
   pieces i d (inl h) = inl h
   pieces i d (inr (inl (inl h))) = inr h
   pieces i d (inr (inl (inr (inl h)))) = absurd h
@@ -59,7 +59,7 @@ module _ (o : Opening) where
   opened-free : FreeList (opened o) (1 ∷ [])
   opened-free =
       record {
-        holding = one (λ (d : Datum). d.kind ≡ Free) 1 (firstFree o) (inr (inl (inl (refl, refl)))) refl only;
+        holding = one (λ (d : Datum). d.kind ≡ Free) 1 (first_free o) (inr (inl (inl (refl, refl)))) refl only;
         order = λ j k a b. let none : ⊥ = omega arith in absurd none;
       }
     where
@@ -67,27 +67,27 @@ module _ (o : Opening) where
       only q e g f = ⊎_elim (λ h. let z : Structure ≡ Free = sym (ap (λ (d : Datum). d.kind) h.1) ∙ f in cc) (λ h. h.0) (pieces q e g)
 
   opened-removable : RemovableList (opened o) (0 ∷ [])
-  opened-removable = one (λ (d : Datum). isFree d.kind ≡ false) 0 (topDatum o) (inl (refl, refl)) refl only
+  opened-removable = one (λ (d : Datum). is_free d.kind ≡ false) 0 (top_datum o) (inl (refl, refl)) refl only
     where
-      only : (q : ℕ) (e : Datum) → At q e (opened o) → isFree e.kind ≡ false → q ≡ 0
+      only : (q : ℕ) (e : Datum) → At q e (opened o) → is_free e.kind ≡ false → q ≡ 0
       only q e g f =
-          ⊎_elim (λ h. h.0) (λ h. let z : true ≡ false = sym (ap (λ (d : Datum). isFree d.kind) h.1) ∙ f in cc) (pieces q e g)
+          ⊎_elim (λ h. h.0) (λ h. let z : true ≡ false = sym (ap (λ (d : Datum). is_free d.kind) h.1) ∙ f in cc) (pieces q e g)
 
   -- ---- the layout
 
-  fresh_holds : Holds limit (freshNodes o) (opened o)
-  unfolding freshNodes
+  fresh_holds : Holds limit (fresh_nodes o) (opened o)
+  unfolding fresh_nodes
   fresh_holds = opened-holds limit o (omega arith)
 
   counted : (p : ℕ) → Counted (padded limit (p ∷ [])) 1
   counted p = record { room = omega arith; tail = drop-padded limit (p ∷ []) }
 
-  pub fresh-tree : tree (freshLayout o) ≡ opened o
-  unfolding freshLayout
-  fresh-tree = tree_is limit (freshNodes o) (opened o) (refl, refl) fresh_holds
+  pub fresh-tree : tree (fresh_layout o) ≡ opened o
+  unfolding fresh_layout
+  fresh-tree = tree_is limit (fresh_nodes o) (opened o) (refl, refl) fresh_holds
 
-  pub fresh-sized : Sized (freshLayout o)
-  unfolding freshLayout
+  pub fresh-sized : Sized (fresh_layout o)
+  unfolding fresh_layout
   fresh-sized =
       record {
         nodes = fresh_holds.len;
@@ -95,8 +95,8 @@ module _ (o : Opening) where
         removable = length-padded limit (0 ∷ []) (omega arith);
       }
 
-  pub fresh-sound : domainB o.settings ≡ true → SoundLayout (freshLayout o)
-  unfolding freshLayout
+  pub fresh-sound : domain_b o.settings ≡ true → SoundLayout (fresh_layout o)
+  unfolding fresh_layout
   fresh-sound h =
       record {
         sound = rw fresh-tree (open-sound limit o (omega arith) ((domain-says o.settings).says h));
@@ -105,7 +105,7 @@ module _ (o : Opening) where
         used = rw fresh-tree refl;
         free = rw (fresh-tree, take-padded limit (1 ∷ [])) opened-free;
         removable = rw (fresh-tree, take-padded limit (0 ∷ [])) opened-removable;
-        freeTail = counted 1;
-        removableTail = counted 0;
+        free_tail = counted 1;
+        removable_tail = counted 0;
         serials = rw fresh-tree opened-serials;
       }

@@ -1,4 +1,4 @@
--- `soundB`, clause by clause, is what the passes of `sound` and the tests behind them say together; and the passes say what those tests rest on.
+-- `sound_b`, clause by clause, is what the passes of `sound` and the tests behind them say together; and the passes say what those tests rest on.
 use mathlib.Core.Path.{◌≡◌, sym, ap, ◌∙◌}
 use mathlib.Core.List.{List}
 use mathlib.Core.Bool.{Bool, true, false, ◌&&◌}
@@ -10,21 +10,21 @@ use lib.ListN.{get_or}
 use borrow.Author.Tests.{leb-true}
 use Rattle.lists.specs.declared.flags.Flags.{Flags}
 use Rattle.lists.specs.Lists.{zeros}
-use Rattle.lists.specs.Search.{differ, zeroTail}
+use Rattle.lists.specs.Search.{differ, zero_tail}
 use Rattle.lists.specs.Flags.{flagged}
 use Rattle.lists.specs.Inner.{Low}
 use Rattle.lists.proofs.Scan.{and_left, and_right, every-at, test}
 use Rattle.table.specs.Table.{at}
-use Rattle.sound.specs.Columns.{areasOf, serialsOf, firstsOf, nextsOf, kindsOf}
-use Rattle.sound.specs.Places.{placesB, topB}
-use Rattle.sound.specs.Rows.{rowsB}
-use Rattle.sound.specs.Hung.{hangRows, markedB, hungB}
-use Rattle.sound.specs.Listed.{areaListed, coversB, heldIn, noneAboveB, sortedB}
-use Rattle.sound.specs.Census.{censusB}
+use Rattle.sound.specs.Columns.{areas_of, serials_of, firsts_of, nexts_of, kinds_of}
+use Rattle.sound.specs.Places.{places_b, top_b}
+use Rattle.sound.specs.Rows.{rows_b}
+use Rattle.sound.specs.Hung.{hang_rows, marked_b, hung_b}
+use Rattle.sound.specs.Listed.{area_listed, covers_b, held_in, none_above_b, sorted_b}
+use Rattle.sound.specs.Census.{census_b}
 use Rattle.sound.proofs.Says.{Says, clash, and-says}
 use Rattle.sound.proofs.ByRows.{hung-by-rows}
 use Rattle.layout.specs.declared.layout.Layout.{Layout}
-use Rattle.layout.specs.Check.{limit, maxSerial, domainB, tableB, coveredB, serialsB, sumsB, freeB, removableB, columnsB, soundB}
+use Rattle.layout.specs.Check.{limit, max_serial, domain_b, table_b, covered_b, serials_b, sums_b, free_b, removable_b, columns_b, sound_b}
 
 -- two tests that say the same are equal
 same_tests : {a b : Bool} {P Q : Type 0} → Says a P → Says b Q → (P → Q) → (Q → P) → a ≡ b
@@ -102,36 +102,36 @@ module _ (dom places top rows hung held used last above apart ok cover tail sort
       ))
 
 -- the tests behind the passes
-abbrev pub restB : Layout → List ℕ → List ℕ → Bool
-restB l serial area =
+abbrev pub rest_b : Layout → List ℕ → List ℕ → Bool
+rest_b l serial area =
     differ limit serial
-    && (sortedB area serial l.free l.frees && (zeroTail limit l.free l.frees && zeroTail limit l.removable l.removables))
+    && (sorted_b area serial l.free l.frees && (zero_tail limit l.free l.frees && zero_tail limit l.removable l.removables))
 
 -- what the passes find of a layout, and what that makes of the tests behind them
 pub sound-is : (l : Layout) {named kept : Flags} {hung serial area : List ℕ} {linked counted framed : Bool}
     → named ≡ flagged l.free l.frees
     → kept ≡ flagged l.removable l.removables
-    → linked ≡ rowsB limit l.settings l.nodes
-    → (linked ≡ true → hung ≡ hangRows limit l.nodes limit (zeros limit))
-    → counted ≡ censusB limit l.nodes l.serial l.used l.held named.flag kept.flag hung
-    → serial ≡ serialsOf l.nodes
-    → area ≡ areasOf l.nodes
-    → framed ≡ (domainB l.settings && (topB limit l.settings (at l.nodes 0) && leb l.serial maxSerial))
-    → soundB l ≡ (((((named.ok && kept.ok) && linked) && counted) && framed) && restB l serial area)
-unfolding soundB tableB coveredB serialsB sumsB freeB removableB columnsB censusB
+    → linked ≡ rows_b limit l.settings l.nodes
+    → (linked ≡ true → hung ≡ hang_rows limit l.nodes limit (zeros limit))
+    → counted ≡ census_b limit l.nodes l.serial l.used l.held named.flag kept.flag hung
+    → serial ≡ serials_of l.nodes
+    → area ≡ areas_of l.nodes
+    → framed ≡ (domain_b l.settings && (top_b limit l.settings (at l.nodes 0) && leb l.serial max_serial))
+    → sound_b l ≡ (((((named.ok && kept.ok) && linked) && counted) && framed) && rest_b l serial area)
+unfolding sound_b table_b covered_b serials_b sums_b free_b removable_b columns_b census_b
 sound-is l {hung = hung} named kept rows hanging places serials areas frame =
     let t = l.nodes in
-    let s = serialsOf t in
-    let k = kindsOf t in
+    let s = serials_of t in
+    let k = kinds_of t in
     let f = flagged l.free l.frees in
     let g = flagged l.removable l.removables in
     rw (frame, places, rows, named, kept, areas, serials)
-    (regroup (domainB l.settings) (placesB limit t) (topB limit l.settings (at t 0)) _
-    (hungB limit s (firstsOf t) (nextsOf t)) (eqb (heldIn s limit) l.held) (eqb (areaListed 1 k (areasOf t) limit) l.used)
-    (leb l.serial maxSerial) (noneAboveB limit s l.serial) (differ limit s) f.ok (coversB limit true s k f.flag)
-    (zeroTail limit l.free l.frees) (sortedB (areasOf t) s l.free l.frees) g.ok (coversB limit false s k g.flag)
-    (zeroTail limit l.removable l.removables) (markedB limit s hung)
-    (λ x y z. ap (markedB limit s) (hanging (rows ∙ z)) ∙ hung-by-rows limit l.settings t x y))
+    (regroup (domain_b l.settings) (places_b limit t) (top_b limit l.settings (at t 0)) _
+    (hung_b limit s (firsts_of t) (nexts_of t)) (eqb (held_in s limit) l.held) (eqb (area_listed 1 k (areas_of t) limit) l.used)
+    (leb l.serial max_serial) (none_above_b limit s l.serial) (differ limit s) f.ok (covers_b limit true s k f.flag)
+    (zero_tail limit l.free l.frees) (sorted_b (areas_of t) s l.free l.frees) g.ok (covers_b limit false s k g.flag)
+    (zero_tail limit l.removable l.removables) (marked_b limit s hung)
+    (λ x y z. ap (marked_b limit s) (hanging (rows ∙ z)) ∙ hung-by-rows limit l.settings t x y))
 
 -- the passes' answers that the tests behind them rest on: the first, and the last two
 pub some_of : (a b c d e : Bool) → ((((a && b) && c) && d) && e) ≡ true → (a ≡ true) × (d ≡ true) × (e ≡ true)
@@ -141,25 +141,25 @@ some_of a b c d e x =
 
 -- where the census and the frame are as they should be, the serials are low enough to be told apart
 pub serials-low : (l : Layout) (free removable hung : List ℕ) {serial : List ℕ} {counted framed : Bool}
-    → counted ≡ censusB limit l.nodes l.serial l.used l.held free removable hung
-    → serial ≡ serialsOf l.nodes
-    → framed ≡ (domainB l.settings && (topB limit l.settings (at l.nodes 0) && leb l.serial maxSerial))
+    → counted ≡ census_b limit l.nodes l.serial l.used l.held free removable hung
+    → serial ≡ serials_of l.nodes
+    → framed ≡ (domain_b l.settings && (top_b limit l.settings (at l.nodes 0) && leb l.serial max_serial))
     → counted ≡ true
     → framed ≡ true
     → Low serial
-unfolding censusB noneAboveB
+unfolding census_b none_above_b
 serials-low l free removable hung counted serials framed c f i h =
     let t = l.nodes in
-    let s = serialsOf t in
-    let k = kindsOf t in
-    let most = leb-true l.serial maxSerial
-    (and_right (topB limit l.settings (at t 0)) (leb l.serial maxSerial)
-    (and_right (domainB l.settings) (topB limit l.settings (at t 0) && leb l.serial maxSerial) (sym framed ∙ f))) in
-    let flags = markedB limit s hung && (coversB limit true s k free && coversB limit false s k removable) in
-    let sums = eqb (heldIn s limit) l.held && eqb (areaListed 1 k (areasOf t) limit) l.used in
+    let s = serials_of t in
+    let k = kinds_of t in
+    let most = leb-true l.serial max_serial
+    (and_right (top_b limit l.settings (at t 0)) (leb l.serial max_serial)
+    (and_right (domain_b l.settings) (top_b limit l.settings (at t 0) && leb l.serial max_serial) (sym framed ∙ f))) in
+    let flags = marked_b limit s hung && (covers_b limit true s k free && covers_b limit false s k removable) in
+    let sums = eqb (held_in s limit) l.held && eqb (area_listed 1 k (areas_of t) limit) l.used in
     let above =
-    and_left (noneAboveB limit s l.serial) flags
-    (and_right (placesB limit t) (noneAboveB limit s l.serial && flags)
-    (and_left (placesB limit t && (noneAboveB limit s l.serial && flags)) sums (sym counted ∙ c))) in
+    and_left (none_above_b limit s l.serial) flags
+    (and_right (places_b limit t) (none_above_b limit s l.serial && flags)
+    (and_left (places_b limit t && (none_above_b limit s l.serial && flags)) sums (sym counted ∙ c))) in
     let one = leb-true (get_or s i 0) l.serial (every-at (λ (j : ℕ). leb (get_or s j 0) l.serial) limit i above h) in
     rw serials (omega arith)

@@ -6,9 +6,9 @@ use mathlib.Core.Bool.{Bool, true, false, cond}
 use lib.Dec.{ltb}
 use borrow.Author.Tests.{ltb-true, ltb-false}
 use Rattle.layout.specs.declared.layout.Layout.{Layout}
-use Rattle.layout.specs.Check.{maxSerial, tree}
+use Rattle.layout.specs.Check.{max_serial, tree}
 use Rattle.layout.specs.SoundLayout.{SoundLayout}
-use Rattle.layout.specs.Restore.{greater, withSerial}
+use Rattle.layout.specs.Restore.{greater, with_serial}
 
 -- the greater of two serials is at least each, and is one of them
 pub greater-left : (a b : ℕ) → a ≤ greater a b
@@ -33,7 +33,7 @@ greater-most a b m ha hb = go (ltb b a)
     go false = hb
 
 -- a sound layout with a later last serial is sound
-pub later-sound : (l : Layout) (s : ℕ) → SoundLayout l → l.serial ≤ s → s ≤ maxSerial → SoundLayout (withSerial l s)
+pub later-sound : (l : Layout) (s : ℕ) → SoundLayout l → l.serial ≤ s → s ≤ max_serial → SoundLayout (with_serial l s)
 later-sound l s h low most =
     record {
       sound = h.sound;
@@ -42,8 +42,8 @@ later-sound l s h low most =
       used = h.used;
       free = h.free;
       removable = h.removable;
-      freeTail = h.freeTail;
-      removableTail = h.removableTail;
+      free_tail = h.free_tail;
+      removable_tail = h.removable_tail;
       serials =
           record {
             differ = h.serials.differ;
@@ -53,11 +53,11 @@ later-sound l s h low most =
           };
     }
 
-pub restored-sound : (l s : Layout) → SoundLayout l → SoundLayout s → SoundLayout (withSerial s (greater l.serial s.serial))
+pub restored-sound : (l s : Layout) → SoundLayout l → SoundLayout s → SoundLayout (with_serial s (greater l.serial s.serial))
 restored-sound l s h g =
     later-sound s (greater l.serial s.serial) g (greater-right l.serial s.serial)
-    (greater-most l.serial s.serial maxSerial h.serials.spent g.serials.spent)
+    (greater-most l.serial s.serial max_serial h.serials.spent g.serials.spent)
 
 -- the tree is the snapshot's, places and serials included
-pub restored-tree : (s : Layout) (n : ℕ) → tree (withSerial s n) ≡ tree s
+pub restored-tree : (s : Layout) (n : ℕ) → tree (with_serial s n) ≡ tree s
 restored-tree s n = refl

@@ -11,28 +11,28 @@ use lib.Seq.{take-length}
 use Rattle.piece.specs.declared.node.Kind.{Kind}
 use Rattle.piece.specs.declared.node.Kind.TheVariants.{Free, Part, Structure}
 use Rattle.piece.specs.Row.{nil, grow}
-use Rattle.piece.specs.Kinds.{isPart}
+use Rattle.piece.specs.Kinds.{is_part}
 use Rattle.tree.specs.Tree.{Tree, In, count}
 use Rattle.tree.specs.Removal.{cleared, remove, subtree}
 use Rattle.tree.specs.Steps.{leaving}
-use Rattle.tree.specs.Enrolment.{removedList}
+use Rattle.tree.specs.Enrolment.{removed_list}
 use Rattle.tree.proofs.Rows.{at_in}
 use Rattle.tree.proofs.Goes.{subtree-is}
 use Rattle.tree.proofs.Family.{parent-cleared}
 use Rattle.table.specs.Table.{at}
-use Rattle.table.specs.Steps.{going, freeLastPlace}
+use Rattle.table.specs.Steps.{going, free_last_place}
 use Rattle.walks.specs.Inner.{Hangs}
-use Rattle.walks.specs.Along.{numbersAlong, parts, PartsEnd}
+use Rattle.walks.specs.Along.{numbers_along, parts, PartsEnd}
 use Rattle.lists.specs.Lists.{entries}
 use Rattle.walks.proofs.Meaning.{length-order}
 use Rattle.walks.proofs.Entries.{entries-take}
 use Rattle.walks.proofs.Along.{each-subtree, sound-ends, length-numbers, parts-most}
-use Rattle.layout_nodes.specs.Listings.{entriesOf}
+use Rattle.layout_nodes.specs.Listings.{entries_of}
 use Rattle.layout_nodes.specs.Standing.{Stands}
 use Rattle.removal.specs.declared.going.Going.{Going}
 use Rattle.removal.specs.declared.remove.Cleared.{Cleared}
-use Rattle.removal.specs.Going.{goingOf, places, areaAlong}
-use Rattle.removal.specs.Remove.{removedNodes}
+use Rattle.removal.specs.Going.{going_of, places, area_along}
+use Rattle.removal.specs.Remove.{removed_nodes}
 use Rattle.removal.specs.Inner.{Clearable}
 use Rattle.removal.proofs.Row.{row_of}
 use Rattle.removal.proofs.Goes.{leaving-is, going-is}
@@ -44,9 +44,9 @@ use Rattle.layout.specs.declared.layout.Layout.{Layout}
 use Rattle.layout.specs.declared.replies.Outcome.TheVariants.{Done}
 use Rattle.layout.specs.declared.remove.Removed.{Removed}
 use Rattle.layout.specs.Check.{limit, tree}
-use Rattle.layout.specs.Parts.{nodesOf, with_nodes}
+use Rattle.layout.specs.Parts.{nodes_of, with_nodes}
 use Rattle.layout.specs.Next.{Next, removables}
-use Rattle.layout.specs.Remove.{RemoveDone, numbersOut, placeFor}
+use Rattle.layout.specs.Remove.{RemoveDone, numbers_out, place_for}
 use Rattle.layout.specs.Inner.{Leaving, Takeable}
 use Rattle.layout.proofs.Areas.{used-small}
 use Rattle.layout.proofs.Changed.{layout-stands, stands-next}
@@ -58,7 +58,7 @@ length-first zero l = refl
 length-first (suc n) l = omega (arith, length-append (entries n l) (get_or l n 0 ∷ []), length-first n l)
 
 -- a piece that is no part is one node more than there are parts below it; a part has nothing below it
-parts_below : (c : Kind) (k : Tree) (n : ℕ) → (c ≡ Part → k ≡ nil) → count k ≤ n → 1 ≤ n → cond (isPart c) 1 0 + (parts k + 0) ≤ n
+parts_below : (c : Kind) (k : Tree) (n : ℕ) → (c ≡ Part → k ≡ nil) → count k ≤ n → 1 ≤ n → cond (is_part c) 1 0 + (parts k + 0) ≤ n
 parts_below Part k n e h some = rw (e refl) (omega arith)
 parts_below Free k n e h some = omega (arith, parts-most k)
 parts_below Structure k n e h some = omega (arith, parts-most k)
@@ -69,19 +69,19 @@ held-some i nil h = absurd h
 held-some i (grow p d k r) h = omega arith
 
 module _ (l : Layout) (x : ℕ) (t : Takeable l x) where
-  standing : Stands l.settings l.serial (tree l) (nodesOf l)
+  standing : Stands l.settings l.serial (tree l) (nodes_of l)
   standing = layout-stands l t.sized t.sound
 
   held-there : In x (tree l)
   held-there = at_in x t.removable.piece (tree l) t.removable.there
 
   -- what the code finds to go is what the tree says
-  pub goes-is : goingOf l.nodes x l.held ≡ going l.nodes x (tree l)
+  pub goes-is : going_of l.nodes x l.held ≡ going l.nodes x (tree l)
   goes-is = rw t.sound.held (going-is l.nodes (tree l) x t.sound.holds held-there)
 
   -- what `going_with` asks
   pub goable : (x < limit) × ((at l.nodes x).parent < limit) × ((at l.nodes (at l.nodes x).parent).last < limit)
-      × (length (goingOf l.nodes x l.held) ≤ limit)
+      × (length (going_of l.nodes x l.held) ≤ limit)
       × Hangs limit l.nodes x l.held
   goable = (
     t.sound.sound.placed x held-there,
@@ -92,19 +92,19 @@ module _ (l : Layout) (x : ℕ) (t : Takeable l x) where
   )
 
   -- along what goes stand the numbers that come out
-  pub numbers-going : {ps : List ℕ} → ps ≡ goingOf l.nodes x l.held → numbersAlong l.nodes ps ≡ numbersOut l x
-  unfolding numbersOut
+  pub numbers-going : {ps : List ℕ} → ps ≡ going_of l.nodes x l.held → numbers_along l.nodes ps ≡ numbers_out l x
+  unfolding numbers_out
   numbers-going e =
-      ap (numbersAlong l.nodes) (e ∙ goes-is)
+      ap (numbers_along l.nodes) (e ∙ goes-is)
       ∙ removed-numbers limit l.settings l.nodes (tree l) t.sound.sound t.sound.holds x t.removable
 
-  pub numbers-few : length (numbersOut l x) ≤ limit
-  unfolding numbersOut
+  pub numbers-few : length (numbers_out l x) ≤ limit
+  unfolding numbers_out
   numbers-few = removed-few limit l.settings l.nodes (tree l) t.sound.sound t.sound.holds x t.removable
 
   -- the top does not go, and a structure has no number: all nodes but two are the most that come out
-  pub numbers-fewer : length (numbersOut l x) + 2 ≤ limit
-  unfolding numbersOut
+  pub numbers-fewer : length (numbers_out l x) + 2 ≤ limit
+  unfolding numbers_out
   numbers-fewer =
       let s = t.sound in
       let z = t.removable in
@@ -120,7 +120,7 @@ module _ (l : Layout) (x : ℕ) (t : Takeable l x) where
         s.sound.room,
         left,
         left-count limit l.settings l.nodes w s.sound s.holds x z,
-        length-append (leaving (subtree x w)) (freeLastPlace l.nodes (at l.nodes x).parent),
+        length-append (leaving (subtree x w)) (free_last_place l.nodes (at l.nodes x).parent),
         ap length (leaving-is (subtree x w)),
         length-order (subtree x w),
         ap count is,
@@ -136,10 +136,10 @@ module _ (l : Layout) (x : ℕ) (t : Takeable l x) where
     count-is = sym (length-first g.count g.order) ∙ ap length places-are
 
     -- what `remove` asks
-    pub clearable : Clearable (nodesOf l) (places g) x l.serial
+    pub clearable : Clearable (nodes_of l) (places g) x l.serial
     clearable =
         rw places-are
-        (remove-clearable l.settings l.serial (tree l) (nodesOf l) standing x t.removable t.spent)
+        (remove-clearable l.settings l.serial (tree l) (nodes_of l) standing x t.removable t.spent)
 
     -- no more goes than there is
     pub count_most : g.count ≤ l.held
@@ -151,7 +151,7 @@ module _ (l : Layout) (x : ℕ) (t : Takeable l x) where
           left-count limit l.settings l.nodes (tree l) t.sound.sound t.sound.holds x t.removable,
         )
 
-    pub area-most : areaAlong l.nodes (places g) ≤ l.used
+    pub area-most : area_along l.nodes (places g) ≤ l.used
     area-most =
         rw places-are
         (omega (
@@ -161,64 +161,64 @@ module _ (l : Layout) (x : ℕ) (t : Takeable l x) where
         ))
 
     -- what `area_along` asks: the sum fits
-    pub area-fits : areaAlong l.nodes (places g) ≤ 18446744073709551615
+    pub area-fits : area_along l.nodes (places g) ≤ 18446744073709551615
     area-fits = omega (arith, area-most, (used-small l t.sound).0)
 
     -- what `remove` gives stands again
-    module _ {c : Cleared} (cleared-so : c ≡ removedNodes (nodesOf l) (places g) x l.serial) where
-      gives : c ≡ removedNodes (nodesOf l) (going l.nodes x (tree l)) x l.serial
-      gives = cleared-so ∙ ap (λ (ps : List ℕ). removedNodes (nodesOf l) ps x l.serial) places-are
+    module _ {c : Cleared} (cleared-so : c ≡ removed_nodes (nodes_of l) (places g) x l.serial) where
+      gives : c ≡ removed_nodes (nodes_of l) (going l.nodes x (tree l)) x l.serial
+      gives = cleared-so ∙ ap (λ (ps : List ℕ). removed_nodes (nodes_of l) ps x l.serial) places-are
 
-      stands-again : Stands l.settings (l.serial + 1) (remove x (placeFor l x) (l.serial + 1) (tree l)) c.nodes
+      stands-again : Stands l.settings (l.serial + 1) (remove x (place_for l x) (l.serial + 1) (tree l)) c.nodes
       stands-again =
-          rw gives (remove-stands l.settings l.serial (tree l) (nodesOf l) standing x t.removable t.spent)
+          rw gives (remove-stands l.settings l.serial (tree l) (nodes_of l) standing x t.removable t.spent)
 
       pub lists-room : (c.nodes.free.count ≤ limit) × (c.nodes.removable.count ≤ limit)
-      lists-room = (stands-again.freeKept.room, stands-again.removableKept.room)
+      lists-room = (stands-again.free_kept.room, stands-again.removable_kept.room)
 
-      pub place_is : c.place ≡ placeFor l x
+      pub place_is : c.place ≡ place_for l x
       place_is =
           ap (λ (d : Cleared). d.place) gives
-          ∙ remove-place l.settings l.serial (tree l) (nodesOf l) standing x t.removable t.spent
+          ∙ remove-place l.settings l.serial (tree l) (nodes_of l) standing x t.removable t.spent
 
-      list-is : entriesOf c.nodes.removable ≡ removedList limit x (tree l) (removables l)
+      list-is : entries_of c.nodes.removable ≡ removed_list limit x (tree l) (removables l)
       list-is =
-          ap (λ (d : Cleared). entriesOf d.nodes.removable) gives
-          ∙ remove-list l.settings l.serial (tree l) (nodesOf l) standing x t.removable t.spent
+          ap (λ (d : Cleared). entries_of d.nodes.removable) gives
+          ∙ remove-list l.settings l.serial (tree l) (nodes_of l) standing x t.removable t.spent
 
       -- the next layout: one piece has come for those that go, and their parts' areas are no longer used
-      pub next-out : {held used : ℕ} → held ≡ (l.held + 1) - g.count → used ≡ l.used - areaAlong l.nodes (places g)
-          → Next l (remove x (placeFor l x) (l.serial + 1) (tree l)) (removedList limit x (tree l) (removables l)) (l.serial + 1)
+      pub next-out : {held used : ℕ} → held ≡ (l.held + 1) - g.count → used ≡ l.used - area_along l.nodes (places g)
+          → Next l (remove x (place_for l x) (l.serial + 1) (tree l)) (removed_list limit x (tree l) (removables l)) (l.serial + 1)
           (with_nodes l c.nodes held used (l.serial + 1))
       next-out h u =
           let s = t.sound in
           let z = t.removable in
-          let p = placeFor l x in
+          let p = place_for l x in
           let n = removed-count limit l.settings l.nodes (tree l) s.sound s.holds x z p (l.serial + 1) in
           let a = removed-area limit l.settings l.nodes (tree l) s.sound s.holds x z p (l.serial + 1) in
           rw (← list-is)
           (stands-next l (l.serial + 1) (remove x p (l.serial + 1) (tree l)) c.nodes stands-again _ _
-          (omega (arith, h, n, count-is, s.held)) (omega (arith, u, a, ap (areaAlong l.nodes) places-are, s.used)))
+          (omega (arith, h, n, count-is, s.held)) (omega (arith, u, a, ap (area_along l.nodes) places-are, s.used)))
 
 -- ---- an answer: what the steps leave is one, so there is one
 
 module _ (l : Layout) (x : ℕ) where
   abbrev all : List ℕ
-  all = goingOf l.nodes x l.held
+  all = going_of l.nodes x l.held
 
   all-going : Going
   all-going = record { order = all; count = length all }
 
   left : Cleared
-  left = removedNodes (nodesOf l) (places all-going) x l.serial
+  left = removed_nodes (nodes_of l) (places all-going) x l.serial
 
   reply : Removed
   reply =
       record {
         outcome = Done;
         free = record { layout = l.number; place = left.place; serial = l.serial + 1 };
-        count = length (numbersOut l x);
-        layout = with_nodes l left.nodes ((l.held + 1) - all-going.count) (l.used - areaAlong l.nodes (places all-going)) (l.serial + 1);
+        count = length (numbers_out l x);
+        layout = with_nodes l left.nodes ((l.held + 1) - all-going.count) (l.used - area_along l.nodes (places all-going)) (l.serial + 1);
       }
 
   pub some-removed : Takeable l x → (a : Removed) × RemoveDone l x a

@@ -9,13 +9,13 @@ use borrow.Author.Tests.{le-leb, lt-leb}
 use lib.ListN.{length}
 use Rattle.piece.specs.Row.{nil, grow}
 use Rattle.tree.specs.Tree.{Tree, count}
-use Rattle.tree.specs.Tidy.{Untidy, Lowest, Tidy, empties, emptyIn, is_empty}
+use Rattle.tree.specs.Tidy.{Untidy, Lowest, Tidy, empties, empty_in, is_empty}
 use Rattle.tree.proofs.Laws.TidyTree.{untidy-removable, untidy-numbers, untidy-some, taking-count, tidy-none}
 use Rattle.table.specs.Table.{at}
 use Rattle.walks.specs.Inner.{Placed}
 use Rattle.removal.specs.declared.going.Going.{Going}
-use Rattle.removal.specs.Going.{places, areaAlong}
-use Rattle.removal.specs.Untidy.{bareGoing, lowestUntidy}
+use Rattle.removal.specs.Going.{places, area_along}
+use Rattle.removal.specs.Untidy.{bare_going, lowest_untidy}
 use Rattle.removal.proofs.Gone.{bare-length}
 use Rattle.removal.proofs.Bare.{found-lowest, found_none, bare-first, bare-goes, bare-area}
 use Rattle.marks.specs.declared.Refusal.TheVariants.{NotSound, SerialsSpent}
@@ -23,10 +23,10 @@ use Rattle.layout.specs.declared.layout.Layout.{Layout}
 use Rattle.layout.specs.declared.replies.Outcome.TheVariants.{Done}
 use Rattle.layout.specs.declared.remove.Removed.{Removed}
 use Rattle.layout.specs.declared.tidy.Tidied.{Tidied}
-use Rattle.layout.specs.Check.{limit, maxSerial, tree, soundB}
+use Rattle.layout.specs.Check.{limit, max_serial, tree, sound_b}
 use Rattle.layout.specs.SoundLayout.{SoundLayout, Sized}
-use Rattle.layout.specs.Remove.{RemoveDone, numbersOut, placeFor}
-use Rattle.layout.specs.Tidy.{Tidies, tidy, takes, TidySays, refusedTidy, tidyNo}
+use Rattle.layout.specs.Remove.{RemoveDone, numbers_out, place_for}
+use Rattle.layout.specs.Tidy.{Tidies, tidy, takes, TidySays, refused_tidy, tidy_no}
 use Rattle.layout.specs.Inner.{Leaving, Takeable}
 use Rattle.layout.proofs.TakenOut.{goable, goes-is}
 
@@ -34,16 +34,16 @@ use Rattle.layout.proofs.TakenOut.{goable, goes-is}
 
 module _ (l : Layout) (s : SoundLayout l) where
   -- what the search finds
-  pub finds : lowestUntidy l.nodes < limit → Lowest (lowestUntidy l.nodes) (tree l)
+  pub finds : lowest_untidy l.nodes < limit → Lowest (lowest_untidy l.nodes) (tree l)
   finds = found-lowest l.settings l.nodes (tree l) s.sound s.holds
 
-  pub finds-none : limit ≤ lowestUntidy l.nodes → Tidy (tree l)
+  pub finds-none : limit ≤ lowest_untidy l.nodes → Tidy (tree l)
   finds-none = found_none l.settings l.nodes (tree l) s.sound s.holds
 
   module _ (x : ℕ) (u : Untidy x (tree l)) where
     -- what `emptied` asks
-    pub emptyable : Sized l → l.serial + 1 ≤ maxSerial → Takeable l x × (numbersOut l x ≡ []) × Untidy x (tree l)
-    unfolding numbersOut
+    pub emptyable : Sized l → l.serial + 1 ≤ max_serial → Takeable l x × (numbers_out l x ≡ []) × Untidy x (tree l)
+    unfolding numbers_out
     emptyable sized spent = (
       record { sized = sized; sound = s; removable = untidy-removable x (tree l) u; spent = spent },
       untidy-numbers x (tree l) s.sound.distinct u,
@@ -53,7 +53,7 @@ module _ (l : Layout) (s : SoundLayout l) where
     -- one structure less has no part inside
     pub one_less : (a : Removed) → RemoveDone l x a → 1 + empties (tree a.layout) ≡ empties (tree l)
     one_less a d =
-        omega (arith, ap empties d.next.tree, taking-count x (placeFor l x) (l.serial + 1) (tree l) s.sound u)
+        omega (arith, ap empties d.next.tree, taking-count x (place_for l x) (l.serial + 1) (tree l) s.sound u)
 
 -- what goes with it: its child, itself, and the free piece at the end of its row
 module _ (l : Layout) (x : ℕ) (t : Takeable l x) (u : Untidy x (tree l)) where
@@ -66,7 +66,7 @@ module _ (l : Layout) (x : ℕ) (t : Takeable l x) (u : Untidy x (tree l)) where
 
   -- and what it gives
   module _ (g : Going)
-      (gave : (places g ≡ bareGoing l.nodes x) × ((g.count ≡ length (bareGoing l.nodes x)) × Placed limit g.count g.order)) where
+      (gave : (places g ≡ bare_going l.nodes x) × ((g.count ≡ length (bare_going l.nodes x)) × Placed limit g.count g.order)) where
     pub bare-few : (2 ≤ g.count) × (g.count ≤ 3)
     bare-few = let b = bare-length l.nodes x in (omega (arith, b.0, gave.1.0), omega (arith, b.1, gave.1.0))
 
@@ -80,19 +80,19 @@ module _ (l : Layout) (x : ℕ) (t : Takeable l x) (u : Untidy x (tree l)) where
         }
 
     -- and no part's area with it
-    pub bare-used : l.used ≡ l.used - areaAlong l.nodes (places g)
+    pub bare-used : l.used ≡ l.used - area_along l.nodes (places g)
     bare-used =
-        let none : areaAlong l.nodes (places g) ≡ 0 =
-        ap (areaAlong l.nodes) gave.0 ∙ bare-area l.settings l.nodes (tree l) t.sound.sound t.sound.holds x u
+        let none : area_along l.nodes (places g) ≡ 0 =
+        ap (area_along l.nodes) gave.0 ∙ bare-area l.settings l.nodes (tree l) t.sound.sound t.sound.holds x u
         in
         omega (arith, none)
 
 -- no more of them than there are pieces
-row-most : (t : Tree) → emptyIn t ≤ count t
+row-most : (t : Tree) → empty_in t ≤ count t
 row-most nil = omega arith
 row-most (grow p d k r) = go (is_empty d k) (row-most k) (row-most r)
   where
-    go : (b : Bool) → emptyIn k ≤ count k → emptyIn r ≤ count r → cond b 1 0 + (emptyIn k + emptyIn r) ≤ 1 + (count k + count r)
+    go : (b : Bool) → empty_in k ≤ count k → empty_in r ≤ count r → cond b 1 0 + (empty_in k + empty_in r) ≤ 1 + (count k + count r)
     go true ik ir = omega arith
     go false ik ir = omega arith
 
@@ -142,24 +142,24 @@ module _ (l : Layout) where
 -- ---- the ends
 
 module _ (l : Layout) where
-  pub unsound-so : {a : Tidied} → soundB l ≡ false → a ≡ refusedTidy l NotSound → TidySays l a
-  unfolding TidySays tidyNo
+  pub unsound-so : {a : Tidied} → sound_b l ≡ false → a ≡ refused_tidy l NotSound → TidySays l a
+  unfolding TidySays tidy_no
   unsound-so e h = rw e h
 
-  module _ (checked : soundB l ≡ true) (c : ℕ) (left : Layout) (h : Taken l c left) where
+  module _ (checked : sound_b l ≡ true) (c : ℕ) (left : Layout) (h : Taken l c left) where
     -- a step finds no serial: the last of them would be above the greatest
-    pub spent-so : {a : Tidied} → 1 ≤ empties (tree left) → maxSerial ≤ left.serial → a ≡ refusedTidy l SerialsSpent → TidySays l a
-    unfolding TidySays tidyNo
+    pub spent-so : {a : Tidied} → 1 ≤ empties (tree left) → max_serial ≤ left.serial → a ≡ refused_tidy l SerialsSpent → TidySays l a
+    unfolding TidySays tidy_no
     spent-so more b e =
-        let over : maxSerial < l.serial + empties (tree l) = omega (arith, h.serial, h.counts) in
-        rw (checked, lt-leb (l.serial + empties (tree l)) maxSerial over) e
+        let over : max_serial < l.serial + empties (tree l) = omega (arith, h.serial, h.counts) in
+        rw (checked, lt-leb (l.serial + empties (tree l)) max_serial over) e
 
     -- none is left
     pub done-so : Tidy (tree left) → TidySays l (record { outcome = Done; count = c; layout = left })
-    unfolding TidySays tidyNo
+    unfolding TidySays tidy_no
     done-so t =
         let z = tidy-none (tree left) h.sound.sound t in
-        let within : l.serial + empties (tree l) ≤ maxSerial = omega (arith, h.serial, h.counts, h.sound.serials.spent) in
+        let within : l.serial + empties (tree l) ≤ max_serial = omega (arith, h.serial, h.counts, h.sound.serials.spent) in
         let e : c + 0 ≡ c = omega arith in
-        rw (checked, le-leb (l.serial + empties (tree l)) maxSerial within)
+        rw (checked, le-leb (l.serial + empties (tree l)) max_serial within)
         (record { outcome = refl; tidies = rw e at (h.onward 0 left (tidy t)) })

@@ -15,7 +15,7 @@ use Rattle.tree.specs.Tidy.{Lowest, Tidy, Takings, taken, empties}
 use Rattle.tree.specs.Tidy as takings
 use Rattle.tree.proofs.Family.{fresh-removal}
 use Rattle.tree.proofs.Laws.TidyTree.{untidy-removable, untidy-some, tidy-none}
-use Rattle.removal.specs.Untidy.{lowestUntidy}
+use Rattle.removal.specs.Untidy.{lowest_untidy}
 use Rattle.marks.specs.declared.Refusal.{Refusal}
 use Rattle.marks.specs.declared.Refusal.TheVariants.{NotSound, SerialsSpent}
 use Rattle.sound.proofs.Says.{clash}
@@ -23,10 +23,10 @@ use Rattle.layout.specs.declared.layout.Layout.{Layout}
 use Rattle.layout.specs.declared.replies.Outcome.TheVariants.{Done, Refused}
 use Rattle.layout.specs.declared.remove.Removed.{Removed}
 use Rattle.layout.specs.declared.tidy.Tidied.{Tidied}
-use Rattle.layout.specs.Check.{limit, maxSerial, tree, soundB}
+use Rattle.layout.specs.Check.{limit, max_serial, tree, sound_b}
 use Rattle.layout.specs.SoundLayout.{SoundLayout, Sized}
-use Rattle.layout.specs.Remove.{RemoveDone, placeFor}
-use Rattle.layout.specs.Tidy.{Tidies, tidy, takes, TidyDone, TidySays, refusedTidy, tidyIs, tidyNo}
+use Rattle.layout.specs.Remove.{RemoveDone, place_for}
+use Rattle.layout.specs.Tidy.{Tidies, tidy, takes, TidyDone, TidySays, refused_tidy, tidy_is, tidy_no}
 use Rattle.layout.proofs.Changed.{next-is-one}
 use Rattle.layout.proofs.Exactly.{sound-says}
 use Rattle.layout.proofs.TakenOut.{some-removed}
@@ -66,12 +66,12 @@ chain-means {l} s z (takes x a low d g) =
       serial = omega (arith, r.serial, d.next.serial);
       number = r.number ∙ d.next.number;
       settings = r.settings ∙ d.next.settings;
-      takings = taken x (placeFor l x) (l.serial + 1) low.untidy fresh.0 fresh.1 (rw d.next.tree at r.takings);
+      takings = taken x (place_for l x) (l.serial + 1) low.untidy fresh.0 fresh.1 (rw d.next.tree at r.takings);
       tidy = r.tidy;
       count = omega (arith, r.count, one_less l s x low.untidy a d);
     }
 
-pub tidies-means : {l n : Layout} {k : ℕ} → SoundLayout l → Sized l → l.serial + empties (tree l) ≤ maxSerial → Tidies l k n → TidiesMeans l k n
+pub tidies-means : {l n : Layout} {k : ℕ} → SoundLayout l → Sized l → l.serial + empties (tree l) ≤ max_serial → Tidies l k n → TidiesMeans l k n
 tidies-means s z b g = chain-means s z g
 
 -- ---- there is one chain
@@ -109,8 +109,8 @@ abbrev Chain : Layout → Type 0
 Chain l = (k : ℕ) × (n : Layout) × Tidies l k n
 
 -- a step, and a chain from what it leaves
-step_then : (l : Layout) → SoundLayout l → Sized l → l.serial + empties (tree l) ≤ maxSerial → (x : ℕ) → Lowest x (tree l)
-    → ((n : Layout) → SoundLayout n → Sized n → 1 + empties (tree n) ≡ empties (tree l) → n.serial + empties (tree n) ≤ maxSerial → Chain n) → Chain l
+step_then : (l : Layout) → SoundLayout l → Sized l → l.serial + empties (tree l) ≤ max_serial → (x : ℕ) → Lowest x (tree l)
+    → ((n : Layout) → SoundLayout n → Sized n → 1 + empties (tree n) ≡ empties (tree l) → n.serial + empties (tree n) ≤ max_serial → Chain n) → Chain l
 step_then l s z last x low ih =
     let more = untidy-some x (tree l) s.sound low.untidy in
     let can = emptyable l s x low.untidy z (omega arith) in
@@ -120,58 +120,58 @@ step_then l s z last x low ih =
     let rest = ih r.0.layout next.sound next.sized less (omega (arith, next.serial)) in
     (1 + rest.0, rest.1, takes x r.0 low r.1 rest.2)
 
-chain-from : (most : ℕ) (l : Layout) → SoundLayout l → Sized l → empties (tree l) ≤ most → l.serial + empties (tree l) ≤ maxSerial → Chain l
-chain-from zero l s z few last = go (dec_lt (lowestUntidy l.nodes) limit)
+chain-from : (most : ℕ) (l : Layout) → SoundLayout l → Sized l → empties (tree l) ≤ most → l.serial + empties (tree l) ≤ max_serial → Chain l
+chain-from zero l s z few last = go (dec_lt (lowest_untidy l.nodes) limit)
   where
-    go : Dec (lowestUntidy l.nodes < limit) → Chain l
+    go : Dec (lowest_untidy l.nodes < limit) → Chain l
     go (no b) = (0, l, tidy (finds-none l s (omega arith)))
     go (yes b) =
-        let more = untidy-some (lowestUntidy l.nodes) (tree l) s.sound (finds l s b).untidy in
+        let more = untidy-some (lowest_untidy l.nodes) (tree l) s.sound (finds l s b).untidy in
         let none-there : ⊥ = omega arith in
         absurd none-there
 chain-from (suc most) l s z few last =
-    go (dec_lt (lowestUntidy l.nodes) limit) (λ n sn zn less lasts. chain-from most n sn zn (omega arith) lasts)
+    go (dec_lt (lowest_untidy l.nodes) limit) (λ n sn zn less lasts. chain-from most n sn zn (omega arith) lasts)
   where
-    go : Dec (lowestUntidy l.nodes < limit)
-        → ((n : Layout) → SoundLayout n → Sized n → 1 + empties (tree n) ≡ empties (tree l) → n.serial + empties (tree n) ≤ maxSerial → Chain n) → Chain l
+    go : Dec (lowest_untidy l.nodes < limit)
+        → ((n : Layout) → SoundLayout n → Sized n → 1 + empties (tree n) ≡ empties (tree l) → n.serial + empties (tree n) ≤ max_serial → Chain n) → Chain l
     go (no b) ih = (0, l, tidy (finds-none l s (omega arith)))
-    go (yes b) ih = step_then l s z last (lowestUntidy l.nodes) (finds l s b) ih
+    go (yes b) ih = step_then l s z last (lowest_untidy l.nodes) (finds l s b) ih
 
-pub tidies-some : (l : Layout) → SoundLayout l → Sized l → l.serial + empties (tree l) ≤ maxSerial → (k : ℕ) × (n : Layout) × Tidies l k n
+pub tidies-some : (l : Layout) → SoundLayout l → Sized l → l.serial + empties (tree l) ≤ max_serial → (k : ℕ) × (n : Layout) × Tidies l k n
 tidies-some l s z last = chain-from (empties (tree l)) l s z (le_refl (empties (tree l))) last
 
 -- so the contract can be met, on every layout
 pub some-tidy : (l : Layout) → Sized l → (a : Tidied) × TidySays l a
-unfolding TidySays tidyNo
-some-tidy l z = go (soundB l) refl (leb (l.serial + empties (tree l)) maxSerial) refl
+unfolding TidySays tidy_no
+some-tidy l z = go (sound_b l) refl (leb (l.serial + empties (tree l)) max_serial) refl
   where
-    go : (b : Bool) → soundB l ≡ b → (c : Bool) → leb (l.serial + empties (tree l)) maxSerial ≡ c
-        → (a : Tidied) × tidyIs (cond (soundB l) (cond (leb (l.serial + empties (tree l)) maxSerial) none (some SerialsSpent)) (some NotSound)) l a
-    go false e c f = (refusedTidy l NotSound, rw e refl)
-    go true e false f = (refusedTidy l SerialsSpent, rw (e, f) refl)
+    go : (b : Bool) → sound_b l ≡ b → (c : Bool) → leb (l.serial + empties (tree l)) max_serial ≡ c
+        → (a : Tidied) × tidy_is (cond (sound_b l) (cond (leb (l.serial + empties (tree l)) max_serial) none (some SerialsSpent)) (some NotSound)) l a
+    go false e c f = (refused_tidy l NotSound, rw e refl)
+    go true e false f = (refused_tidy l SerialsSpent, rw (e, f) refl)
     go true e true f =
-        let g = tidies-some l (sound-says l z e) z (leb-true (l.serial + empties (tree l)) maxSerial f) in
+        let g = tidies-some l (sound-says l z e) z (leb-true (l.serial + empties (tree l)) max_serial f) in
         (record { outcome = Done; count = g.0; layout = g.1 }, rw (e, f) (record { outcome = refl; tidies = g.2 }))
 
 -- ---- an answer that meets the contract
 
-done-means : (o : Option Refusal) (l : Layout) (a : Tidied) → tidyIs o l a → a.outcome ≡ Done → (o ≡ none) × TidyDone l a
+done-means : (o : Option Refusal) (l : Layout) (a : Tidied) → tidy_is o l a → a.outcome ≡ Done → (o ≡ none) × TidyDone l a
 done-means none l a h d = (refl, h)
 done-means (some e) l a h d = let z : Refused e ≡ Done = sym (ap (λ (r : Tidied). r.outcome) h) ∙ d in absurd (clash (cc))
 
-pub tidy-accepted : (l : Layout) (a : Tidied) → TidySays l a → a.outcome ≡ Done → (tidyNo l ≡ none) × TidyDone l a
+pub tidy-accepted : (l : Layout) (a : Tidied) → TidySays l a → a.outcome ≡ Done → (tidy_no l ≡ none) × TidyDone l a
 unfolding TidySays
-tidy-accepted l a says done = done-means (tidyNo l) l a says done
+tidy-accepted l a says done = done-means (tidy_no l) l a says done
 
-refused-means : (o : Option Refusal) (l : Layout) (a : Tidied) (e : Refusal) → tidyIs o l a → a.outcome ≡ Refused e
-    → (o ≡ some e) × (a ≡ refusedTidy l e)
+refused-means : (o : Option Refusal) (l : Layout) (a : Tidied) (e : Refusal) → tidy_is o l a → a.outcome ≡ Refused e
+    → (o ≡ some e) × (a ≡ refused_tidy l e)
 refused-means none l a e h d = let z : Done ≡ Refused e = sym h.outcome ∙ d in absurd (clash (cc))
 refused-means (some f) l a e h d =
     let z : Refused f ≡ Refused e = sym (ap (λ (r : Tidied). r.outcome) h) ∙ d in
     let same : f ≡ e = cc in
-    (ap some same, h ∙ ap (refusedTidy l) same)
+    (ap some same, h ∙ ap (refused_tidy l) same)
 
 -- refused: the layout comes back as it came, and nothing was taken out
-pub tidy-refused : (l : Layout) (a : Tidied) → TidySays l a → (e : Refusal) → a.outcome ≡ Refused e → (tidyNo l ≡ some e) × (a ≡ refusedTidy l e)
+pub tidy-refused : (l : Layout) (a : Tidied) → TidySays l a → (e : Refusal) → a.outcome ≡ Refused e → (tidy_no l ≡ some e) × (a ≡ refused_tidy l e)
 unfolding TidySays
-tidy-refused l a says e d = refused-means (tidyNo l) l a e says d
+tidy-refused l a says e d = refused-means (tidy_no l) l a e says d

@@ -10,7 +10,7 @@ use denote.Laws.{Is}
 use denote.Struct.Declared.{row}
 use Rattle.piece.specs.declared.parttype.PartType.{PartType}
 use Rattle.piece.specs.contracts.parttype.PartType as part
-use Rattle.tree.specs.Sound.{maxNumber}
+use Rattle.tree.specs.Sound.{max_number}
 use Rattle.layout.specs.declared.layout.Layout.{Layout}
 use Rattle.layout.specs.SoundLayout.{Sized}
 use Rattle.layout.specs.contracts.layout.Layout.{the_type}
@@ -23,5 +23,5 @@ typed-sized l vs g =
       removable = sym (length-map l.removable _) ∙ g.1.1.1.1.0.1.0.1;
     }
 
-pub typed-numbered : (p : PartType) (vs : List Val) → Is (row part.the_type) p vs → p.number ≤ maxNumber
+pub typed-numbered : (p : PartType) (vs : List Val) → Is (row part.the_type) p vs → p.number ≤ max_number
 typed-numbered p vs g = omega (arith, g.1.1.0.1)

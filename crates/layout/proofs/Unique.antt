@@ -7,7 +7,7 @@ use native.Mathlib.Omega.{arith}
 use lib.ListN.{get_or, length, take, drop, replicate, take-append-drop}
 use Rattle.piece.specs.declared.node.Datum.{Datum}
 use Rattle.tree.specs.Tree.{Tree, At, count}
-use Rattle.tree.specs.Figures.{partArea}
+use Rattle.tree.specs.Figures.{part_area}
 use Rattle.table.proofs.Unique.{same-table}
 use Rattle.layout.specs.declared.layout.Layout.{Layout}
 use Rattle.layout.specs.Check.{limit, tree}
@@ -145,18 +145,18 @@ unique-layout l m sl sm a b same free removable number settings serial =
     nodes = same-table limit l.nodes m.nodes (tree m) (rw same at a.holds) b.holds
 
     frees : (l.frees ≡ m.frees) × (l.free ≡ m.free)
-    frees = same-list l.free m.free l.frees m.frees sl.free sm.free a.freeTail b.freeTail free
+    frees = same-list l.free m.free l.frees m.frees sl.free sm.free a.free_tail b.free_tail free
 
     removables : (l.removables ≡ m.removables) × (l.removable ≡ m.removable)
     removables =
-        same-list l.removable m.removable l.removables m.removables sl.removable sm.removable a.removableTail b.removableTail
+        same-list l.removable m.removable l.removables m.removables sl.removable sm.removable a.removable_tail b.removable_tail
         removable
 
     held : l.held ≡ m.held
     held = a.held ∙ (ap (λ (w : Tree). count w) same ∙ sym b.held)
 
     used : l.used ≡ m.used
-    used = a.used ∙ (ap (λ (w : Tree). partArea w) same ∙ sym b.used)
+    used = a.used ∙ (ap (λ (w : Tree). part_area w) same ∙ sym b.used)
 
 -- the free list need not be given
 pub determined-layout : (l m : Layout) → Sized l → Sized m → SoundLayout l → SoundLayout m → tree l ≡ tree m

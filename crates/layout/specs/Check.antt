@@ -1,50 +1,50 @@
 -- The soundness check as a test: what the code computes. specs/SoundLayout.antt is the rule; proofs/Exactly.antt says that the two agree.
 use Rattle.std.specs.Prelude.{List, Bool, true, false, ◌&&◌, ℕ, eqb, leb}
 use Rattle.tree.specs.Tree.{Tree}
-pub use Rattle.tree.specs.Pieces.{maxSerial}
+pub use Rattle.tree.specs.Pieces.{max_serial}
 use Rattle.table.specs.Table.{at}
 use Rattle.table.specs.Build.{tree_of}
 -- the most nodes that a layout holds is the number of entries of a list
 pub use Rattle.lists.specs.Lists.{limit}
-use Rattle.lists.specs.Search.{differ, zeroTail}
-use Rattle.lists.specs.Flags.{okB, flags_of}
-use Rattle.sound.specs.Columns.{Columns, checkedColumns}
-pub use Rattle.sound.specs.Frame.{sideB, domainB}
-use Rattle.sound.specs.Places.{placesB, topB}
-use Rattle.sound.specs.Rows.{rowsB}
-use Rattle.sound.specs.Hung.{hungB}
-use Rattle.sound.specs.Listed.{areaListed, coversB, heldIn, noneAboveB, sortedB}
+use Rattle.lists.specs.Search.{differ, zero_tail}
+use Rattle.lists.specs.Flags.{ok_b, flags_of}
+use Rattle.sound.specs.Columns.{Columns, checked_columns}
+pub use Rattle.sound.specs.Frame.{side_b, domain_b}
+use Rattle.sound.specs.Places.{places_b, top_b}
+use Rattle.sound.specs.Rows.{rows_b}
+use Rattle.sound.specs.Hung.{hung_b}
+use Rattle.sound.specs.Listed.{area_listed, covers_b, held_in, none_above_b, sorted_b}
 use Rattle.layout.specs.declared.layout.Layout.{Layout}
 
 -- the tree that a layout holds
 abbrev pub tree : Layout → Tree
 tree l = tree_of limit l.nodes
 
-unfoldable pub tableB : Layout → Bool
-tableB l = placesB limit l.nodes && (topB limit l.settings (at l.nodes 0) && rowsB limit l.settings l.nodes)
+unfoldable pub table_b : Layout → Bool
+table_b l = places_b limit l.nodes && (top_b limit l.settings (at l.nodes 0) && rows_b limit l.settings l.nodes)
 
-unfoldable pub coveredB : Bool → List ℕ → ℕ → List ℕ → List ℕ → Bool
-coveredB free list n serial kind =
-    okB limit list n && (coversB limit free serial kind (flags_of limit list n) && zeroTail limit list n)
+unfoldable pub covered_b : Bool → List ℕ → ℕ → List ℕ → List ℕ → Bool
+covered_b free list n serial kind =
+    ok_b limit list n && (covers_b limit free serial kind (flags_of limit list n) && zero_tail limit list n)
 
-unfoldable pub serialsB : List ℕ → ℕ → Bool
-serialsB serial last = leb last maxSerial && (noneAboveB limit serial last && differ limit serial)
+unfoldable pub serials_b : List ℕ → ℕ → Bool
+serials_b serial last = leb last max_serial && (none_above_b limit serial last && differ limit serial)
 
-unfoldable pub sumsB : Layout → Columns → Bool
-sumsB l c =
-    eqb (heldIn c.serial limit) l.held && eqb (areaListed 1 c.kind c.area limit) l.used
+unfoldable pub sums_b : Layout → Columns → Bool
+sums_b l c =
+    eqb (held_in c.serial limit) l.held && eqb (area_listed 1 c.kind c.area limit) l.used
 
-unfoldable pub freeB : Layout → Columns → Bool
-freeB l c =
-    coveredB true l.free l.frees c.serial c.kind && sortedB c.area c.serial l.free l.frees
+unfoldable pub free_b : Layout → Columns → Bool
+free_b l c =
+    covered_b true l.free l.frees c.serial c.kind && sorted_b c.area c.serial l.free l.frees
 
-unfoldable pub removableB : Layout → Columns → Bool
-removableB l c = coveredB false l.removable l.removables c.serial c.kind
+unfoldable pub removable_b : Layout → Columns → Bool
+removable_b l c = covered_b false l.removable l.removables c.serial c.kind
 
-unfoldable pub columnsB : Layout → Columns → Bool
-columnsB l c =
-    hungB limit c.serial c.first c.next
-    && (sumsB l c && (serialsB c.serial l.serial && (freeB l c && removableB l c)))
+unfoldable pub columns_b : Layout → Columns → Bool
+columns_b l c =
+    hung_b limit c.serial c.first c.next
+    && (sums_b l c && (serials_b c.serial l.serial && (free_b l c && removable_b l c)))
 
-unfoldable pub soundB : Layout → Bool
-soundB l = domainB l.settings && (tableB l && columnsB l (checkedColumns l.nodes))
+unfoldable pub sound_b : Layout → Bool
+sound_b l = domain_b l.settings && (table_b l && columns_b l (checked_columns l.nodes))

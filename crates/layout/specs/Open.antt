@@ -2,27 +2,27 @@
 -- that the layout is sound and that its tree is the opened one.
 use Rattle.std.specs.Prelude.{List, [], ◌∷◌, cond}
 use Rattle.piece.specs.declared.settings.Opening.{Opening}
-use Rattle.tree.specs.Open.{topDatum, firstFree}
+use Rattle.tree.specs.Open.{top_datum, first_free}
 use Rattle.table.specs.declared.Node.{Node}
 use Rattle.table.specs.Table.{append}
-use Rattle.table.specs.Steps.{topOnly}
+use Rattle.table.specs.Steps.{top_only}
 use Rattle.lists.specs.Lists.{padded}
 use Rattle.marks.specs.declared.Refusal.TheVariants.{OpeningOutside}
 use Rattle.layout.specs.declared.layout.Layout.{Layout}
 use Rattle.layout.specs.declared.open.OpenOutcome.TheVariants.{Free, Refused}
 use Rattle.layout.specs.declared.open.Opened.{Opened}
-use Rattle.layout.specs.Check.{limit, domainB}
-use Rattle.layout.specs.Zero.{zeroLayout}
+use Rattle.layout.specs.Check.{limit, domain_b}
+use Rattle.layout.specs.Zero.{zero_layout}
 
 -- the top at place 0, and the free piece at place 1 appended to it
-unfoldable pub freshNodes : Opening → List Node
-freshNodes o = append limit (topOnly limit (topDatum o)) 0 1 (firstFree o)
+unfoldable pub fresh_nodes : Opening → List Node
+fresh_nodes o = append limit (top_only limit (top_datum o)) 0 1 (first_free o)
 
 -- two nodes and two serials; the free piece is in the free list, and the top in the removable list
-unfoldable pub freshLayout : Opening → Layout
-freshLayout o =
+unfoldable pub fresh_layout : Opening → Layout
+fresh_layout o =
     record {
-      nodes = freshNodes o;
+      nodes = fresh_nodes o;
       free = padded limit (1 ∷ []);
       removable = padded limit (0 ∷ []);
       held = 2;
@@ -35,11 +35,11 @@ freshLayout o =
     }
 
 -- refusal 2: "opening number outside the domain"; "Refused: .. all zero for an opening"
-unfoldable pub openOf : Opening → Opened
-openOf o =
-    cond (domainB o.settings)
+unfoldable pub open_of : Opening → Opened
+open_of o =
+    cond (domain_b o.settings)
     (record {
       outcome = Free (record { layout = o.number; place = 1; serial = 2 });
-      layout = freshLayout o;
+      layout = fresh_layout o;
     })
-    (record { outcome = Refused OpeningOutside; layout = zeroLayout })
+    (record { outcome = Refused OpeningOutside; layout = zero_layout })

@@ -3,8 +3,8 @@ use Rattle.std.specs.Prelude.{ℕ}
 use Rattle.layout_nodes.specs.declared.LayoutNodes.{LayoutNodes}
 use Rattle.layout.specs.declared.layout.Layout.{Layout}
 
-abbrev pub nodesOf : Layout → LayoutNodes
-nodesOf l =
+abbrev pub nodes_of : Layout → LayoutNodes
+nodes_of l =
     record {
       nodes = l.nodes;
       free = record { list = l.free; count = l.frees };

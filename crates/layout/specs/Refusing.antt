@@ -5,9 +5,9 @@ use Rattle.layout.specs.declared.replies.Outcome.{Outcome}
 use Rattle.layout.specs.declared.replies.Outcome.TheVariants.{Done, Refused}
 
 -- as the code says it
-abbrev pub outcomeOf : Option Refusal → Outcome
-outcomeOf none = Done
-outcomeOf (some e) = Refused e
+abbrev pub outcome_of : Option Refusal → Outcome
+outcome_of none = Done
+outcome_of (some e) = Refused e
 
 -- "Tested in this order": the first of two
 abbrev pub or_else : Option Refusal → Option Refusal → Option Refusal

@@ -7,15 +7,15 @@ use Rattle.layout.specs.declared.layout.Layout.{Layout}
 use Rattle.layout.specs.declared.replies.Outcome.{Outcome}
 use Rattle.layout.specs.declared.replies.Outcome.TheVariants.{Done, Refused}
 use Rattle.layout.specs.declared.restore.Restored.{Restored}
-use Rattle.layout.specs.Check.{soundB}
+use Rattle.layout.specs.Check.{sound_b}
 
 -- the greater of the two
 abbrev pub greater : ℕ → ℕ → ℕ
 greater a b = cond (ltb b a) a b
 
 -- a layout with another last serial
-abbrev pub withSerial : Layout → ℕ → Layout
-withSerial l s =
+abbrev pub with_serial : Layout → ℕ → Layout
+with_serial l s =
     record {
       nodes = l.nodes;
       free = l.free;
@@ -29,15 +29,15 @@ withSerial l s =
       settings = l.settings;
     }
 
-abbrev pub refusedRestore : Layout → Refusal → Restored
-refusedRestore l r = record { outcome = Refused r; layout = l }
+abbrev pub refused_restore : Layout → Refusal → Restored
+refused_restore l r = record { outcome = Refused r; layout = l }
 
-unfoldable pub restoreOf : Layout → Layout → Restored
-restoreOf l s =
-    cond (soundB l)
-    (cond (soundB s)
+unfoldable pub restore_of : Layout → Layout → Restored
+restore_of l s =
+    cond (sound_b l)
+    (cond (sound_b s)
     (cond (eqb l.number s.number)
-    (record { outcome = Done; layout = withSerial s (greater l.serial s.serial) })
-    (refusedRestore l OtherLayout))
-    (refusedRestore l NotSound))
-    (refusedRestore l NotSound)
+    (record { outcome = Done; layout = with_serial s (greater l.serial s.serial) })
+    (refused_restore l OtherLayout))
+    (refused_restore l NotSound))
+    (refused_restore l NotSound)

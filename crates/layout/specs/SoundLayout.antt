@@ -2,7 +2,7 @@
 use Rattle.std.specs.Prelude.{◌≡◌, List, ℕ, ◌-◌, ◌≤◌, length, take, drop, replicate}
 use Rattle.tree.specs.Tree.{count}
 use Rattle.tree.specs.Sound.{Sound}
-use Rattle.tree.specs.Figures.{partArea}
+use Rattle.tree.specs.Figures.{part_area}
 pub use Rattle.tree.specs.Pieces.{Pieces, pieces_of, Before, Holding, FreeList, RemovableList, Serials}
 use Rattle.table.specs.Table.{Holds}
 use Rattle.layout.specs.declared.layout.Layout.{Layout}
@@ -20,12 +20,12 @@ pub record SoundLayout (l : Layout) : Type 0 where
   pub holds : Holds limit l.nodes (tree l)
   pub held : l.held ≡ count (tree l)
   -- "used area is the sum over parts"
-  pub used : l.used ≡ partArea (tree l)
+  pub used : l.used ≡ part_area (tree l)
   pub free : FreeList (tree l) (take l.frees l.free)
   pub removable : RemovableList (tree l) (take l.removables l.removable)
   -- "list tails .. are zero"
-  pub freeTail : Counted l.free l.frees
-  pub removableTail : Counted l.removable l.removables
+  pub free_tail : Counted l.free l.frees
+  pub removable_tail : Counted l.removable l.removables
   pub serials : Serials (tree l) l.serial
 
 -- what the type says of a layout: its three arrays have as many entries as there are places

@@ -1,15 +1,15 @@
 -- The layout of zeros. Document 01: "Node table, free list and removable list are made as repeated zero entries, 255 each, when a layout opens."
 use Rattle.std.specs.Prelude.{replicate}
 use Rattle.piece.specs.Sides.{sized}
-use Rattle.table.specs.Table.{zeroNode}
+use Rattle.table.specs.Table.{zero_node}
 use Rattle.lists.specs.Lists.{zeros}
 use Rattle.layout.specs.declared.layout.Layout.{Layout}
 use Rattle.layout.specs.Check.{limit}
 
-unfoldable pub zeroLayout : Layout
-zeroLayout =
+unfoldable pub zero_layout : Layout
+zero_layout =
     record {
-      nodes = replicate limit zeroNode;
+      nodes = replicate limit zero_node;
       free = zeros limit;
       removable = zeros limit;
       held = 0;

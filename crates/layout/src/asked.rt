@@ -1,7 +1,7 @@
 // What a call is asked about: the part, the piece that a mark names, and the head that the calls on a free piece share: `insert`, and of crate
 // `questions` the offers and why not. `sought` is asked behind the check, inside this crate.
 ghost use Rattle.std.specs.Prelude.{◌≡◌};
-ghost use Rattle.layout.specs.Asked.{freePieceOf, partB, soughtOf};
+ghost use Rattle.layout.specs.Asked.{free_piece_of, part_b, sought_of};
 
 use crate::layout::Layout;
 use crate::replies::Sought;
@@ -12,7 +12,7 @@ use table::NONE;
 
 // Whether the part's sides are in the domain.
 pub fn part_ok(part: PartType) -> bool
-    ensures { result ≡ partB part }
+    ensures { result ≡ part_b part }
 {
     let size = part.size;
     if side_ok(size.width) {
@@ -25,7 +25,7 @@ pub fn part_ok(part: PartType) -> bool
 impl Layout {
     // What a mark names: refusals 4 and 5.
     pub(crate) fn sought(self, mark: Mark) -> Sought
-        ensures { result ≡ soughtOf self mark }
+        ensures { result ≡ sought_of self mark }
     {
         if mark.layout != self.number {
             return Sought::Refused(Refusal::OtherLayout);
@@ -48,7 +48,7 @@ impl Layout {
 
     // The free piece that a mark names, for a part: refusals 1, 3, 4, 5 and 6.
     pub fn free_piece(self, mark: Mark, part: PartType) -> Sought
-        ensures { result ≡ freePieceOf self mark part }
+        ensures { result ≡ free_piece_of self mark part }
     {
         if self.sound() {} else {
             return Sought::Refused(Refusal::NotSound);

@@ -2,7 +2,7 @@
 // layout. The table is gone through twice: by its rows, which marks what hangs, and by its places. The answers are looked at together, since the
 // compiler takes what stands behind an early return for rare; `rest_ok` waits for them.
 ghost use Rattle.std.specs.Prelude.{◌≡◌};
-ghost use Rattle.layout.specs.Check.{soundB};
+ghost use Rattle.layout.specs.Check.{sound_b};
 
 use crate::layout::Layout;
 use lists::flags::flags_of;
@@ -14,7 +14,7 @@ use table::LIMIT;
 impl Layout {
     // Whether this is a sound layout, document 01's whole paragraph.
     pub fn sound(self) -> bool
-        ensures { result ≡ soundB self }
+        ensures { result ≡ sound_b self }
     {
         let nodes = self.nodes;
         let free = self.free;

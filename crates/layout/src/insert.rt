@@ -1,9 +1,9 @@
 // Booking a part in a free piece. Rust: implement_insertion_blueprint of core/entities/layout.rs, after its `InsertionOption` is looked for among
 // the offers. The steps are those of crate `booking`; here are the refusals, in document 01's order, and the layout as a whole.
 ghost use Rattle.std.specs.Prelude.{◌≡◌, ◌≤◌};
-ghost use Rattle.layout.specs.Check.{limit, maxSerial};
-ghost use Rattle.layout.specs.Refusing.{outcomeOf};
-ghost use Rattle.layout.specs.Insert.{InsertDone, InsertSays, bookNo, bookingFor, refusedInsert};
+ghost use Rattle.layout.specs.Check.{limit, max_serial};
+ghost use Rattle.layout.specs.Refusing.{outcome_of};
+ghost use Rattle.layout.specs.Insert.{InsertDone, InsertSays, book_no, booking_for, refused_insert};
 ghost use Rattle.layout.specs.Inner.{Insertable};
 
 use crate::layout::Layout;
@@ -29,7 +29,7 @@ pub struct Inserted {
 
 impl Layout {
     fn refused_insert(self, refusal: Refusal) -> Inserted
-        ensures { result ≡ refusedInsert self refusal }
+        ensures { result ≡ refused_insert self refusal }
     {
         Inserted {
             outcome: Outcome::Refused(refusal),
@@ -46,8 +46,8 @@ impl Layout {
         rotation: Rotation,
         shape: InsertionShape,
     ) -> Outcome
-        requires { (1 ≤ self.held) × (self.held ≤ limit) × (self.serial ≤ maxSerial) }
-        ensures { result ≡ outcomeOf (bookNo self piece part rotation shape) }
+        requires { (1 ≤ self.held) × (self.held ≤ limit) × (self.serial ≤ max_serial) }
+        ensures { result ≡ outcome_of (book_no self piece part rotation shape) }
     {
         if is_offered(piece, part, self.settings, rotation, shape) {} else {
             return Outcome::Refused(Refusal::NotOffered);
@@ -71,7 +71,7 @@ impl Layout {
         shape: InsertionShape,
     ) -> Inserted
         requires { Insertable self place part rotation shape }
-        ensures { InsertDone self place (bookingFor self place part rotation shape) result }
+        ensures { InsertDone self place (booking_for self place part rotation shape) result }
     {
         let size = part.size_in(rotation);
         let new = shape.new_count();

@@ -1,7 +1,7 @@
 // The opening. Rust: Layout::new and LayoutNodes::new of core/entities/layout.rs, Node::new of core/entities/node.rs. Document 01, "Open".
 ghost use Rattle.std.specs.Prelude.{◌≡◌};
-ghost use Rattle.layout.specs.Zero.{zeroLayout};
-ghost use Rattle.layout.specs.Open.{freshLayout, freshNodes, openOf};
+ghost use Rattle.layout.specs.Zero.{zero_layout};
+ghost use Rattle.layout.specs.Open.{fresh_layout, fresh_nodes, open_of};
 
 use crate::layout::Layout;
 use marks::{Mark, Refusal};
@@ -29,7 +29,7 @@ pub struct Opened {
 
 // The table with the top at place 0 and its only child, the free piece, at place 1.
 fn fresh_nodes(opening: Opening) -> [Node; LIMIT]
-    ensures { result ≡ freshNodes opening }
+    ensures { result ≡ fresh_nodes opening }
 {
     let size = opening.settings.sheet;
     let cut = opening.cut;
@@ -73,7 +73,7 @@ fn fresh_nodes(opening: Opening) -> [Node; LIMIT]
 impl Layout {
     // All zero: what a refused opening hands back.
     pub fn zero() -> Layout
-        ensures { result ≡ zeroLayout }
+        ensures { result ≡ zero_layout }
     {
         Layout {
             nodes: empty_table(),
@@ -98,7 +98,7 @@ impl Layout {
 
     // The layout as it opens. The free list holds place 1, and the removable list the top, which is at place 0.
     fn fresh(opening: Opening) -> Layout
-        ensures { result ≡ freshLayout opening }
+        ensures { result ≡ fresh_layout opening }
     {
         let settings = opening.settings;
         let nodes = fresh_nodes(opening);
@@ -120,7 +120,7 @@ impl Layout {
 
     // A layout with one free piece of the sheet's size, or refusal 2.
     pub fn open(opening: Opening) -> Opened
-        ensures { result ≡ openOf opening }
+        ensures { result ≡ open_of opening }
     {
         if domain_ok(opening.settings) {} else {
             let layout = Layout::zero();

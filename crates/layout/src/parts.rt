@@ -1,7 +1,7 @@
 // The nodes and the lists of a layout, as the steps of a booking and a removal take them; and a layout with others. Rust: the field `nodes` of Layout.
 ghost use Rattle.std.specs.Prelude.{◌≡◌, ◌≤◌};
 ghost use Rattle.lists.specs.Lists.{limit};
-ghost use Rattle.layout.specs.Parts.{nodesOf, with_nodes};
+ghost use Rattle.layout.specs.Parts.{nodes_of, with_nodes};
 
 use crate::layout::Layout;
 use layout_nodes::LayoutNodes;
@@ -9,7 +9,7 @@ use layout_nodes::listing::Listing;
 
 impl Layout {
     pub(crate) fn layout_nodes(self) -> LayoutNodes
-        ensures { result ≡ nodesOf self }
+        ensures { result ≡ nodes_of self }
     {
         let nodes = self.nodes;
         let list = self.free;

@@ -1,8 +1,8 @@
 // Taking a part or a structure out. Rust: remove_node of core/entities/layout.rs. The steps are those of crate `removal`; here are the refusals, in
 // document 01's order, and the layout as a whole.
 ghost use Rattle.std.specs.Prelude.{◌≡◌, length, ◌≤◌};
-ghost use Rattle.layout.specs.Refusing.{outcomeOf};
-ghost use Rattle.layout.specs.Remove.{RemoveDone, RemoveSays, goNo, numbersLeft, numbersOut, outAfter, refusedRemove, removeIs, roomNo};
+ghost use Rattle.layout.specs.Refusing.{outcome_of};
+ghost use Rattle.layout.specs.Remove.{RemoveDone, RemoveSays, go_no, numbers_left, numbers_out, out_after, refused_remove, remove_is, room_no};
 ghost use Rattle.layout.specs.Inner.{Leaving, Takeable};
 
 use crate::layout::Layout;
@@ -25,7 +25,7 @@ pub struct Removed {
 
 impl Layout {
     fn refused_remove(self, refusal: Refusal) -> Removed
-        ensures { result ≡ refusedRemove self refusal }
+        ensures { result ≡ refused_remove self refusal }
     {
         Removed {
             outcome: Outcome::Refused(refusal),
@@ -37,7 +37,7 @@ impl Layout {
 
     // Refusals 10, 11 and 9, of the piece that the mark names.
     fn may_go(self, place: u16, piece: Datum) -> Outcome
-        ensures { result ≡ outcomeOf (goNo self place piece) }
+        ensures { result ≡ outcome_of (go_no self place piece) }
     {
         if place == 0 {
             return Outcome::Refused(Refusal::TheTop);
@@ -53,7 +53,7 @@ impl Layout {
     }
     // The nodes and the lists without what goes, and the mark of the new free piece.
     fn without(self, place: u16, g: Going, count: usize) -> Removed
-        requires { Takeable self place × Leaving self place g × (count ≡ length (numbersOut self place)) }
+        requires { Takeable self place × Leaving self place g × (count ≡ length (numbers_out self place)) }
         ensures { RemoveDone self place result }
     {
         let nodes = self.nodes;
@@ -80,9 +80,9 @@ impl Layout {
     // The piece at the place goes, if the buffer has room for the part numbers: refusal 13.
     fn taken_out(self, place: u16, out: &mut [u16]) -> Removed
         requires { Takeable self place }
-        ensures says { removeIs (roomNo self place (length out.old)) self place result }
+        ensures says { remove_is (room_no self place (length out.old)) self place result }
         ensures written { out.new
-            ≡ outAfter (roomNo self place (length out.old)) (numbersOut self place) out.old }
+            ≡ out_after (room_no self place (length out.old)) (numbers_out self place) out.old }
     {
         let nodes = self.nodes;
         let g = going_with(nodes, place, self.held as usize);
@@ -98,7 +98,7 @@ impl Layout {
     // The part or structure that the mark names goes, with all below it; its part numbers come out into the buffer.
     pub fn remove(self, mark: Mark, out: &mut [u16]) -> Removed
         ensures says { RemoveSays self mark (length out.old) result }
-        ensures written { out.new ≡ numbersLeft self mark out.old }
+        ensures written { out.new ≡ numbers_left self mark out.old }
     {
         if self.sound() {} else {
             return self.refused_remove(Refusal::NotSound);

@@ -1,6 +1,6 @@
 // Putting a sheet back as it stood. Rust: restore_from of core/entities/layout.rs, put right: the keys do not go back with it.
 ghost use Rattle.std.specs.Prelude.{◌≡◌};
-ghost use Rattle.layout.specs.Restore.{refusedRestore, restoreOf};
+ghost use Rattle.layout.specs.Restore.{refused_restore, restore_of};
 
 use crate::layout::Layout;
 use crate::replies::Outcome;
@@ -15,7 +15,7 @@ pub struct Restored {
 
 impl Layout {
     fn refused_restore(self, refusal: Refusal) -> Restored
-        ensures { result ≡ refusedRestore self refusal }
+        ensures { result ≡ refused_restore self refusal }
     {
         Restored {
             outcome: Outcome::Refused(refusal),
@@ -25,7 +25,7 @@ impl Layout {
 
     // The snapshot's state, with the greater of the two last serials, so that none is issued twice.
     pub fn restore(self, snapshot: Layout) -> Restored
-        ensures { result ≡ restoreOf self snapshot }
+        ensures { result ≡ restore_of self snapshot }
     {
         if self.sound() {} else {
             return self.refused_restore(Refusal::NotSound);

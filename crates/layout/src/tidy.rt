@@ -3,9 +3,9 @@
 ghost use Rattle.std.specs.Prelude.{◌≡◌, []};
 ghost use Rattle.tree.specs.Tidy.{Untidy};
 ghost use Rattle.layout.specs.Check.{tree};
-ghost use Rattle.layout.specs.Remove.{RemoveDone, numbersOut};
+ghost use Rattle.layout.specs.Remove.{RemoveDone, numbers_out};
 ghost use Rattle.layout.specs.Inner.{Takeable};
-ghost use Rattle.layout.specs.Tidy.{TidySays, refusedTidy};
+ghost use Rattle.layout.specs.Tidy.{TidySays, refused_tidy};
 
 use crate::layout::Layout;
 use crate::remove::Removed;
@@ -25,7 +25,7 @@ pub struct Tidied {
 
 impl Layout {
     fn refused_tidy(self, refusal: Refusal) -> Tidied
-        ensures { result ≡ refusedTidy self refusal }
+        ensures { result ≡ refused_tidy self refusal }
     {
         Tidied {
             outcome: Outcome::Refused(refusal),
@@ -36,7 +36,7 @@ impl Layout {
 
     // The structure at the place goes, with the free piece below it. Its steps are apart from those of remove.rt: crate `removal`, src/untidy.rt, says why.
     fn emptied(self, place: u16) -> Removed
-        requires { Takeable self place × (numbersOut self place ≡ []) × Untidy place (tree self) }
+        requires { Takeable self place × (numbers_out self place ≡ []) × Untidy place (tree self) }
         ensures { RemoveDone self place result }
     {
         let nodes = self.nodes;

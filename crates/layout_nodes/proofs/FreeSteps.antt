@@ -10,7 +10,7 @@ use lib.ListN.{get_or, length}
 use Rattle.piece.specs.declared.node.Datum.{Datum}
 use Rattle.piece.specs.declared.node.Kind.TheVariants.{Free}
 use Rattle.piece.specs.Sides.{area}
-use Rattle.tree.specs.ListSteps.{omit, omitAll, berth, put, Names}
+use Rattle.tree.specs.ListSteps.{omit, omit_all, berth, put, Names}
 use Rattle.tree.specs.Pieces.{Pieces, Before, Holding, FreeOf}
 use Rattle.tree.proofs.ListSteps.{Orderly, same-orderly, cut-orderly}
 use Rattle.tree.proofs.ListSteps.{Up, down-of, up-side, up-order, Wider, down-in, berth-most, berth-holds, berth-before, put-wider}
@@ -78,7 +78,7 @@ pub free-cut-all : (A A' : Pieces) (ps xs : List ℕ)
     → ((i : ℕ) (e : Datum) → A' i e → e.kind ≡ Free → A i e)
     → ((i : ℕ) (e : Datum) → A' i e → e.kind ≡ Free → Names i ps → ⊥)
     → ((i : ℕ) (e f : Datum) → A' i e → A' i f → e ≡ f)
-    → FreeOf A xs → FreeOf A' (omitAll xs ps)
+    → FreeOf A xs → FreeOf A' (omit_all xs ps)
 free-cut-all A A' [] xs old back gone one f = free-same A A' xs (λ i e y q. old i e y q (λ n. n)) back one f
 free-cut-all A A' (p ∷ ps) xs old back gone one f =
     let B : Pieces = λ i e. A i e × (i ≡ p → ⊥) × IsFree e in

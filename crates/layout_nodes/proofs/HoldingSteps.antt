@@ -11,7 +11,7 @@ use Rattle.piece.specs.declared.node.Datum.{Datum}
 use Rattle.piece.specs.Row.{nil, grow}
 use Rattle.lists.specs.Lists.{limit}
 use Rattle.tree.specs.Tree.{Tree, At, In, count}
-use Rattle.tree.specs.ListSteps.{spot, omit, strike, push, strikeAll, Names}
+use Rattle.tree.specs.ListSteps.{spot, omit, strike, push, strike_all, Names}
 use Rattle.tree.specs.Pieces.{Pieces, pieces_of, Holding}
 use Rattle.tree.proofs.ListSteps.{Absent, spot-case, cut-absent, strike-absent}
 use Rattle.tree.proofs.ListSteps.{Up, down-of, up_of, up-order, Wider, up_in, down-in, push-wider, Fewer, cut-fewer, strike-fewer}
@@ -142,7 +142,7 @@ module _ (P : Datum → Type 0) (A A' : Pieces) (x : ℕ) (xs : List ℕ)
 pub holding-strike-all : (P : Datum → Type 0) (A A' : Pieces) (ps xs : List ℕ)
     → ((i : ℕ) (e : Datum) → A i e → P e → (Names i ps → ⊥) → A' i e)
     → ((i : ℕ) (e : Datum) → A' i e → P e → A i e × (Names i ps → ⊥))
-    → Holding P A xs → Holding P A' (strikeAll xs ps)
+    → Holding P A xs → Holding P A' (strike_all xs ps)
 holding-strike-all P A A' [] xs old back h =
     holding-same P A A' xs (λ i e y q. old i e y q (λ n. n)) (λ i e y q. (back i e y q).0) h
 holding-strike-all P A A' (p ∷ ps) xs old back h =

@@ -10,16 +10,16 @@ use native.Mathlib.Decide.{dec_lt}
 use lib.ListN.{get_or, set, length, take, drop, replicate, length-append, drop_of_length-le, get_or-append}
 use lib.Seq.{take-suc, take_all, take-append-le, drop-append-le, get_or-append_seam, get_or-take, length-take-le}
 use Rattle.tree.proofs.Rows.{same?}
-use Rattle.tree.specs.ListSteps.{Names, omit, omitAll, push, spot}
+use Rattle.tree.specs.ListSteps.{Names, omit, omit_all, push, spot}
 use Rattle.tree.proofs.ListSteps.{Absent, spot-case, cut-absent, cut-fewer}
 use Rattle.lists.specs.Lists.{limit, padded, entries}
 use Rattle.lists.specs.Search.{index_of}
 use Rattle.lists.proofs.Found.{index-before, index-found, index-holds}
 use Rattle.layout_nodes.specs.declared.listing.Listing.{Listing}
-use Rattle.layout_nodes.specs.Listings.{Kept, entriesOf, listing}
-use Rattle.layout_nodes.specs.Spots.{spotsOf}
+use Rattle.layout_nodes.specs.Listings.{Kept, entries_of, listing}
+use Rattle.layout_nodes.specs.Spots.{spots_of}
 use Rattle.layout_nodes.specs.Inner.{Single}
-use Rattle.layout_nodes.proofs.Listed.{cut-each, all-length-most, entries-are, getD-entries, kept-as, length-entries, push-one}
+use Rattle.layout_nodes.proofs.Listed.{cut-each, all-length-most, entries-are, get_or-entries, kept-as, length-entries, push-one}
 use Rattle.layout_nodes.proofs.Naming.{named, unnamed}
 use Rattle.layout_nodes.proofs.Lookup.{spots-at}
 
@@ -86,22 +86,22 @@ module _ (y : ℕ) (xs : List ℕ) where
 
 -- ---- several places
 
-pub cut-all-keeps : (y : ℕ) (ps xs : List ℕ) → Absent y xs → (Names y ps → ⊥) → omitAll (push xs y) ps ≡ push (omitAll xs ps) y
+pub cut-all-keeps : (y : ℕ) (ps xs : List ℕ) → Absent y xs → (Names y ps → ⊥) → omit_all (push xs y) ps ≡ push (omit_all xs ps) y
 cut-all-keeps y [] xs absent none = refl
 cut-all-keeps y (p ∷ ps) xs absent none =
     rw (cut-front y xs p (λ e. none (inl (sym e)))) (cut-all-keeps y ps (omit xs p) (cut-still y xs absent p) (λ n. none (inr n)))
 
-pub cut-all-drops : (y : ℕ) (ps xs : List ℕ) → Absent y xs → Names y ps → omitAll (push xs y) ps ≡ omitAll xs ps
+pub cut-all-drops : (y : ℕ) (ps xs : List ℕ) → Absent y xs → Names y ps → omit_all (push xs y) ps ≡ omit_all xs ps
 cut-all-drops y [] xs absent named = absurd named
 cut-all-drops y (p ∷ ps) xs absent named = go (same? p y) named (cut-all-drops y ps (omit xs p) (cut-still y xs absent p))
   where
-    go : (p ≡ y) ⊎ (p ≡ y → ⊥) → (y ≡ p) ⊎ Names y ps → (Names y ps → omitAll (push (omit xs p) y) ps ≡ omitAll (omit xs p) ps)
-        → omitAll (omit (push xs y) p) ps ≡ omitAll (omit xs p) ps
+    go : (p ≡ y) ⊎ (p ≡ y → ⊥) → (y ≡ p) ⊎ Names y ps → (Names y ps → omit_all (push (omit xs p) y) ps ≡ omit_all (omit xs p) ps)
+        → omit_all (omit (push xs y) p) ps ≡ omit_all (omit xs p) ps
     go (inl e) n ih = rw (e, cut-end y xs absent, cut-absent xs y absent) refl
     go (inr e) (inl n) ih = absurd (e (sym n))
     go (inr e) (inr n) ih = rw (cut-front y xs p e) (ih n)
 
-cut-all-none : (ps : List ℕ) → omitAll [] ps ≡ []
+cut-all-none : (ps : List ℕ) → omit_all [] ps ≡ []
 cut-all-none [] = refl
 cut-all-none (p ∷ ps) = rw (cut-absent [] p (λ k b e. omega arith)) (cut-all-none ps)
 
@@ -109,7 +109,7 @@ cut-all-none (p ∷ ps) = rw (cut-absent [] p (λ k b e. omega arith)) (cut-all-
 
 -- m is what the order leaves of the first i entries of xs
 abbrev pub Passed : (xs order : List ℕ) (count i : ℕ) → Listing → Type 0
-Passed xs order count i m = m ≡ listing (omitAll (take i xs) (entries count order))
+Passed xs order count i m = m ≡ listing (omit_all (take i xs) (entries count order))
 
 module _ (order : List ℕ) (count : ℕ) where
   abbrev ps : List ℕ
@@ -119,33 +119,33 @@ module _ (order : List ℕ) (count : ℕ) where
   unfolding padded
   passed_none xs = rw (cut-all-none ps) refl
 
-  module _ {l : Listing} (kept : Kept l) (single : Single (entriesOf l)) {m : Listing} (i : ℕ) (b : i < l.count)
-      (e : Passed (entriesOf l) order count i m) where
+  module _ {l : Listing} (kept : Kept l) (single : Single (entries_of l)) {m : Listing} (i : ℕ) (b : i < l.count)
+      (e : Passed (entries_of l) order count i m) where
     abbrev xs : List ℕ
-    xs = entriesOf l
+    xs = entries_of l
 
     -- the entry whose turn it is
     abbrev y : ℕ
     y = get_or l.list i 0
 
     abbrev zs : List ℕ
-    zs = omitAll (take i xs) ps
+    zs = omit_all (take i xs) ps
 
     inside : i < length xs
     inside = let n = length-entries kept in omega arith
 
     next : take (i + 1) xs ≡ push (take i xs) y
-    next = rw (add-one i, take-suc xs i 0 inside, getD-entries kept i) refl
+    next = rw (add-one i, take-suc xs i 0 inside, get_or-entries kept i) refl
 
     apart : Absent y (take i xs)
     apart k c f =
         let n = length-take-le i xs (omega (arith, inside)) in
         let d : k < i = omega arith in
-        let z = single.once k i (omega (arith, inside)) inside (sym (get_or-take i xs k 0 d) ∙ f ∙ getD-entries kept i) in
+        let z = single.once k i (omega (arith, inside)) inside (sym (get_or-take i xs k 0 d) ∙ f ∙ get_or-entries kept i) in
         omega arith
 
     pub low : y < limit
-    low = rw (getD-entries kept i) (single.low i inside)
+    low = rw (get_or-entries kept i) (single.low i inside)
 
     most : length zs ≤ i
     most = omega (arith, all-length-most cut-each (take i xs) ps, length-take-le i xs (omega (arith, inside)))
@@ -153,7 +153,7 @@ module _ (order : List ℕ) (count : ℕ) where
     pub passed-room : m.count < limit
     passed-room = omega (arith, most, kept.room, ap (λ (v : Listing). v.count) e)
 
-    pub passed-keep : count ≤ get_or (spotsOf order count) y 0
+    pub passed-keep : count ≤ get_or (spots_of order count) y 0
         → Passed xs order count (i + 1) (record { list = set m.list m.count y; count = m.count + 1 })
     passed-keep h =
         let s = spots-at order count y low in
@@ -161,13 +161,13 @@ module _ (order : List ℕ) (count : ℕ) where
         push-one (kept-as zs e (omega (arith, most, kept.room))) y passed-room
         ∙ rw (entries-are zs e, next, cut-all-keeps y ps (take i xs) apart out) refl
 
-    pub passed-drop : get_or (spotsOf order count) y 0 < count → Passed xs order count (i + 1) m
+    pub passed-drop : get_or (spots_of order count) y 0 < count → Passed xs order count (i + 1) m
     passed-drop h =
         let s = spots-at order count y low in
         let c : index_of order count y < count = omega arith in
         let out = named y order count (index_of order count y) c (index-holds order count y c) in
         e ∙ rw (next, cut-all-drops y ps (take i xs) apart out) refl
 
-  pub passed-all : {l m : Listing} → Kept l → {i : ℕ} → i ≡ l.count → Passed (entriesOf l) order count i m
-      → m ≡ listing (omitAll (entriesOf l) (entries count order))
-  passed-all {l} kept {i} f e = e ∙ rw (take_all i (entriesOf l) (omega (arith, length-entries kept))) refl
+  pub passed-all : {l m : Listing} → Kept l → {i : ℕ} → i ≡ l.count → Passed (entries_of l) order count i m
+      → m ≡ listing (omit_all (entries_of l) (entries count order))
+  passed-all {l} kept {i} f e = e ∙ rw (take_all i (entries_of l) (omega (arith, length-entries kept))) refl

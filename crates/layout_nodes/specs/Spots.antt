@@ -5,5 +5,5 @@ use Rattle.lists.specs.Search.{index_of}
 use Rattle.lists.specs.Flags.{column}
 
 -- the first index of each place among the first n entries, or n
-unfoldable pub spotsOf : List ℕ → ℕ → List ℕ
-spotsOf l n = column (index_of l n) limit 0
+unfoldable pub spots_of : List ℕ → ℕ → List ℕ
+spots_of l n = column (index_of l n) limit 0

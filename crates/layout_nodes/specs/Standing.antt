@@ -8,14 +8,14 @@ use Rattle.tree.specs.Pieces.{FreeList, RemovableList, Serials}
 use Rattle.table.specs.Table.{Holds}
 use Rattle.lists.specs.Lists.{limit}
 use Rattle.layout_nodes.specs.declared.LayoutNodes.{LayoutNodes}
-use Rattle.layout_nodes.specs.Listings.{Kept, entriesOf}
+use Rattle.layout_nodes.specs.Listings.{Kept, entries_of}
 
 -- the tree is w and the last serial issued is last
 pub record Stands (settings : Settings) (last : ℕ) (w : Tree) (n : LayoutNodes) : Type 0 where
   pub sound : Sound limit settings w
   pub holds : Holds limit n.nodes w
-  pub free : FreeList w (entriesOf n.free)
-  pub removable : RemovableList w (entriesOf n.removable)
-  pub freeKept : Kept n.free
-  pub removableKept : Kept n.removable
+  pub free : FreeList w (entries_of n.free)
+  pub removable : RemovableList w (entries_of n.removable)
+  pub free_kept : Kept n.free
+  pub removable_kept : Kept n.removable
   pub serials : Serials w last

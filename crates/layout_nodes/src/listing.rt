@@ -1,11 +1,11 @@
 // A list of places: the entries that count, and zeros behind them.
 ghost use Rattle.std.specs.Prelude.{◌≡◌, ◌<◌, ◌≤◌};
 ghost use Rattle.tree.specs.ListSteps as spec;
-ghost use Rattle.tree.specs.ListSteps.{berth, omitAll, strikeAll};
+ghost use Rattle.tree.specs.ListSteps.{berth, omit_all, strike_all};
 ghost use Rattle.lists.specs.Lists.{limit, entries};
 ghost use Rattle.layout_nodes.specs.Inner.{Single};
-ghost use Rattle.table.specs.Columns.{areasOf};
-ghost use Rattle.layout_nodes.specs.Listings.{Kept, areaAt, entriesOf, listing};
+ghost use Rattle.table.specs.Columns.{areas_of};
+ghost use Rattle.layout_nodes.specs.Listings.{Kept, area_at, entries_of, listing};
 
 use crate::spots::{spot_in, spots_of};
 use lists::LIMIT;
@@ -23,7 +23,7 @@ impl Listing {
     // The list without a place; what stood behind it moves up.
     pub fn omit(self, place: u16) -> Listing
         requires { Kept self }
-        ensures { result ≡ listing (spec.omit (entriesOf self) place) }
+        ensures { result ≡ listing (spec.omit (entries_of self) place) }
     {
         let mut list = self.list;
         let count = self.count;
@@ -40,7 +40,7 @@ impl Listing {
     // The list without a place; the final entry goes into the hole.
     pub fn strike(self, place: u16) -> Listing
         requires { Kept self }
-        ensures { result ≡ listing (spec.strike (entriesOf self) place) }
+        ensures { result ≡ listing (spec.strike (entries_of self) place) }
     {
         let mut list = self.list;
         let count = self.count;
@@ -57,7 +57,7 @@ impl Listing {
     // A new entry comes last.
     pub fn push(self, place: u16) -> Listing
         requires { Kept self × (self.count < limit) }
-        ensures { result ≡ listing (spec.push (entriesOf self) place) }
+        ensures { result ≡ listing (spec.push (entries_of self) place) }
     {
         let mut list = self.list;
         let end = self.count;
@@ -71,8 +71,8 @@ impl Listing {
     // Several places are left out, one after the other: those at the first `count` entries of the order. As no place stands twice in the list, one
     // pass that leaves them out does it.
     pub fn omit_all(self, order: &[u16; LIMIT], count: usize) -> Listing
-        requires { Kept self × (count ≤ limit) × Single (entriesOf self) }
-        ensures { result ≡ listing (omitAll (entriesOf self) (entries count order.now)) }
+        requires { Kept self × (count ≤ limit) × Single (entries_of self) }
+        ensures { result ≡ listing (omit_all (entries_of self) (entries count order.now)) }
     {
         let old = self.list;
         let n = self.count;
@@ -94,8 +94,8 @@ impl Listing {
 
     // They are struck out. A column says where each entry stands; the final entry, which goes into the hole, stands there then.
     pub fn strike_all(self, order: &[u16; LIMIT], count: usize) -> Listing
-        requires { Kept self × (count ≤ limit) × Single (entriesOf self) }
-        ensures { result ≡ listing (strikeAll (entriesOf self) (entries count order.now)) }
+        requires { Kept self × (count ≤ limit) × Single (entries_of self) }
+        ensures { result ≡ listing (strike_all (entries_of self) (entries count order.now)) }
     {
         let mut list = self.list;
         let mut n = self.count;
@@ -118,7 +118,7 @@ impl Listing {
     // The first index with a smaller area than that of the place, or the count.
     fn berth(self, areas: &[u64; LIMIT], place: u16) -> usize
         requires { Kept self }
-        ensures { result ≡ berth (areaAt areas.now) (entriesOf self) place }
+        ensures { result ≡ berth (area_at areas.now) (entries_of self) place }
     {
         let list = self.list;
         let count = self.count;
@@ -139,7 +139,7 @@ impl Listing {
     // A place that is newer than all others is put in where its area belongs; the areas come as a column.
     pub fn put(self, areas: &[u64; LIMIT], place: u16) -> Listing
         requires { Kept self × (self.count < limit) }
-        ensures { result ≡ listing (spec.put (areaAt areas.now) (entriesOf self) place) }
+        ensures { result ≡ listing (spec.put (area_at areas.now) (entries_of self) place) }
     {
         let mut list = self.list;
         let count = self.count;
@@ -154,7 +154,7 @@ impl Listing {
 
 // The column of the areas, taken out of the nodes once, so that it can be lent.
 pub fn areas_of(nodes: [Node; LIMIT]) -> [u64; LIMIT]
-    ensures { result ≡ areasOf nodes }
+    ensures { result ≡ areas_of nodes }
 {
     let mut areas = [0u64; LIMIT];
     let mut i: usize = 0;
@@ -170,7 +170,7 @@ pub fn areas_of(nodes: [Node; LIMIT]) -> [u64; LIMIT]
 
 // The area at a place of the column, and 0 where there is no such place.
 fn area_at(areas: &[u64; LIMIT], place: u16) -> u64
-    ensures { result ≡ areaAt areas.now place }
+    ensures { result ≡ area_at areas.now place }
 {
     let p = wide(place);
     if p < LIMIT { areas[p] } else { 0 }

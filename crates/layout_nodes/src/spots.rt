@@ -2,7 +2,7 @@
 ghost use Rattle.std.specs.Prelude.{◌≡◌, ◌≤◌};
 ghost use Rattle.lists.specs.Lists.{limit};
 ghost use Rattle.lists.specs.Search.{index_of};
-ghost use Rattle.layout_nodes.specs.Spots.{spotsOf};
+ghost use Rattle.layout_nodes.specs.Spots.{spots_of};
 ghost use Rattle.layout_nodes.specs.Inner.{Spotted};
 
 use lists::LIMIT;
@@ -11,7 +11,7 @@ use lists::search::wide;
 // The first index at which each place stands among the first entries, or the count. The entries are passed from behind, so that the first one stays.
 pub fn spots_of(list: &[u16; LIMIT], count: usize) -> [usize; LIMIT]
     requires { count ≤ limit }
-    ensures { result ≡ spotsOf list.now count }
+    ensures { result ≡ spots_of list.now count }
 {
     let mut spots = [count; LIMIT];
     let mut i = count;

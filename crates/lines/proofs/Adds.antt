@@ -10,13 +10,13 @@ use lib.ListN.{length, drop, get_or, drop_of_length-le}
 use lib.Seq.{drop-cons}
 use Rattle.lines.specs.declared.stream.Pending.{Pending}
 use Rattle.lines.specs.declared.stream.Event.TheVariants.{Whole, Long, More}
-use Rattle.lines.specs.Lines.{newlineFrom, charsAt, past_at}
+use Rattle.lines.specs.Lines.{newline_from, chars_at, past_at}
 use Rattle.lines.proofs.Ahead.{chars-length}
-use Rattle.lines.specs.Stream.{addChar, adds, step_of, take_of}
+use Rattle.lines.specs.Stream.{add_char, adds, step_of, take_of}
 
 -- a line that is too long stays as it is
-add-over : (p : Pending) (x : ℕ) → p.over ≡ true → addChar p x ≡ p
-unfolding addChar
+add-over : (p : Pending) (x : ℕ) → p.over ≡ true → add_char p x ≡ p
+unfolding add_char
 add-over p x o = rw o refl
 
 pub adds-over : (p : Pending) (s : List ℕ) → p.over ≡ true → adds p s ≡ p
@@ -24,7 +24,7 @@ unfolding adds
 adds-over p [] o = refl
 adds-over p (x ∷ s) o = ap (λ (q : Pending). adds q s) (add-over p x o) ∙ adds-over p s o
 
-pub adds-next : (p : Pending) (s : List ℕ) (i : ℕ) → i < length s → adds (addChar p (get_or s i 0)) (drop (i + 1) s) ≡ adds p (drop i s)
+pub adds-next : (p : Pending) (s : List ℕ) (i : ℕ) → i < length s → adds (add_char p (get_or s i 0)) (drop (i + 1) s) ≡ adds p (drop i s)
 unfolding adds
 adds-next p s i h = rw (add-one i, drop-cons s i 0 h) refl
 
@@ -32,14 +32,14 @@ pub adds_none : (p : Pending) (s : List ℕ) (i : ℕ) → length s ≤ i → ad
 unfolding adds
 adds_none p s i h = rw (drop_of_length-le s h) refl
 
-pub adds_one : (p : Pending) (x : ℕ) → adds p (x ∷ []) ≡ addChar p x
+pub adds_one : (p : Pending) (x : ℕ) → adds p (x ∷ []) ≡ add_char p x
 unfolding adds
 adds_one p x = refl
 
 pub adds-append : (p : Pending) (a b : List ℕ) → adds p (a ++ b) ≡ adds (adds p a) b
 unfolding adds
 adds-append p [] b = refl
-adds-append p (x ∷ a) b = adds-append (addChar p x) a b
+adds-append p (x ∷ a) b = adds-append (add_char p x) a b
 
 -- a step: the characters of the chunk there, what is pending with them, and where the text goes on
 pub record Step : Type 0 where
@@ -49,16 +49,16 @@ pub record Step : Type 0 where
   pub chars : List ℕ
   pub q : Pending
   pub n : ℕ
-  pub are : chars ≡ charsAt chunk at
+  pub are : chars ≡ chars_at chunk at
   pub made : q ≡ adds p chars
   pub there : n ≡ past_at chunk at
 
 -- its cases: how far the text goes on tells whether a newline stands behind the characters
 module _ (s : Step) where
   abbrev end : ℕ
-  end = newlineFrom s.chunk s.at
+  end = newline_from s.chunk s.at
 
-  grown : s.q ≡ adds s.p (charsAt s.chunk s.at)
+  grown : s.q ≡ adds s.p (chars_at s.chunk s.at)
   grown = s.made ∙ ap (adds s.p) s.are
 
   reach : s.at + length s.chars ≡ end

@@ -8,7 +8,7 @@ use native.Mathlib.Omega.{arith}
 use lib.Dec.{eqb}
 use lib.ListN.{length, take, drop, length-drop, drop_of_length-le}
 use lib.Seq.{append_snoc, drop-drop, drop-cons}
-use Rattle.lines.specs.Lines.{ahead, newlineFrom, charsAt, past_at}
+use Rattle.lines.specs.Lines.{ahead, newline_from, chars_at, past_at}
 use Rattle.lines.specs.Text.{cut, line_of, last_of, lines_from, lines_of}
 use Rattle.lines.proofs.Ahead.{past-line}
 
@@ -37,16 +37,16 @@ from-rest a (x ∷ s) h = go (eqb x 10) h (λ g. from-rest (a ++ x ∷ []) s g)
     go false h more = rw (← append_snoc a x s) (more (omega arith))
 
 -- the three cases of the line finder: a line and those after it; a last one that lacks its newline; the end
-pub walk-line : (s : List ℕ) (at : ℕ) → newlineFrom s at < length s
-    → lines_of (drop at s) ≡ line_of (charsAt s at) ∷ lines_of (drop (past_at s at) s)
-unfolding newlineFrom charsAt
+pub walk-line : (s : List ℕ) (at : ℕ) → newline_from s at < length s
+    → lines_of (drop at s) ≡ line_of (chars_at s at) ∷ lines_of (drop (past_at s at) s)
+unfolding newline_from chars_at
 walk-line s at h =
     let t = drop at s in
     let m : at + ahead t + 1 ≡ at + suc (ahead t) = omega arith in
     rw (← past-line s at h, m, ← drop-drop (suc (ahead t)) at s) (from-line [] t (omega (arith, length-drop at s)))
 
-pub walk-rest : (s : List ℕ) (at : ℕ) → at < length s → length s ≤ newlineFrom s at → lines_of (drop at s) ≡ cut ∷ []
-unfolding newlineFrom last_of
+pub walk-rest : (s : List ℕ) (at : ℕ) → at < length s → length s ≤ newline_from s at → lines_of (drop at s) ≡ cut ∷ []
+unfolding newline_from last_of
 walk-rest s at l h =
     from-rest [] (drop at s) (omega (arith, length-drop at s)) ∙ ap last_of (drop-cons s at 0 l)
 

@@ -7,15 +7,15 @@ ahead [] = zero
 ahead (x ∷ s) = cond (eqb x 10) zero (suc (ahead s))
 
 -- the place of the first newline at or past a position, or the end of the text; a position past the end is given back
-unfoldable pub newlineFrom : List ℕ → ℕ → ℕ
-newlineFrom s at = at + ahead (drop at s)
+unfoldable pub newline_from : List ℕ → ℕ → ℕ
+newline_from s at = at + ahead (drop at s)
 
 -- the characters at a position up to the first newline, or to the end
-unfoldable pub charsAt : List ℕ → ℕ → List ℕ
-charsAt s at = take (ahead (drop at s)) (drop at s)
+unfoldable pub chars_at : List ℕ → ℕ → List ℕ
+chars_at s at = take (ahead (drop at s)) (drop at s)
 
 -- where the text goes on: past that newline, or at the end where there is none
 abbrev pub past_at : List ℕ → ℕ → ℕ
 past_at s at =
-    let n = newlineFrom s at in
+    let n = newline_from s at in
     cond (ltb n (length s)) (n + 1) n

@@ -31,6 +31,6 @@ newlines [] = zero
 newlines (x ∷ s) = cond (eqb x 10) (suc (newlines s)) (newlines s)
 
 -- the text that chunks make
-unfoldable pub joinedLines : List (List ℕ) → List ℕ
-joinedLines [] = []
-joinedLines (c ∷ cs) = c ++ joinedLines cs
+unfoldable pub joined_lines : List (List ℕ) → List ℕ
+joined_lines [] = []
+joined_lines (c ∷ cs) = c ++ joined_lines cs

@@ -1,13 +1,13 @@
 // Finding the lines of a text that is lent: a line is what stands before a newline (10). The line finder, and over it a reader that walks
 // the text: it hands on the line at its cursor as the caller's own bytes, and goes on past it. Rests on nothing.
 ghost use Rattle.std.specs.Prelude.{◌≡◌};
-ghost use Rattle.lines.specs.Lines.{newlineFrom, charsAt, past_at};
+ghost use Rattle.lines.specs.Lines.{newline_from, chars_at, past_at};
 
 pub mod stream; // stream.rt: the lines of a text that arrives in chunks
 
 // The place of the first newline at or past a position, or the end of the text; a position past the end is given back.
 fn newline(text: &[u8], at: usize) -> usize
-    ensures { result ≡ newlineFrom text.now at }
+    ensures { result ≡ newline_from text.now at }
 {
     let mut i = at;
     while i < text.len() {
@@ -21,7 +21,7 @@ fn newline(text: &[u8], at: usize) -> usize
 
 // The characters of the line at a position, without its newline, as a part of the text.
 fn chars_at<'a>(text: &'a [u8], at: usize) -> &'a [u8]
-    ensures { result.now ≡ charsAt text.now at }
+    ensures { result.now ≡ chars_at text.now at }
 {
     if text.len() <= at {
         return &text[0..0];
@@ -53,7 +53,7 @@ pub fn new<'a>(text: &'a [u8], at: usize) -> Reader<'a>
 
 // The line at the cursor, without its newline, as a part of the lent text.
 pub fn line<'a>(r: Reader<'a>) -> &'a [u8]
-    ensures { result.now ≡ charsAt r.entry.text.now r.entry.at }
+    ensures { result.now ≡ chars_at r.entry.text.now r.entry.at }
 {
     chars_at(r.text, r.at)
 }
@@ -69,7 +69,7 @@ pub fn past<'a>(r: Reader<'a>) -> Reader<'a>
 // The same two of a text and a position: whoever calls these needs no walk by hand.
 
 pub fn read<'a>(text: &'a [u8], at: usize) -> &'a [u8]
-    ensures { result.now ≡ charsAt text.now at }
+    ensures { result.now ≡ chars_at text.now at }
 {
     line(new(text, at))
 }

@@ -1,7 +1,7 @@
 // The lines of a text that arrives in chunks, however it is cut, in constant memory. Rests on the reader of lib.rt.
 // Document 01: a line has at most 64 characters before its newline.
 ghost use Rattle.std.specs.Prelude.{◌≡◌};
-ghost use Rattle.lines.specs.Stream.{empty, addChar, adds, step_of, take_of, unfinished};
+ghost use Rattle.lines.specs.Stream.{empty, add_char, adds, step_of, take_of, unfinished};
 
 // The most characters that a line may have.
 pub const MOST: usize = 64;
@@ -55,7 +55,7 @@ fn step(pending: Pending, next: usize, event: Event) -> Taken
 impl Pending {
     // One more character.
     fn one(mut self, x: u8) -> Pending
-        ensures { result ≡ addChar self x }
+        ensures { result ≡ add_char self x }
     {
         if self.over {
             return self;

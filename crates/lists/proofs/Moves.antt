@@ -9,7 +9,7 @@ use native.Mathlib.Decide.{ℕ_discrete, dec_lt}
 use lib.ListN.{get_or, set, length, take, drop, length-append, length-drop, length-set, length-take}
 use lib.ListN.{drop_of_length-le, get_or-append, get_or-eq_default}
 use lib.Seq.{sets, length-sets, set_comm, set_out, take-nil, drop-cons, get_or-set_same, get_or-set_other, get_or-take, get_or-drop, get_or_at, ext_get_or}
-use Rattle.lists.specs.Lists.{put_in, takeOut}
+use Rattle.lists.specs.Lists.{put_in, take_out}
 
 -- ---- a run of stores
 
@@ -22,18 +22,18 @@ get_d_sets_before [] l k i h = refl
 get_d_sets_before (a ∷ vs) l k i h =
     get_d_sets_before vs (set l k a) (suc k) i (omega arith) ∙ get_or-set_other l k i a 0 (λ e. omega arith)
 
-getD-sets-after : (vs l : List ℕ) (k i : ℕ) → k + length vs ≤ i → get_or (sets l k vs) i 0 ≡ get_or l i 0
-getD-sets-after [] l k i h = refl
-getD-sets-after (a ∷ vs) l k i h =
-    getD-sets-after vs (set l k a) (suc k) i (omega arith) ∙ get_or-set_other l k i a 0 (λ e. omega arith)
+get_or-sets-after : (vs l : List ℕ) (k i : ℕ) → k + length vs ≤ i → get_or (sets l k vs) i 0 ≡ get_or l i 0
+get_or-sets-after [] l k i h = refl
+get_or-sets-after (a ∷ vs) l k i h =
+    get_or-sets-after vs (set l k a) (suc k) i (omega arith) ∙ get_or-set_other l k i a 0 (λ e. omega arith)
 
-getD-sets-in : (vs l : List ℕ) (k i : ℕ) → i < length vs → k + i < length l → get_or (sets l k vs) (k + i) 0 ≡ get_or vs i 0
-getD-sets-in [] l k i h m = absurd (not-suc-le-zero h)
-getD-sets-in (a ∷ vs) l k zero h m =
+get_or-sets-in : (vs l : List ℕ) (k i : ℕ) → i < length vs → k + i < length l → get_or (sets l k vs) (k + i) 0 ≡ get_or vs i 0
+get_or-sets-in [] l k i h m = absurd (not-suc-le-zero h)
+get_or-sets-in (a ∷ vs) l k zero h m =
     rw (add-zero k) (get_d_sets_before vs (set l k a) (suc k) k (omega arith) ∙ get_or-set_same l k a 0 (omega arith))
-getD-sets-in (a ∷ vs) l k (suc i) h m =
+get_or-sets-in (a ∷ vs) l k (suc i) h m =
     let e : k + suc i ≡ suc k + i = omega arith in
-    rw e (getD-sets-in vs (set l k a) (suc k) i (omega arith) (rw (length-set l k a) (omega arith)))
+    rw e (get_or-sets-in vs (set l k a) (suc k) i (omega arith) (rw (length-set l k a) (omega arith)))
 
 -- a list that agrees with vs from k on, and elsewhere with l
 sets-ext : (l c vs : List ℕ) (k : ℕ) → length c ≡ length l
@@ -45,12 +45,12 @@ sets-ext l c vs k z low at high = ext_get_or 0 c (sets l k vs) (z ∙ sym (lengt
   where
     go : (i : ℕ) → i < length c → Dec (i < k) → Dec (i < k + length vs) → get_or c i 0 ≡ get_or (sets l k vs) i 0
     go i h (yes m) d = low i m ∙ sym (get_d_sets_before vs l k i m)
-    go i h (no m) (no d) = high i (omega arith) (omega arith) ∙ sym (getD-sets-after vs l k i (omega arith))
+    go i h (no m) (no d) = high i (omega arith) (omega arith) ∙ sym (get_or-sets-after vs l k i (omega arith))
     go i h (no m) (yes d) =
         let e : k + (i - k) ≡ i = omega arith in
         let g : k + (i - k) < length l = omega arith in
         let t : i - k < length vs = omega arith in
-        rw e at (at (i - k) t g ∙ sym (getD-sets-in vs l k (i - k) t g))
+        rw e at (at (i - k) t g ∙ sym (get_or-sets-in vs l k (i - k) t g))
 
 -- ---- room for one more
 
@@ -121,8 +121,8 @@ closed l m k = take m (drop (k + 1) l)
 closed-length : (l : List ℕ) (m k : ℕ) → length (closed l m k) ≡ min m (length l - (k + 1))
 closed-length l m k = length-take m (drop (k + 1) l) ∙ ap (min m) (length-drop (k + 1) l)
 
-pub lowered-put : (l c : List ℕ) (n k : ℕ) → k < n → Lowered l c k n → set c (n - 1) 0 ≡ takeOut l n k
-unfolding takeOut
+pub lowered-put : (l c : List ℕ) (n k : ℕ) → k < n → Lowered l c k n → set c (n - 1) 0 ≡ take_out l n k
+unfolding take_out
 lowered-put l c n k h s =
     sets-ext l (set c j 0) (closed l m k ++ (0 ∷ [])) k
     (length-set c j 0 ∙ s.size)

@@ -11,8 +11,8 @@ use lib.ListN.{drop_of_length-le, get_or-append, get_or-eq_default}
 use lib.Seq.{length-take-le, take-append-le, drop-append-le, take-append_seam, drop-append_seam, drop-append-add, get_or-append-add, take_at}
 use lib.Seq.{take-length, drop-length, sets-eq, set-append_left, set_split, get_or-drop, ext_get_or}
 use borrow.Author.Tests.{lt-ltb, le-ltb, eq-eqb, eqb-true}
-use Rattle.lists.specs.Lists.{zeros, padded, put_in, takeOut, swapOut, swapped}
-use Rattle.lists.specs.Search.{zeroAt, zeroTail}
+use Rattle.lists.specs.Lists.{zeros, padded, put_in, take_out, swap_out, swapped}
+use Rattle.lists.specs.Search.{zero_at, zero_tail}
 use Rattle.lists.proofs.Scan.{every-all, every-at}
 
 -- ---- a list that is long enough, in its parts
@@ -27,8 +27,8 @@ put-in-parts l n k p h m =
     ∙ rw e (append_assoc (take k l) (p ∷ take (n - k) (drop k l)) (drop (n + 1) l))
 
 pub take-out-parts : (l : List ℕ) (n k : ℕ) → k < n → n ≤ length l
-    → takeOut l n k ≡ take k l ++ (take (n - (k + 1)) (drop (k + 1) l) ++ (0 ∷ drop n l))
-unfolding takeOut
+    → take_out l n k ≡ take k l ++ (take (n - (k + 1)) (drop (k + 1) l) ++ (0 ∷ drop n l))
+unfolding take_out
 take-out-parts l n k h m =
     let t : List ℕ = take (n - (k + 1)) (drop (k + 1) l) in
     let z : length t ≡ n - (k + 1) = length-take-le (n - (k + 1)) (drop (k + 1) l) (rw (length-drop (k + 1) l) (omega arith)) in
@@ -42,10 +42,10 @@ take-out-parts l n k h m =
 pub length-zeros : (n : ℕ) → length (zeros n) ≡ n
 length-zeros n = length-replicate n 0
 
-pub getD-zeros : (n j : ℕ) → get_or (zeros n) j 0 ≡ 0
-getD-zeros zero j = refl
-getD-zeros (suc n) zero = refl
-getD-zeros (suc n) (suc j) = getD-zeros n j
+pub get_or-zeros : (n j : ℕ) → get_or (zeros n) j 0 ≡ 0
+get_or-zeros zero j = refl
+get_or-zeros (suc n) zero = refl
+get_or-zeros (suc n) (suc j) = get_or-zeros n j
 
 -- one zero more
 zeros-more : (n m : ℕ) → n ≡ m + 1 → zeros n ≡ 0 ∷ zeros m
@@ -67,16 +67,16 @@ module _ (bound : ℕ) (xs : List ℕ) where
   drop-padded = drop-append_seam xs (zeros (bound - length xs))
 
   -- what is read past the entries is 0, whether a zero stands there or nothing
-  pub getD-padded : (i : ℕ) → get_or (padded bound xs) i 0 ≡ get_or xs i 0
+  pub get_or-padded : (i : ℕ) → get_or (padded bound xs) i 0 ≡ get_or xs i 0
   unfolding padded
-  getD-padded i = go (dec_lt i (length xs))
+  get_or-padded i = go (dec_lt i (length xs))
     where
       go : Dec (i < length xs) → get_or (xs ++ zeros (bound - length xs)) i 0 ≡ get_or xs i 0
       go (yes h) = get_or-append xs (zeros (bound - length xs)) 0 i h
       go (no h) =
           let e : length xs + (i - length xs) ≡ i = omega arith in
           (rw e at (get_or-append-add xs (zeros (bound - length xs)) (i - length xs) 0))
-          ∙ getD-zeros (bound - length xs) (i - length xs)
+          ∙ get_or-zeros (bound - length xs) (i - length xs)
           ∙ sym (get_or-eq_default xs 0 (omega arith))
 
 -- ---- the steps on a padded list
@@ -110,7 +110,7 @@ module _ (bound : ℕ) (xs : List ℕ) (k : ℕ) where
       length-append (take k xs) (drop (k + 1) xs) ∙ omega arith
 
   pub take-out-padded : k < length xs → length xs ≤ bound
-      → takeOut (padded bound xs) (length xs) k ≡ padded bound (take k xs ++ drop (k + 1) xs)
+      → take_out (padded bound xs) (length xs) k ≡ padded bound (take k xs ++ drop (k + 1) xs)
   unfolding padded
   take-out-padded h m =
       let n : ℕ = length xs in
@@ -133,8 +133,8 @@ module _ (bound : ℕ) (xs : List ℕ) (k : ℕ) where
       length-take-le (length xs - 1) (set xs k v) (rw (length-set xs k v) (omega arith))
 
   pub swap-out-padded : k < length xs → length xs ≤ bound
-      → swapOut (padded bound xs) (length xs) k ≡ padded bound (swapped xs k)
-  unfolding padded swapOut swapped
+      → swap_out (padded bound xs) (length xs) k ≡ padded bound (swapped xs k)
+  unfolding padded swap_out swapped
   swap-out-padded h m =
       let n : ℕ = length xs in
       let z : List ℕ = zeros (bound - n) in
@@ -145,7 +145,7 @@ module _ (bound : ℕ) (xs : List ℕ) (k : ℕ) where
       set_split ys (n - 1) 0 (omega arith)
       ∙ ap (λ (r : List ℕ). take (n - 1) ys ++ (0 ∷ r)) (drop_of_length-le ys {i = suc (n - 1)} (omega arith))
       in
-      rw (getD-padded bound xs (n - 1), set-append_left xs z k v h, set-append_left ys z (n - 1) 0 (omega arith), a, swapped-length)
+      rw (get_or-padded bound xs (n - 1), set-append_left xs z k v h, set-append_left ys z (n - 1) 0 (omega arith), a, swapped-length)
       (rw (zeros-more (bound - (n - 1)) (bound - n) (omega arith)) (append_assoc (take (n - 1) ys) (0 ∷ []) z))
 
 -- appending is putting in at the count
@@ -157,29 +157,29 @@ append-padded bound xs p h =
 -- ---- the tail
 
 module _ (bound : ℕ) (l : List ℕ) (n : ℕ) where
-  pub zero-tail-at : zeroTail bound l n ≡ true → (i : ℕ) → n ≤ i → i < bound → get_or l i 0 ≡ 0
-  unfolding zeroTail
-  zero-tail-at t i a b = eqb-true (get_or l i 0) 0 (rw (le-ltb i n a) at (every-at (zeroAt l n) bound i t b))
+  pub zero-tail-at : zero_tail bound l n ≡ true → (i : ℕ) → n ≤ i → i < bound → get_or l i 0 ≡ 0
+  unfolding zero_tail
+  zero-tail-at t i a b = eqb-true (get_or l i 0) 0 (rw (le-ltb i n a) at (every-at (zero_at l n) bound i t b))
 
-  pub zero-tail-all : ((i : ℕ) → n ≤ i → i < bound → get_or l i 0 ≡ 0) → zeroTail bound l n ≡ true
-  unfolding zeroTail
-  zero-tail-all z = every-all (zeroAt l n) bound (λ i b. go i b (dec_lt i n))
+  pub zero-tail-all : ((i : ℕ) → n ≤ i → i < bound → get_or l i 0 ≡ 0) → zero_tail bound l n ≡ true
+  unfolding zero_tail
+  zero-tail-all z = every-all (zero_at l n) bound (λ i b. go i b (dec_lt i n))
     where
-      go : (i : ℕ) → i < bound → Dec (i < n) → zeroAt l n i ≡ true
+      go : (i : ℕ) → i < bound → Dec (i < n) → zero_at l n i ≡ true
       go i b (yes h) = rw (lt-ltb i n h) refl
       go i b (no h) = rw (le-ltb i n (omega arith), eq-eqb (get_or l i 0) 0 (z i (omega arith) b)) refl
 
   module _ (e : length l ≡ bound) where
-    pub zero-tail-drop : zeroTail bound l n ≡ true → drop n l ≡ zeros (bound - n)
+    pub zero-tail-drop : zero_tail bound l n ≡ true → drop n l ≡ zeros (bound - n)
     zero-tail-drop t =
         ext_get_or 0 (drop n l) (zeros (bound - n)) (length-drop n l ∙ rw (e, length-zeros (bound - n)) refl)
         (λ i m. let y = length-drop n l in
-        get_or-drop n l i 0 ∙ zero-tail-at t (n + i) (omega arith) (omega arith) ∙ sym (getD-zeros (bound - n) i))
+        get_or-drop n l i 0 ∙ zero-tail-at t (n + i) (omega arith) (omega arith) ∙ sym (get_or-zeros (bound - n) i))
 
-    pub drop-zero-tail : drop n l ≡ zeros (bound - n) → zeroTail bound l n ≡ true
+    pub drop-zero-tail : drop n l ≡ zeros (bound - n) → zero_tail bound l n ≡ true
     drop-zero-tail d = zero-tail-all here
       where
         here : (i : ℕ) → n ≤ i → i < bound → get_or l i 0 ≡ 0
         here i a b =
             let q : n + (i - n) ≡ i = omega arith in
-            (rw q at (sym (get_or-drop n l (i - n) 0))) ∙ ap (λ (r : List ℕ). get_or r (i - n) 0) d ∙ getD-zeros (bound - n) (i - n)
+            (rw q at (sym (get_or-drop n l (i - n) 0))) ∙ ap (λ (r : List ℕ). get_or r (i - n) 0) d ∙ get_or-zeros (bound - n) (i - n)

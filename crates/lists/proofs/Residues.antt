@@ -11,12 +11,12 @@ use lib.Dec.{eqb}
 use lib.ListN.{get_or, set}
 use borrow.Author.Tests.{eq-eqb, ne_eqb}
 use Rattle.lists.specs.Lists.{zeros}
-use Rattle.lists.specs.Search.{differ, apart, apartBelow}
-use Rattle.lists.specs.Inner.{unlike, unlikeBelow, residuesDiffer}
+use Rattle.lists.specs.Search.{differ, apart, apart_below}
+use Rattle.lists.specs.Inner.{unlike, unlike_below, residues_differ}
 use Rattle.lists.proofs.Scan.{clash, every-all, every-at, every-fails}
 use Rattle.lists.proofs.Look.{or-true, other}
-use Rattle.lists.proofs.Padded.{getD-zeros, length-zeros}
-use Rattle.lists.proofs.Stamps.{residueAt, Some, Stamped, stamped-same, stamped-more}
+use Rattle.lists.proofs.Padded.{get_or-zeros, length-zeros}
+use Rattle.lists.proofs.Stamps.{residue_at, Some, Stamped, stamped-same, stamped-more}
 
 module _ (s : List ℕ) where
   -- ---- two serials
@@ -24,17 +24,17 @@ module _ (s : List ℕ) where
   unlike-zero : (i j : ℕ) → get_or s i 0 ≡ 0 → unlike s i j ≡ true
   unlike-zero i j e = rw (eq-eqb (get_or s i 0) 0 e) refl
 
-  unlike-other : (i j : ℕ) → (Some s j → residueAt s i ≡ residueAt s j → ⊥) → unlike s i j ≡ true
+  unlike-other : (i j : ℕ) → (Some s j → residue_at s i ≡ residue_at s j → ⊥) → unlike s i j ≡ true
   unlike-other i j m = go (ℕ_discrete (get_or s j 0) 0)
     where
       go : Dec (get_or s j 0 ≡ 0) → unlike s i j ≡ true
       go (yes e) = rw (eq-eqb (get_or s j 0) 0 e) (or-true (eqb (get_or s i 0) 0))
       go (no n) =
-          rw (ne_eqb (residueAt s i) (residueAt s j) (m n), or-true (eqb (get_or s j 0) 0)) (or-true (eqb (get_or s i 0) 0))
+          rw (ne_eqb (residue_at s i) (residue_at s j) (m n), or-true (eqb (get_or s j 0) 0)) (or-true (eqb (get_or s i 0) 0))
 
-  unlike-not : (i j : ℕ) → Some s i → Some s j → residueAt s i ≡ residueAt s j → unlike s i j ≡ false
+  unlike-not : (i j : ℕ) → Some s i → Some s j → residue_at s i ≡ residue_at s j → unlike s i j ≡ false
   unlike-not i j m n e =
-      rw (ne_eqb (get_or s i 0) 0 m, ne_eqb (get_or s j 0) 0 n, eq-eqb (residueAt s i) (residueAt s j) e) refl
+      rw (ne_eqb (get_or s i 0) 0 m, ne_eqb (get_or s j 0) 0 n, eq-eqb (residue_at s i) (residue_at s j) e) refl
 
   unlike-apart : (i j : ℕ) → unlike s i j ≡ true → apart s i j ≡ true
   unlike-apart i j u = go (ℕ_discrete (get_or s i 0) 0) (ℕ_discrete (get_or s j 0) (get_or s i 0))
@@ -45,11 +45,11 @@ module _ (s : List ℕ) where
       go (no m) (yes e) = absurd (clash (sym (unlike-not i j m (λ z. m (sym e ∙ z)) (ap (λ (x : ℕ). x % 4096) (sym e))) ∙ u))
 
   -- serials differ where their residues do
-  pub residues-apart : (bound : ℕ) → residuesDiffer bound s ≡ true → differ bound s ≡ true
-  unfolding residuesDiffer differ
+  pub residues-apart : (bound : ℕ) → residues_differ bound s ≡ true → differ bound s ≡ true
+  unfolding residues_differ differ
   residues-apart bound d =
-      every-all (apartBelow s) bound
-      (λ i h. every-all (apart s i) i (λ j b. unlike-apart i j (every-at (unlike s i) i j (every-at (unlikeBelow s) bound i d h) b)))
+      every-all (apart_below s) bound
+      (λ i h. every-all (apart s i) i (λ j b. unlike-apart i j (every-at (unlike s i) i j (every-at (unlike_below s) bound i d h) b)))
 
   -- ---- the pass
 
@@ -66,7 +66,7 @@ module _ (s : List ℕ) where
       }
     where
       none : (n r : ℕ) → get_or (zeros n) r 0 ≡ 1 → ⊥
-      none n r e = let z = getD-zeros n r in omega arith
+      none n r e = let z = get_or-zeros n r in omega arith
 
   module _ (i : ℕ) {flag : List ℕ} (z : Passed i flag) where
     wider : (j : ℕ) → j < i → j < i + 1
@@ -86,18 +86,18 @@ module _ (s : List ℕ) where
         go j (inl h) m = h
         go j (inr q) m = absurd (m (ap (λ (k : ℕ). get_or s k 0) q ∙ e))
 
-    pub passed-more : Some s i → Passed (i + 1) (set flag (residueAt s i) 1)
+    pub passed-more : Some s i → Passed (i + 1) (set flag (residue_at s i) 1)
     passed-more m = stamped-more wider z i (omega arith) m back
 
-    pub below-zero : get_or s i 0 ≡ 0 → unlikeBelow s i ≡ true
+    pub below-zero : get_or s i 0 ≡ 0 → unlike_below s i ≡ true
     below-zero e = every-all (unlike s i) i (λ j h. unlike-zero i j e)
 
-    pub below_new : (get_or flag (residueAt s i) 0 ≡ 1 → ⊥) → unlikeBelow s i ≡ true
+    pub below_new : (get_or flag (residue_at s i) 0 ≡ 1 → ⊥) → unlike_below s i ≡ true
     below_new none =
         every-all (unlike s i) i
         (λ j h. unlike-other i j (λ m e. none (ap (λ (r : ℕ). get_or flag r 0) e ∙ z.stands j h m)))
 
-    pub below-flagged : Some s i → get_or flag (residueAt s i) 0 ≡ 1 → unlikeBelow s i ≡ false
+    pub below-flagged : Some s i → get_or flag (residue_at s i) 0 ≡ 1 → unlike_below s i ≡ false
     below-flagged m e =
-        let w = z.from (residueAt s i) e in
+        let w = z.from (residue_at s i) e in
         every-fails (unlike s i) i w.0 w.1 (unlike-not i w.0 m w.2 (sym w.3))

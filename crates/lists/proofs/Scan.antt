@@ -8,7 +8,7 @@ use native.Mathlib.Nat.{not-suc-le-zero}
 use native.Mathlib.Numerals.{add-one}
 use native.Mathlib.Omega.{arith}
 use native.Mathlib.Decide.{ℕ_discrete, dec_lt}
-use Rattle.lists.specs.Search.{firstFrom, every}
+use Rattle.lists.specs.Search.{first_from, every}
 
 -- a test is true or false, with the equation
 pub test : (b : Bool) → (b ≡ true) ⊎ (b ≡ false)
@@ -35,8 +35,8 @@ or_cases true b e = inl refl
 or_cases false b e = inr e
 
 -- two searches for what is the same find the same
-pub first-same : (f g : ℕ → Bool) (m n : ℕ) → ((i : ℕ) → n ≤ i → i < n + m → f i ≡ g i) → firstFrom f m n ≡ firstFrom g m n
-unfolding firstFrom
+pub first-same : (f g : ℕ → Bool) (m n : ℕ) → ((i : ℕ) → n ≤ i → i < n + m → f i ≡ g i) → first_from f m n ≡ first_from g m n
+unfolding first_from
 first-same f g zero n h = refl
 first-same f g (suc m) n h =
     rw (h n (omega arith) (omega arith), first-same f g m (n + 1) (λ i a b. h i (omega arith) (omega arith))) refl
@@ -52,78 +52,78 @@ module _ (f : ℕ → Bool) where
 
   -- n numbers are searched, and none before i is the answer
   abbrev pub Searching : ℕ → ℕ → Type 0
-  Searching n i = (i ≤ n) × (firstFrom f (n - i) i ≡ firstFrom f n 0)
+  Searching n i = (i ≤ n) × (first_from f (n - i) i ≡ first_from f n 0)
 
   pub search-start : (n : ℕ) → Searching n 0
   search-start n = let e : n - 0 ≡ n = omega arith in (omega arith, rw e refl)
 
   pub search-on : (n i : ℕ) → Searching n i → i < n → f i ≡ false → Searching n (i + 1)
-  unfolding firstFrom
+  unfolding first_from
   search-on n i s h e =
       let d : n - i ≡ suc (n - (i + 1)) = omega arith in
-      let r : firstFrom f (n - i) i ≡ firstFrom f (n - (i + 1)) (i + 1) = rw (d, e) refl in
+      let r : first_from f (n - i) i ≡ first_from f (n - (i + 1)) (i + 1) = rw (d, e) refl in
       (omega arith, sym r ∙ s.1)
 
-  pub search-found : (n i : ℕ) → Searching n i → i < n → f i ≡ true → i ≡ firstFrom f n 0
-  unfolding firstFrom
+  pub search-found : (n i : ℕ) → Searching n i → i < n → f i ≡ true → i ≡ first_from f n 0
+  unfolding first_from
   search-found n i s h e =
       let d : n - i ≡ suc (n - (i + 1)) = omega arith in
-      let r : firstFrom f (n - i) i ≡ i = rw (d, e) refl in
+      let r : first_from f (n - i) i ≡ i = rw (d, e) refl in
       sym r ∙ s.1
 
-  pub search-end : (n i : ℕ) → Searching n i → n ≤ i → n ≡ firstFrom f n 0
-  unfolding firstFrom
+  pub search-end : (n i : ℕ) → Searching n i → n ≤ i → n ≡ first_from f n 0
+  unfolding first_from
   search-end n i s h =
       let d : n - i ≡ 0 = omega arith in
-      let r : firstFrom f (n - i) i ≡ i = rw d refl in
+      let r : first_from f (n - i) i ≡ i = rw d refl in
       let q : n ≡ i = omega arith in
       q ∙ sym r ∙ s.1
 
   -- the answer is no earlier than where the search began, and at most the number past it
-  pub first-from : (n i : ℕ) → i ≤ firstFrom f n i
-  unfolding firstFrom
+  pub first-from : (n i : ℕ) → i ≤ first_from f n i
+  unfolding first_from
   first-from zero i = omega arith
   first-from (suc n) i = go (f i) (first-from n (i + 1))
     where
-      go : (b : Bool) → i + 1 ≤ firstFrom f n (i + 1) → i ≤ cond b i (firstFrom f n (i + 1))
+      go : (b : Bool) → i + 1 ≤ first_from f n (i + 1) → i ≤ cond b i (first_from f n (i + 1))
       go true h = omega arith
       go false h = omega arith
 
-  pub first-most : (n i : ℕ) → firstFrom f n i ≤ i + n
-  unfolding firstFrom
+  pub first-most : (n i : ℕ) → first_from f n i ≤ i + n
+  unfolding first_from
   first-most zero i = omega arith
   first-most (suc n) i = go (f i) (first-most n (i + 1))
     where
-      go : (b : Bool) → firstFrom f n (i + 1) ≤ i + 1 + n → cond b i (firstFrom f n (i + 1)) ≤ i + suc n
+      go : (b : Bool) → first_from f n (i + 1) ≤ i + 1 + n → cond b i (first_from f n (i + 1)) ≤ i + suc n
       go true h = omega arith
       go false h = omega arith
 
   -- f holds of the answer, if that is not the number past the last
-  pub first_holds : (n i : ℕ) → firstFrom f n i < i + n → f (firstFrom f n i) ≡ true
-  unfolding firstFrom
+  pub first_holds : (n i : ℕ) → first_from f n i < i + n → f (first_from f n i) ≡ true
+  unfolding first_from
   first_holds zero i h = absurd (no h)
     where
       no : i < i + 0 → ⊥
       no h = omega arith
   first_holds (suc n) i h = go (f i) refl h (first_holds n (i + 1))
     where
-      go : (b : Bool) → f i ≡ b → cond b i (firstFrom f n (i + 1)) < i + suc n
-          → (firstFrom f n (i + 1) < i + 1 + n → f (firstFrom f n (i + 1)) ≡ true)
-          → f (cond b i (firstFrom f n (i + 1))) ≡ true
+      go : (b : Bool) → f i ≡ b → cond b i (first_from f n (i + 1)) < i + suc n
+          → (first_from f n (i + 1) < i + 1 + n → f (first_from f n (i + 1)) ≡ true)
+          → f (cond b i (first_from f n (i + 1))) ≡ true
       go true e h ih = e
       go false e h ih = ih (omega arith)
 
   -- and of no number before it
-  pub first-before : (n i j : ℕ) → i ≤ j → j < firstFrom f n i → f j ≡ false
-  unfolding firstFrom
+  pub first-before : (n i j : ℕ) → i ≤ j → j < first_from f n i → f j ≡ false
+  unfolding first_from
   first-before zero i j a h = absurd (no a h)
     where
       no : i ≤ j → j < i → ⊥
       no a h = omega arith
   first-before (suc n) i j a h = go (f i) refl h (ℕ_discrete i j) (first-before n (i + 1) j)
     where
-      go : (b : Bool) → f i ≡ b → j < cond b i (firstFrom f n (i + 1)) → Dec (i ≡ j)
-          → (i + 1 ≤ j → j < firstFrom f n (i + 1) → f j ≡ false) → f j ≡ false
+      go : (b : Bool) → f i ≡ b → j < cond b i (first_from f n (i + 1)) → Dec (i ≡ j)
+          → (i + 1 ≤ j → j < first_from f n (i + 1) → f j ≡ false) → f j ≡ false
       go true e h d ih = absurd (no h)
         where
           no : j < i → ⊥
@@ -132,18 +132,18 @@ module _ (f : ℕ → Bool) where
       go false e h (no d) ih = ih (omega arith) h
 
   -- the answer is the least number of which f holds, and no other number is that
-  pub found-least : (n : ℕ) → firstFrom f n 0 < n → Least f n (firstFrom f n 0)
+  pub found-least : (n : ℕ) → first_from f n 0 < n → Least f n (first_from f n 0)
   found-least n b =
       record { below = b; holds = first_holds n 0 (omega arith); before = λ j h. first-before n 0 j (omega arith) h }
 
-  pub least-found : (n k : ℕ) → Least f n k → firstFrom f n 0 ≡ k
-  least-found n k h = go (dec_lt k (firstFrom f n 0)) (dec_lt (firstFrom f n 0) k)
+  pub least-found : (n k : ℕ) → Least f n k → first_from f n 0 ≡ k
+  least-found n k h = go (dec_lt k (first_from f n 0)) (dec_lt (first_from f n 0) k)
     where
-      go : Dec (k < firstFrom f n 0) → Dec (firstFrom f n 0 < k) → firstFrom f n 0 ≡ k
+      go : Dec (k < first_from f n 0) → Dec (first_from f n 0 < k) → first_from f n 0 ≡ k
       go (yes b) d = absurd (clash (sym (first-before n 0 k (omega arith) b) ∙ h.holds))
       go (no a) (yes b) =
-          let in-range : firstFrom f n 0 < 0 + n = omega (arith, h.below) in
-          absurd (clash (sym (h.before (firstFrom f n 0) b) ∙ first_holds n 0 in-range))
+          let in-range : first_from f n 0 < 0 + n = omega (arith, h.below) in
+          absurd (clash (sym (h.before (first_from f n 0) b) ∙ first_holds n 0 in-range))
       go (no a) (no b) = omega arith
 
   -- ---- a test of each number

@@ -9,14 +9,14 @@ use native.Mathlib.Omega.{arith}
 use native.Mathlib.Decide.{ℕ_discrete, dec_le}
 use lib.ListN.{length, get_or, set}
 use Rattle.lists.specs.Lists.{limit, zeros}
-use Rattle.lists.specs.Search.{differ, apartBelow}
+use Rattle.lists.specs.Search.{differ, apart_below}
 use Rattle.lists.specs.Inner.{Low, class_at}
 use Rattle.lists.proofs.Scan.{every-fails}
 use Rattle.lists.proofs.Look.{twice}
 use Rattle.lists.proofs.Found.{differ-all}
-use Rattle.lists.proofs.Padded.{getD-zeros, length-zeros}
+use Rattle.lists.proofs.Padded.{get_or-zeros, length-zeros}
 use Rattle.lists.proofs.Chains.{Leads}
-use Rattle.lists.proofs.Stamps.{residueAt, Some, Stamped, stamped-same, stamped-more, stamps-low}
+use Rattle.lists.proofs.Stamps.{residue_at, Some, Stamped, stamped-same, stamped-more, stamps-low}
 
 -- serials of one class and one residue are equal
 same : (a b : ℕ) → a / 4096 ≡ b / 4096 → a % 4096 ≡ b % 4096 → a ≡ b
@@ -40,7 +40,7 @@ module _ (s : List ℕ) where
       }
     where
       none : (n r : ℕ) → get_or (zeros n) r 0 ≤ 0
-      none n r = let z = getD-zeros n r in omega arith
+      none n r = let z = get_or-zeros n r in omega arith
 
   pub done_all : Low s → {h : ℕ} {stamp : List ℕ} → 256 ≤ h → Done h stamp → differ limit s ≡ true
   done_all low {h} b d = differ-all limit s (λ i j x y. d.once i j x y (small i x))
@@ -126,11 +126,11 @@ module _ (s : List ℕ) where
           held i (inr e) n = absurd (n (ap (λ (k : ℕ). get_or s k 0) e ∙ z))
 
       module _ (b : p < limit) (k : class_at s p ≡ h) (m : Some s p) where
-        pub visited-more : (get_or stamp (residueAt s p) 0 ≡ h + 1 → ⊥) → Visited h p (set stamp (residueAt s p) (h + 1))
+        pub visited-more : (get_or stamp (residue_at s p) 0 ≡ h + 1 → ⊥) → Visited h p (set stamp (residue_at s p) (h + 1))
         visited-more new =
             record {
               stamped = stamped-more wider v.stamped p (omega arith, b, k) m back;
-              low = stamps-low stamp (residueAt s p) (h + 1) v.low (let z = v.stamped.size in omega arith);
+              low = stamps-low stamp (residue_at s p) (h + 1) v.low (let z = v.stamped.size in omega arith);
               once = λ i j x y. alone i j (back i x) (back j y);
             }
           where
@@ -146,12 +146,12 @@ module _ (s : List ℕ) where
             alone i j (inr x) (inr y) n e = x ∙ sym y
 
         -- its stamp stands already
-        pub visited-twice : get_or stamp (residueAt s p) 0 ≡ h + 1 → differ limit s ≡ false
+        pub visited-twice : get_or stamp (residue_at s p) 0 ≡ h + 1 → differ limit s ≡ false
         unfolding differ
         visited-twice e =
-            let w = v.stamped.from (residueAt s p) e in
+            let w = v.stamped.from (residue_at s p) e in
             let q = same (get_or s p 0) (get_or s w.0 0) (k ∙ sym w.1.2) (sym w.3) in
-            every-fails (apartBelow s) limit w.0 w.1.1 (twice s w.0 p (omega (arith, w.1.0)) w.2 q)
+            every-fails (apart_below s) limit w.0 w.1.1 (twice s w.0 p (omega (arith, w.1.0)) w.2 q)
 
     pub done_more : {stamp stamp' : List ℕ} → Done h stamp → Visited h 0 stamp' → Done (h + 1) stamp'
     done_more d v =

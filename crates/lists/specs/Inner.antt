@@ -16,12 +16,12 @@ abbrev pub unlike : List ℕ → ℕ → ℕ → Bool
 unlike s i j = eqb (get_or s i 0) 0 || (eqb (get_or s j 0) 0 || not (eqb (get_or s i 0 % 4096) (get_or s j 0 % 4096)))
 
 -- the serial at i and each before it
-abbrev pub unlikeBelow : List ℕ → ℕ → Bool
-unlikeBelow s i = every (unlike s i) i
+abbrev pub unlike_below : List ℕ → ℕ → Bool
+unlike_below s i = every (unlike s i) i
 
 -- no two serials but 0 agree modulo 4,096 below the bound
-unfoldable pub residuesDiffer : ℕ → List ℕ → Bool
-residuesDiffer bound s = every (unlikeBelow s) bound
+unfoldable pub residues_differ : ℕ → List ℕ → Bool
+residues_differ bound s = every (unlike_below s) bound
 
 -- ---- classes
 
@@ -29,15 +29,15 @@ residuesDiffer bound s = every (unlikeBelow s) bound
 abbrev pub class_at : List ℕ → ℕ → ℕ
 class_at s i = get_or s i 0 / 4096
 
-abbrev pub inClass : List ℕ → ℕ → ℕ → Bool
-inClass s h i = eqb (class_at s i) h
+abbrev pub in_class : List ℕ → ℕ → ℕ → Bool
+in_class s h i = eqb (class_at s i) h
 
 -- the number past the last one below n of which f holds, or 0 where there is none
-unfoldable pub lastBelow : (ℕ → Bool) → ℕ → ℕ
-lastBelow f zero = 0
-lastBelow f (suc n) = let r = lastBelow f n in cond (f n) (suc n) r
+unfoldable pub last_below : (ℕ → Bool) → ℕ → ℕ
+last_below f zero = 0
+last_below f (suc n) = let r = last_below f n in cond (f n) (suc n) r
 
 -- a chain for each class, from its last place to its first
 pub record Chained (s : List ℕ) (c : Chains) : Type 0 where
-  pub heads : (h : ℕ) → h < 256 → get_or c.head h 0 ≡ lastBelow (inClass s h) limit
-  pub links : (i : ℕ) → i < limit → get_or c.link i 0 ≡ lastBelow (inClass s (class_at s i)) i
+  pub heads : (h : ℕ) → h < 256 → get_or c.head h 0 ≡ last_below (in_class s h) limit
+  pub links : (i : ℕ) → i < limit → get_or c.link i 0 ≡ last_below (in_class s (class_at s i)) i

@@ -26,12 +26,12 @@ unfoldable pub put_in : List ℕ → ℕ → ℕ → ℕ → List ℕ
 put_in l n k p = sets l k (p ∷ take (n - k) (drop k l))
 
 -- what stood behind k stands one lower, with a zero behind it, and the rest is as it was
-unfoldable pub takeOut : List ℕ → ℕ → ℕ → List ℕ
-takeOut l n k = sets l k (take (n - (k + 1)) (drop (k + 1) l) ++ (0 ∷ []))
+unfoldable pub take_out : List ℕ → ℕ → ℕ → List ℕ
+take_out l n k = sets l k (take (n - (k + 1)) (drop (k + 1) l) ++ (0 ∷ []))
 
 -- the final entry stands at k, and a zero where it stood
-unfoldable pub swapOut : List ℕ → ℕ → ℕ → List ℕ
-swapOut l n k = set (set l k (get_or l (n - 1) 0)) (n - 1) 0
+unfoldable pub swap_out : List ℕ → ℕ → ℕ → List ℕ
+swap_out l n k = set (set l k (get_or l (n - 1) 0)) (n - 1) 0
 
 -- a list less its entry at k, the final entry in the hole
 unfoldable pub swapped : List ℕ → ℕ → List ℕ

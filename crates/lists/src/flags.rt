@@ -1,6 +1,6 @@
 // Which places stand in a list.
 ghost use Rattle.std.specs.Prelude.{◌≡◌};
-ghost use Rattle.lists.specs.Flags.{flagged, noFlags};
+ghost use Rattle.lists.specs.Flags.{flagged, no_flags};
 
 use crate::LIMIT;
 use crate::search::wide;
@@ -14,7 +14,7 @@ pub struct Flags {
 
 // The answer of a list that has more than its entries, names no place, or names one twice.
 fn refused() -> Flags
-    ensures { result ≡ noFlags }
+    ensures { result ≡ no_flags }
 {
     Flags {
         ok: false,

@@ -1,7 +1,7 @@
 // Searches in a list.
 ghost use Rattle.std.specs.Prelude.{◌≡◌, ◌≤◌};
 ghost use Rattle.lists.specs.Lists.{limit};
-ghost use Rattle.lists.specs.Search.{index_of, zeroTail};
+ghost use Rattle.lists.specs.Search.{index_of, zero_tail};
 
 use crate::LIMIT;
 
@@ -32,7 +32,7 @@ pub fn index_of(list: &[u16; LIMIT], count: usize, place: u16) -> usize
 
 // Every entry from the count on is 0.
 pub fn zero_tail(list: &[u16; LIMIT], count: usize) -> bool
-    ensures { result ≡ zeroTail limit list.now count }
+    ensures { result ≡ zero_tail limit list.now count }
 {
     let mut i = count;
     while i < LIMIT {

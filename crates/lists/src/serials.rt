@@ -3,7 +3,7 @@
 ghost use Rattle.std.specs.Prelude.{◌≡◌};
 ghost use Rattle.lists.specs.Lists.{limit};
 ghost use Rattle.lists.specs.Search.{differ};
-ghost use Rattle.lists.specs.Inner.{Low, residuesDiffer, Chained};
+ghost use Rattle.lists.specs.Inner.{Low, residues_differ, Chained};
 
 use crate::LIMIT;
 use crate::search::wide;
@@ -18,7 +18,7 @@ struct Chains {
 
 // No two serials but 0 agree modulo 4,096.
 fn residues_differ(s: &[u32; LIMIT]) -> bool
-    ensures { result ≡ residuesDiffer limit s.now }
+    ensures { result ≡ residues_differ limit s.now }
 {
     let mut flag = [0u8; 4096];
     let mut i: usize = 0;

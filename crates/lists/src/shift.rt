@@ -1,6 +1,6 @@
 // Putting an entry into a list and taking one out.
 ghost use Rattle.std.specs.Prelude.{◌≡◌, ◌≤◌, ◌<◌};
-ghost use Rattle.lists.specs.Lists.{limit, put_in, swapOut, takeOut};
+ghost use Rattle.lists.specs.Lists.{limit, put_in, swap_out, take_out};
 
 use crate::LIMIT;
 
@@ -22,7 +22,7 @@ pub fn insert_at(list: &mut [u16; LIMIT], count: usize, at: usize, place: u16)
 // Takes the entry at an index out. What follows moves down by one, and a zero comes behind it.
 pub fn delete_at(list: &mut [u16; LIMIT], count: usize, at: usize)
     requires { (at < count) × (count ≤ limit) }
-    ensures { list.new ≡ takeOut list.old count at }
+    ensures { list.new ≡ take_out list.old count at }
 {
     let mut i = at + 1;
     while i < count {
@@ -38,7 +38,7 @@ pub fn delete_at(list: &mut [u16; LIMIT], count: usize, at: usize)
 // Takes the entry at an index out of a list whose order is free: the final entry goes into the hole.
 pub fn swap_out(list: &mut [u16; LIMIT], count: usize, at: usize)
     requires { (at < count) × (count ≤ limit) }
-    ensures { list.new ≡ swapOut list.old count at }
+    ensures { list.new ≡ swap_out list.old count at }
 {
     let last = count - 1;
     let v = list[last];

@@ -1,7 +1,7 @@
 // What names a piece, and what a call says no with (document 01, "Marks" and "What a call says no with"). Rests on nothing.
 ghost use Rattle.std.specs.Prelude.{◌≡◌};
-ghost use Rattle.marks.specs.Marks.{zeroMark};
-ghost use Rattle.marks.specs.Refusals.{refusalNo};
+ghost use Rattle.marks.specs.Marks.{zero_mark};
+ghost use Rattle.marks.specs.Refusals.{refusal_no};
 
 // The mark of a piece: its layout's number, its place and its serial.
 #[derive(Drop)]
@@ -14,7 +14,7 @@ pub struct Mark {
 impl Mark {
     // What stands where there is no mark.
     pub fn zero() -> Mark
-        ensures { result ≡ zeroMark }
+        ensures { result ≡ zero_mark }
     {
         Mark {
             layout: 0,
@@ -45,7 +45,7 @@ pub enum Refusal {
 
 impl Refusal {
     pub fn number(self) -> u8
-        ensures { result ≡ refusalNo self }
+        ensures { result ≡ refusal_no self }
     {
         match self {
             Refusal::NotSound => 1,

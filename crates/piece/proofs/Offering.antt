@@ -15,69 +15,69 @@ use Rattle.piece.specs.declared.node.Datum.{Datum}
 use Rattle.piece.specs.declared.insertion_blueprint.InsertionShape.{InsertionShape}
 use Rattle.piece.specs.declared.insertion_option.Offer.{Offer}
 use Rattle.piece.specs.declared.settings.Settings.{Settings}
-use Rattle.piece.specs.Numbers.{rotationNo, shapeNo, rotationOf, shape_of}
-use Rattle.piece.specs.Offers.{allowed, along, across, fits, inRotation, noOffer, offersIn, offersOf, shapes, turned}
-use Rattle.piece.specs.Offered.{sameRotation, same_shape, sameOffer, amongB, offeredB}
+use Rattle.piece.specs.Numbers.{rotation_no, shape_no, rotation_of, shape_of}
+use Rattle.piece.specs.Offers.{allowed, along, across, fits, in_rotation, no_offer, offers_in, offers_of, shapes, turned}
+use Rattle.piece.specs.Offered.{same_rotation, same_shape, same_offer, among_b, offered_b}
 use Rattle.piece.proofs.Tests.{both}
 use Rattle.piece.proofs.Numbers.{rotation-back, shape-back}
 
 module _ (r : Rotation) (s : InsertionShape) where
   -- an offer that is found among the first n
-  pub among-at : (i n : ℕ) (l : List Offer) → i < n → n ≤ length l → sameOffer r s (get_or l i noOffer) ≡ true → amongB r s (take n l) ≡ true
+  pub among-at : (i n : ℕ) (l : List Offer) → i < n → n ≤ length l → same_offer r s (get_or l i no_offer) ≡ true → among_b r s (take n l) ≡ true
   among-at i zero l h m e = let no : ⊥ = omega arith in absurd no
   among-at i (suc n) [] h m e = let no : ⊥ = omega arith in absurd no
   among-at zero (suc n) (o ∷ os) h m e = rw e refl
   among-at (suc i) (suc n) (o ∷ os) h m e =
-      rw (among-at i n os (omega arith) (omega arith) e) (or-true (sameOffer r s o))
+      rw (among-at i n os (omega arith) (omega arith) e) (or-true (same_offer r s o))
 
   -- none among the first i, and not the next
-  more : (i : ℕ) (l : List Offer) → amongB r s (take i l) ≡ false → sameOffer r s (get_or l i noOffer) ≡ false → amongB r s (take (suc i) l) ≡ false
+  more : (i : ℕ) (l : List Offer) → among_b r s (take i l) ≡ false → same_offer r s (get_or l i no_offer) ≡ false → among_b r s (take (suc i) l) ≡ false
   more zero [] f e = refl
   more (suc i) [] f e = refl
   more zero (o ∷ os) f e = rw e refl
-  more (suc i) (o ∷ os) f e = step (sameOffer r s o) f (λ g. more i os g e)
+  more (suc i) (o ∷ os) f e = step (same_offer r s o) f (λ g. more i os g e)
     where
-      step : (b : Bool) → (b || amongB r s (take i os)) ≡ false → (amongB r s (take i os) ≡ false → amongB r s (take (suc i) os) ≡ false)
-          → (b || amongB r s (take (suc i) os)) ≡ false
+      step : (b : Bool) → (b || among_b r s (take i os)) ≡ false → (among_b r s (take i os) ≡ false → among_b r s (take (suc i) os) ≡ false)
+          → (b || among_b r s (take (suc i) os)) ≡ false
       step true f g = f
       step false f g = g f
 
-  pub among-more : (i : ℕ) (l : List Offer) → amongB r s (take i l) ≡ false → sameOffer r s (get_or l i noOffer) ≡ false
-      → amongB r s (take (i + 1) l) ≡ false
+  pub among-more : (i : ℕ) (l : List Offer) → among_b r s (take i l) ≡ false → same_offer r s (get_or l i no_offer) ≡ false
+      → among_b r s (take (i + 1) l) ≡ false
   among-more i l f e = rw (add-one i) (more i l f e)
 
 -- ---- what is offered fits
 
-same-rotation-is : (a b : Rotation) → sameRotation a b ≡ true → a ≡ b
-same-rotation-is a b e = sym (rotation-back a) ∙ ap rotationOf (eqb-true (rotationNo a) (rotationNo b) e) ∙ rotation-back b
+same-rotation-is : (a b : Rotation) → same_rotation a b ≡ true → a ≡ b
+same-rotation-is a b e = sym (rotation-back a) ∙ ap rotation_of (eqb-true (rotation_no a) (rotation_no b) e) ∙ rotation-back b
 
 same-shape-is : (a b : InsertionShape) → same_shape a b ≡ true → a ≡ b
-same-shape-is a b e = sym (shape-back a) ∙ ap shape_of (eqb-true (shapeNo a) (shapeNo b) e) ∙ shape-back b
+same-shape-is a b e = sym (shape-back a) ∙ ap shape_of (eqb-true (shape_no a) (shape_no b) e) ∙ shape-back b
 
 or-true-cases : (a b : Bool) → (a || b) ≡ true → (a ≡ true) ⊎ (b ≡ true)
 or-true-cases true b e = inl refl
 or-true-cases false b e = inr e
 
 -- one list after the other
-among-either : (r : Rotation) (s : InsertionShape) (a b : List Offer) → amongB r s (a ++ b) ≡ true
-    → (amongB r s a ≡ true) ⊎ (amongB r s b ≡ true)
+among-either : (r : Rotation) (s : InsertionShape) (a b : List Offer) → among_b r s (a ++ b) ≡ true
+    → (among_b r s a ≡ true) ⊎ (among_b r s b ≡ true)
 among-either r s [] b e = inr e
-among-either r s (o ∷ a) b e = go (sameOffer r s o) e (among-either r s a b)
+among-either r s (o ∷ a) b e = go (same_offer r s o) e (among-either r s a b)
   where
-    go : (c : Bool) → (c || amongB r s (a ++ b)) ≡ true → (amongB r s (a ++ b) ≡ true → (amongB r s a ≡ true) ⊎ (amongB r s b ≡ true))
-        → ((c || amongB r s a) ≡ true) ⊎ (amongB r s b ≡ true)
+    go : (c : Bool) → (c || among_b r s (a ++ b)) ≡ true → (among_b r s (a ++ b) ≡ true → (among_b r s a ≡ true) ⊎ (among_b r s b ≡ true))
+        → ((c || among_b r s a) ≡ true) ⊎ (among_b r s b ≡ true)
     go true e f = inl refl
     go false e f = f e
 
 -- the offers in one rotation: it is that one, and the shape is one of the shapes
-among-rotation : (q r : Rotation) (s : InsertionShape) (ss : List InsertionShape) → amongB r s (inRotation q ss) ≡ true
+among-rotation : (q r : Rotation) (s : InsertionShape) (ss : List InsertionShape) → among_b r s (in_rotation q ss) ≡ true
     → (q ≡ r) × Memᴰ s ss
 among-rotation q r s [] e = absurd (false≢true e)
 among-rotation q r s (u ∷ us) e =
     ⊎_elim
-    (λ h. let g = both (sameRotation q r) (same_shape u s) h in (same-rotation-is q r g.0, Memᴰ.head (sym (same-shape-is u s g.1))))
+    (λ h. let g = both (same_rotation q r) (same_shape u s) h in (same-rotation-is q r g.0, Memᴰ.head (sym (same-shape-is u s g.1))))
     (λ h. let g = among-rotation q r s us h in (g.0, Memᴰ.tail g.1))
-    (or-true-cases (sameRotation q r && same_shape u s) (amongB r s (inRotation q us)) e)
+    (or-true-cases (same_rotation q r && same_shape u s) (among_b r s (in_rotation q us)) e)
 
 -- what a rotation and a shape have that are offered
 pub record Offers (d : Datum) (p : PartType) (settings : Settings) (r : Rotation) (s : InsertionShape) : Type 0 where
@@ -87,14 +87,14 @@ pub record Offers (d : Datum) (p : PartType) (settings : Settings) (r : Rotation
       (shapes (along d.cut d.size (turned r p.size)) (across d.cut d.size (turned r p.size)) d.level settings.stages)
 
 module _ (d : Datum) (p : PartType) (settings : Settings) (r : Rotation) (s : InsertionShape) where
-  in-rotation : (q : Rotation) → amongB r s (offersIn d p settings q) ≡ true → Offers d p settings r s
-  unfolding offersIn
+  in-rotation : (q : Rotation) → among_b r s (offers_in d p settings q) ≡ true → Offers d p settings r s
+  unfolding offers_in
   in-rotation q e = go (allowed p.turn q && fits d.size (turned q p.size)) refl e
     where
       ss : List InsertionShape
       ss = shapes (along d.cut d.size (turned q p.size)) (across d.cut d.size (turned q p.size)) d.level settings.stages
 
-      go : (c : Bool) → (allowed p.turn q && fits d.size (turned q p.size)) ≡ c → amongB r s (cond c (inRotation q ss) []) ≡ true
+      go : (c : Bool) → (allowed p.turn q && fits d.size (turned q p.size)) ≡ c → among_b r s (cond c (in_rotation q ss) []) ≡ true
           → Offers d p settings r s
       go true t e =
           let g = among-rotation q r s ss e in
@@ -103,6 +103,6 @@ module _ (d : Datum) (p : PartType) (settings : Settings) (r : Rotation) (s : In
           subst (λ (z : Rotation). Offers d p settings z s) g.0 offers
       go false t e = absurd (false≢true e)
 
-  pub offered-says : offeredB d p settings r s ≡ true → Offers d p settings r s
-  unfolding offeredB offersOf
-  offered-says e = ⊎_elim (in-rotation Default) (in-rotation Rotated) (among-either r s (offersIn d p settings Default) (offersIn d p settings Rotated) e)
+  pub offered-says : offered_b d p settings r s ≡ true → Offers d p settings r s
+  unfolding offered_b offers_of
+  offered-says e = ⊎_elim (in-rotation Default) (in-rotation Rotated) (among-either r s (offers_in d p settings Default) (offers_in d p settings Rotated) e)

@@ -3,17 +3,17 @@ use Rattle.std.specs.Prelude.{Bool, true, false}
 use Rattle.piece.specs.declared.node.Kind.{Kind}
 use Rattle.piece.specs.declared.node.Kind.TheVariants.{Free, Part, Structure}
 
-abbrev pub isFree : Kind → Bool
-isFree Free = true
-isFree Part = false
-isFree Structure = false
+abbrev pub is_free : Kind → Bool
+is_free Free = true
+is_free Part = false
+is_free Structure = false
 
-abbrev pub isPart : Kind → Bool
-isPart Free = false
-isPart Part = true
-isPart Structure = false
+abbrev pub is_part : Kind → Bool
+is_part Free = false
+is_part Part = true
+is_part Structure = false
 
-abbrev pub isStructure : Kind → Bool
-isStructure Free = false
-isStructure Part = false
-isStructure Structure = true
+abbrev pub is_structure : Kind → Bool
+is_structure Free = false
+is_structure Part = false
+is_structure Structure = true

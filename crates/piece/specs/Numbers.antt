@@ -14,45 +14,45 @@ use Rattle.piece.specs.declared.insertion_blueprint.InsertionShape.{InsertionSha
 use Rattle.piece.specs.declared.insertion_blueprint.InsertionShape.TheVariants.{AlongCurrentCut, AcrossCurrentCut, AlongThenAcross, AcrossThenAlong}
 
 -- ---- the number of each
-abbrev pub kindNo : Kind → ℕ
-kindNo Free = 0
-kindNo Part = 1
-kindNo Structure = 2
+abbrev pub kind_no : Kind → ℕ
+kind_no Free = 0
+kind_no Part = 1
+kind_no Structure = 2
 
-abbrev pub cutNo : Orientation → ℕ
-cutNo Horizontal = 0
-cutNo Vertical = 1
+abbrev pub cut_no : Orientation → ℕ
+cut_no Horizontal = 0
+cut_no Vertical = 1
 
-abbrev pub turnNo : Turn → ℕ
-turnNo Either = 0
-turnNo (Fixed Default) = 1
-turnNo (Fixed Rotated) = 2
+abbrev pub turn_no : Turn → ℕ
+turn_no Either = 0
+turn_no (Fixed Default) = 1
+turn_no (Fixed Rotated) = 2
 
-abbrev pub rotationNo : Rotation → ℕ
-rotationNo Default = 0
-rotationNo Rotated = 1
+abbrev pub rotation_no : Rotation → ℕ
+rotation_no Default = 0
+rotation_no Rotated = 1
 
-abbrev pub shapeNo : InsertionShape → ℕ
-shapeNo AlongCurrentCut = 1
-shapeNo AcrossCurrentCut = 2
-shapeNo AlongThenAcross = 3
-shapeNo AcrossThenAlong = 4
+abbrev pub shape_no : InsertionShape → ℕ
+shape_no AlongCurrentCut = 1
+shape_no AcrossCurrentCut = 2
+shape_no AlongThenAcross = 3
+shape_no AcrossThenAlong = 4
 
 -- ---- whether a number is listed
-abbrev pub kindListed : ℕ → Bool
-kindListed n = leb n 2
+abbrev pub kind_listed : ℕ → Bool
+kind_listed n = leb n 2
 
-abbrev pub cutListed : ℕ → Bool
-cutListed n = leb n 1
+abbrev pub cut_listed : ℕ → Bool
+cut_listed n = leb n 1
 
-abbrev pub turnListed : ℕ → Bool
-turnListed n = leb n 2
+abbrev pub turn_listed : ℕ → Bool
+turn_listed n = leb n 2
 
-abbrev pub rotationListed : ℕ → Bool
-rotationListed n = leb n 1
+abbrev pub rotation_listed : ℕ → Bool
+rotation_listed n = leb n 1
 
-abbrev pub shapeListed : ℕ → Bool
-shapeListed n = leb 1 n && leb n 4
+abbrev pub shape_listed : ℕ → Bool
+shape_listed n = leb 1 n && leb n 4
 
 -- ---- what a listed number says
 abbrev pub kind_of : ℕ → Kind
@@ -64,8 +64,8 @@ cut_of n = cond (eqb n 0) Horizontal Vertical
 abbrev pub turn_of : ℕ → Turn
 turn_of n = cond (eqb n 0) Either (cond (eqb n 1) (Fixed Default) (Fixed Rotated))
 
-abbrev pub rotationOf : ℕ → Rotation
-rotationOf n = cond (eqb n 0) Default Rotated
+abbrev pub rotation_of : ℕ → Rotation
+rotation_of n = cond (eqb n 0) Default Rotated
 
 abbrev pub shape_of : ℕ → InsertionShape
 shape_of n =

@@ -6,24 +6,24 @@ use Rattle.piece.specs.declared.parttype.PartType.{PartType}
 use Rattle.piece.specs.declared.node.Datum.{Datum}
 use Rattle.piece.specs.declared.insertion_blueprint.InsertionShape.{InsertionShape}
 use Rattle.piece.specs.declared.insertion_option.Offer.{Offer}
-use Rattle.piece.specs.Numbers.{rotationNo, shapeNo}
-use Rattle.piece.specs.Offers.{offersOf}
+use Rattle.piece.specs.Numbers.{rotation_no, shape_no}
+use Rattle.piece.specs.Offers.{offers_of}
 
 -- they have the same number
-abbrev pub sameRotation : Rotation → Rotation → Bool
-sameRotation r q = eqb (rotationNo r) (rotationNo q)
+abbrev pub same_rotation : Rotation → Rotation → Bool
+same_rotation r q = eqb (rotation_no r) (rotation_no q)
 
 abbrev pub same_shape : InsertionShape → InsertionShape → Bool
-same_shape s u = eqb (shapeNo s) (shapeNo u)
+same_shape s u = eqb (shape_no s) (shape_no u)
 
-abbrev pub sameOffer : Rotation → InsertionShape → Offer → Bool
-sameOffer r s o = sameRotation o.rotation r && same_shape o.shape s
+abbrev pub same_offer : Rotation → InsertionShape → Offer → Bool
+same_offer r s o = same_rotation o.rotation r && same_shape o.shape s
 
 -- one of the offers is this one
-abbrev pub amongB : Rotation → InsertionShape → List Offer → Bool
-amongB r s [] = false
-amongB r s (o ∷ os) = sameOffer r s o || amongB r s os
+abbrev pub among_b : Rotation → InsertionShape → List Offer → Bool
+among_b r s [] = false
+among_b r s (o ∷ os) = same_offer r s o || among_b r s os
 
 -- the free piece d offers the part in this rotation and shape
-unfoldable pub offeredB : Datum → PartType → Settings → Rotation → InsertionShape → Bool
-offeredB d p settings r s = amongB r s (offersOf d p settings)
+unfoldable pub offered_b : Datum → PartType → Settings → Rotation → InsertionShape → Bool
+offered_b d p settings r s = among_b r s (offers_of d p settings)

@@ -15,9 +15,9 @@ use Rattle.piece.specs.declared.insertion_option.Offer.{Offer}
 use Rattle.piece.specs.declared.insertion_option.OfferList.{OfferList}
 use Rattle.piece.specs.Sides.{exchanged, laid}
 
-abbrev pub otherWay : Rotation → Rotation
-otherWay Default = Rotated
-otherWay Rotated = Default
+abbrev pub other_way : Rotation → Rotation
+other_way Default = Rotated
+other_way Rotated = Default
 
 -- "then Rotated (sides exchanged)"
 abbrev pub turned : Rotation → Size → Size
@@ -56,36 +56,36 @@ shapes al ac level stages =
 abbrev pub offer : Rotation → InsertionShape → Offer
 offer r s = record { rotation = r; shape = s }
 
-abbrev pub inRotation : Rotation → List InsertionShape → List Offer
-inRotation r [] = []
-inRotation r (s ∷ ss) = offer r s ∷ inRotation r ss
+abbrev pub in_rotation : Rotation → List InsertionShape → List Offer
+in_rotation r [] = []
+in_rotation r (s ∷ ss) = offer r s ∷ in_rotation r ss
 
 -- the offers of one rotation
-unfoldable pub offersIn : Datum → PartType → Settings → Rotation → List Offer
-offersIn piece part settings r =
+unfoldable pub offers_in : Datum → PartType → Settings → Rotation → List Offer
+offers_in piece part settings r =
     let p = turned r part.size in
     cond (allowed part.turn r && fits piece.size p)
-    (inRotation r (shapes (along piece.cut piece.size p) (across piece.cut piece.size p) piece.level settings.stages))
+    (in_rotation r (shapes (along piece.cut piece.size p) (across piece.cut piece.size p) piece.level settings.stages))
     []
 
 -- "Rotations come Default first, then Rotated"
-unfoldable pub offersOf : Datum → PartType → Settings → List Offer
-offersOf piece part settings = offersIn piece part settings Default ++ offersIn piece part settings Rotated
+unfoldable pub offers_of : Datum → PartType → Settings → List Offer
+offers_of piece part settings = offers_in piece part settings Default ++ offers_in piece part settings Rotated
 
 -- the list as the code holds it: four entries and a count; past the count stands the zero entry
-abbrev pub noOffer : Offer
-noOffer = offer Default AlongCurrentCut
+abbrev pub no_offer : Offer
+no_offer = offer Default AlongCurrentCut
 
-unfoldable pub asOfferList : List Offer → OfferList
-asOfferList l = record { list = take 4 (l ++ replicate 4 noOffer); count = length l }
+unfoldable pub as_offer_list : List Offer → OfferList
+as_offer_list l = record { list = take 4 (l ++ replicate 4 no_offer); count = length l }
 
-abbrev pub noOffers : OfferList
-noOffers = record { list = replicate 4 noOffer; count = 0 }
+abbrev pub no_offers : OfferList
+no_offers = record { list = replicate 4 no_offer; count = 0 }
 
 -- one offer more, and several
-abbrev pub withOffer : OfferList → Offer → OfferList
-withOffer o x = record { list = set o.list o.count x; count = o.count + 1 }
+abbrev pub with_offer : OfferList → Offer → OfferList
+with_offer o x = record { list = set o.list o.count x; count = o.count + 1 }
 
-abbrev pub withOffers : OfferList → List Offer → OfferList
-withOffers o [] = o
-withOffers o (x ∷ xs) = withOffers (withOffer o x) xs
+abbrev pub with_offers : OfferList → List Offer → OfferList
+with_offers o [] = o
+with_offers o (x ∷ xs) = with_offers (with_offer o x) xs

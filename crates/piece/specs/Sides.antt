@@ -10,9 +10,9 @@ abbrev pub other : Orientation → Orientation
 other Horizontal = Vertical
 other Vertical = Horizontal
 
-abbrev pub isHorizontal : Orientation → Bool
-isHorizontal Horizontal = true
-isHorizontal Vertical = false
+abbrev pub is_horizontal : Orientation → Bool
+is_horizontal Horizontal = true
+is_horizontal Vertical = false
 
 abbrev pub sized : ℕ → ℕ → Size
 sized w h = record { width = w; height = h }

@@ -1,7 +1,7 @@
 // The four shapes of an insertion and the nodes that each makes. Rust: core/insertion/insertion_blueprint.rs.
 ghost use Rattle.std.specs.Prelude.{◌≡◌};
-ghost use Rattle.piece.specs.Insertion.{blueprintOf, cutFrom, laidOut, laidMade, newNodes, no_node, insertionNodeOf};
-ghost use Rattle.piece.specs.Numbers.{shapeNo, shape_of};
+ghost use Rattle.piece.specs.Insertion.{blueprint_of, cut_from, laid_out, laid_made, new_nodes, no_node, insertion_node_of};
+ghost use Rattle.piece.specs.Numbers.{shape_no, shape_of};
 
 use crate::node::Kind;
 use crate::orientation::Orientation;
@@ -18,7 +18,7 @@ pub enum InsertionShape {
 impl InsertionShape {
     // Its number in bytes, and the shape of a listed number.
     pub fn number(self) -> u8
-        ensures { result ≡ shapeNo self }
+        ensures { result ≡ shape_no self }
     {
         match self {
             InsertionShape::AlongCurrentCut => 1,
@@ -45,7 +45,7 @@ impl InsertionShape {
 
     // How many nodes it makes.
     pub fn new_count(self) -> u16
-        ensures { result ≡ newNodes self }
+        ensures { result ≡ new_nodes self }
     {
         match self {
             InsertionShape::AlongCurrentCut => 2,
@@ -99,7 +99,7 @@ fn node(
     size: Size,
     eaten: u8,
 ) -> InsertionNode
-    ensures { result ≡ insertionNodeOf parent own (laidMade cut (cutFrom kind size.width size.height eaten)) }
+    ensures { result ≡ insertion_node_of parent own (laid_made cut (cut_from kind size.width size.height eaten)) }
 {
     InsertionNode {
         size: size.laid(cut),
@@ -114,7 +114,7 @@ fn node(
 // behind it, by a blade of this width, and the free piece is what is left.
 
 fn along_current_cut(blade: u8, cut: Orientation, piece: Size, part: Size) -> InsertionBlueprint
-    ensures { result ≡ laidOut InsertionShape.AlongCurrentCut blade cut piece part }
+    ensures { result ≡ laid_out InsertionShape.AlongCurrentCut blade cut piece part }
 {
     let z = no_node();
     let wide = rest(piece.width, part.width);
@@ -142,7 +142,7 @@ fn along_current_cut(blade: u8, cut: Orientation, piece: Size, part: Size) -> In
 }
 
 fn across_current_cut(blade: u8, cut: Orientation, piece: Size, part: Size) -> InsertionBlueprint
-    ensures { result ≡ laidOut InsertionShape.AcrossCurrentCut blade cut piece part }
+    ensures { result ≡ laid_out InsertionShape.AcrossCurrentCut blade cut piece part }
 {
     let z = no_node();
     let inner = cut.rotate();
@@ -165,7 +165,7 @@ fn across_current_cut(blade: u8, cut: Orientation, piece: Size, part: Size) -> I
 }
 
 fn along_then_across(blade: u8, cut: Orientation, piece: Size, part: Size) -> InsertionBlueprint
-    ensures { result ≡ laidOut InsertionShape.AlongThenAcross blade cut piece part }
+    ensures { result ≡ laid_out InsertionShape.AlongThenAcross blade cut piece part }
 {
     let z = no_node();
     let inner = cut.rotate();
@@ -201,7 +201,7 @@ fn along_then_across(blade: u8, cut: Orientation, piece: Size, part: Size) -> In
 }
 
 fn across_then_along(blade: u8, cut: Orientation, piece: Size, part: Size) -> InsertionBlueprint
-    ensures { result ≡ laidOut InsertionShape.AcrossThenAlong blade cut piece part }
+    ensures { result ≡ laid_out InsertionShape.AcrossThenAlong blade cut piece part }
 {
     let inner = cut.rotate();
     let wide = rest(piece.width, part.width);
@@ -245,7 +245,7 @@ pub fn nodes(
     piece: Size,
     part: Size,
 ) -> InsertionBlueprint
-    ensures { result ≡ blueprintOf shape blade cut piece part }
+    ensures { result ≡ blueprint_of shape blade cut piece part }
 {
     let whole = piece.laid(cut);
     let wanted = part.laid(cut);

@@ -1,7 +1,7 @@
 // The offers of a free piece for a part, and whether a rotation and a shape are among them. Rust: core/insertion/insertion_option.rs, with the shapes of core/entities/node.rs.
 ghost use Rattle.std.specs.Prelude.{◌≡◌, ◌<◌, ◌≤◌, take};
-ghost use Rattle.piece.specs.Offered.{amongB, offeredB, sameOffer};
-ghost use Rattle.piece.specs.Offers.{asOfferList, inRotation, noOffers, offer, offersIn, offersOf, shapes, withOffer, withOffers};
+ghost use Rattle.piece.specs.Offered.{among_b, offered_b, same_offer};
+ghost use Rattle.piece.specs.Offers.{as_offer_list, in_rotation, no_offers, offer, offers_in, offers_of, shapes, with_offer, with_offers};
 
 use crate::insertion_blueprint::InsertionShape;
 use crate::node::{Datum, fits_across, fits_along, insertion_possible};
@@ -24,7 +24,7 @@ pub struct OfferList {
 
 impl OfferList {
     pub fn none() -> OfferList
-        ensures { result ≡ noOffers }
+        ensures { result ≡ no_offers }
     {
         let z = Offer {
             rotation: Rotation::Default,
@@ -38,7 +38,7 @@ impl OfferList {
 
     fn with(mut self, rotation: Rotation, shape: InsertionShape) -> OfferList
         requires { self.count < 4 }
-        ensures { result ≡ withOffer self (offer rotation shape) }
+        ensures { result ≡ with_offer self (offer rotation shape) }
     {
         let at = self.count;
         self.list[at] = Offer { rotation, shape };
@@ -56,7 +56,7 @@ impl OfferList {
         stages: u8,
     ) -> OfferList
         requires { self.count ≤ 2 }
-        ensures { result ≡ withOffers self (inRotation rotation (shapes along across level stages)) }
+        ensures { result ≡ with_offers self (in_rotation rotation (shapes along across level stages)) }
     {
         if along {
             return self.with(rotation, InsertionShape::AlongCurrentCut);
@@ -83,7 +83,7 @@ impl OfferList {
         rotation: Rotation,
     ) -> OfferList
         requires { self.count ≤ 2 }
-        ensures { result ≡ withOffers self (offersIn piece part settings rotation) }
+        ensures { result ≡ with_offers self (offers_in piece part settings rotation) }
     {
         if part.allows(rotation) {} else {
             return self;
@@ -102,7 +102,7 @@ impl OfferList {
 
 // What a free piece offers for a part, Default before Rotated.
 pub fn offers(piece: Datum, part: PartType, settings: Settings) -> OfferList
-    ensures { result ≡ asOfferList (offersOf piece part settings) }
+    ensures { result ≡ as_offer_list (offers_of piece part settings) }
 {
     let first = OfferList::none().with_rotation(piece, part, settings, Rotation::Default);
     first.with_rotation(piece, part, settings, Rotation::Rotated)
@@ -111,7 +111,7 @@ pub fn offers(piece: Datum, part: PartType, settings: Settings) -> OfferList
 // Whether a rotation and a shape are among the offers.
 
 fn same_offer(rotation: Rotation, shape: InsertionShape, offer: Offer) -> bool
-    ensures { result ≡ sameOffer rotation shape offer }
+    ensures { result ≡ same_offer rotation shape offer }
 {
     let r = offer.rotation;
     let s = offer.shape;
@@ -125,7 +125,7 @@ fn same_offer(rotation: Rotation, shape: InsertionShape, offer: Offer) -> bool
 // One of the offers is this one.
 fn is_among(rotation: Rotation, shape: InsertionShape, offers: OfferList) -> bool
     requires { offers.count ≤ 4 }
-    ensures { result ≡ amongB rotation shape (take offers.count offers.list) }
+    ensures { result ≡ among_b rotation shape (take offers.count offers.list) }
 {
     let count = offers.count;
     let mut i: usize = 0;
@@ -146,7 +146,7 @@ pub fn is_offered(
     rotation: Rotation,
     shape: InsertionShape,
 ) -> bool
-    ensures { result ≡ offeredB piece part settings rotation shape }
+    ensures { result ≡ offered_b piece part settings rotation shape }
 {
     is_among(rotation, shape, offers(piece, part, settings))
 }

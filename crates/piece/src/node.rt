@@ -1,7 +1,7 @@
 // A piece of the sheet, apart from where it stands, and what can be cut from a free one. Rust: core/entities/node.rs.
 ghost use Rattle.std.specs.Prelude.{◌≡◌, Bool};
-ghost use Rattle.piece.specs.Kinds.{isFree, isPart, isStructure};
-ghost use Rattle.piece.specs.Numbers.{kindNo, kind_of};
+ghost use Rattle.piece.specs.Kinds.{is_free, is_part, is_structure};
+ghost use Rattle.piece.specs.Numbers.{kind_no, kind_of};
 ghost use Rattle.piece.specs.Offers.{fits, along, across};
 
 use crate::orientation::Orientation;
@@ -17,7 +17,7 @@ pub enum Kind {
 
 impl Kind {
     pub fn is_free(self) -> bool
-        ensures { result ≡ isFree self }
+        ensures { result ≡ is_free self }
     {
         match self {
             Kind::Free => true,
@@ -27,7 +27,7 @@ impl Kind {
     }
 
     pub fn is_part(self) -> bool
-        ensures { result ≡ isPart self }
+        ensures { result ≡ is_part self }
     {
         match self {
             Kind::Free => false,
@@ -37,7 +37,7 @@ impl Kind {
     }
 
     pub fn is_structure(self) -> bool
-        ensures { result ≡ isStructure self }
+        ensures { result ≡ is_structure self }
     {
         match self {
             Kind::Free => false,
@@ -48,7 +48,7 @@ impl Kind {
 
     // Its number in bytes, and the kind of a listed number.
     pub fn number(self) -> u8
-        ensures { result ≡ kindNo self }
+        ensures { result ≡ kind_no self }
     {
         match self {
             Kind::Free => 0,

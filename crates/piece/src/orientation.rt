@@ -1,7 +1,7 @@
 // The way of a cut. Rust: core/orientation.rs.
 ghost use Rattle.std.specs.Prelude.{◌≡◌};
-ghost use Rattle.piece.specs.Numbers.{cutNo, cut_of};
-ghost use Rattle.piece.specs.Sides.{isHorizontal, other};
+ghost use Rattle.piece.specs.Numbers.{cut_no, cut_of};
+ghost use Rattle.piece.specs.Sides.{is_horizontal, other};
 
 #[derive(Drop)]
 pub enum Orientation {
@@ -20,7 +20,7 @@ impl Orientation {
     }
 
     pub fn is_horizontal(self) -> bool
-        ensures { result ≡ isHorizontal self }
+        ensures { result ≡ is_horizontal self }
     {
         match self {
             Orientation::Horizontal => true,
@@ -30,7 +30,7 @@ impl Orientation {
 
     // Its number in bytes, and the cut of a listed number.
     pub fn number(self) -> u8
-        ensures { result ≡ cutNo self }
+        ensures { result ≡ cut_no self }
     {
         match self {
             Orientation::Horizontal => 0,

@@ -1,7 +1,7 @@
 // How a part is turned before it is cut. Rust: core/rotation.rs.
 ghost use Rattle.std.specs.Prelude.{◌≡◌};
-ghost use Rattle.piece.specs.Numbers.{rotationNo, rotationOf};
-ghost use Rattle.piece.specs.Offers.{otherWay};
+ghost use Rattle.piece.specs.Numbers.{rotation_no, rotation_of};
+ghost use Rattle.piece.specs.Offers.{other_way};
 
 #[derive(Drop)]
 pub enum Rotation {
@@ -11,7 +11,7 @@ pub enum Rotation {
 
 impl Rotation {
     pub fn rotate(self) -> Rotation
-        ensures { result ≡ otherWay self }
+        ensures { result ≡ other_way self }
     {
         match self {
             Rotation::Default => Rotation::Rotated,
@@ -21,7 +21,7 @@ impl Rotation {
 
     // Its number in bytes, and the rotation of a listed number.
     pub fn number(self) -> u8
-        ensures { result ≡ rotationNo self }
+        ensures { result ≡ rotation_no self }
     {
         match self {
             Rotation::Default => 0,
@@ -30,7 +30,7 @@ impl Rotation {
     }
 
     pub fn of_number(n: u8) -> Rotation
-        ensures { result ≡ rotationOf n }
+        ensures { result ≡ rotation_of n }
     {
         if n == 0 {
             Rotation::Default

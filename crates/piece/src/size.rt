@@ -1,6 +1,6 @@
 // A width and a height, in units of the sheet. Rust: core/size.rs.
 ghost use Rattle.std.specs.Prelude.{◌≡◌, ◌-◌};
-ghost use Rattle.piece.specs.Insertion.{eatenBehind};
+ghost use Rattle.piece.specs.Insertion.{eaten_behind};
 ghost use Rattle.piece.specs.Sides.{area, exchanged, laid};
 
 use crate::orientation::Orientation;
@@ -48,7 +48,7 @@ pub fn rest(whole: u32, taken: u32) -> u32
 
 // How much a blade of this width eats of a remainder: all of it, if that is less.
 pub fn eaten_behind(blade: u8, remainder: u32) -> u8
-    ensures { result ≡ eatenBehind blade remainder }
+    ensures { result ≡ eaten_behind blade remainder }
 {
     let width = blade as u32;
     if remainder < width {

@@ -3,7 +3,7 @@
 // Rests on C's calls alone, whose contracts say how many bytes moved and not which.
 ghost use Rattle.std.specs.Prelude.{◌≡◌, true, length};
 ghost use Rattle.pipes.specs.Came.{Within};
-ghost use Rattle.pipes.specs.Remedy.{remedyOf};
+ghost use Rattle.pipes.specs.Remedy.{remedy_of};
 
 use libc::types::timespec;
 
@@ -45,7 +45,7 @@ enum Remedy {
 }
 
 fn remedy_for(error: i32) -> Remedy
-    ensures { result ≡ remedyOf error }
+    ensures { result ≡ remedy_of error }
 {
     if error == libc::EINTR {
         return Remedy::Again;

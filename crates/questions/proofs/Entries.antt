@@ -10,9 +10,9 @@ use Rattle.piece.specs.declared.node.Datum.{Datum}
 use Rattle.piece.specs.declared.node.Kind.TheVariants.{Free}
 use Rattle.tree.specs.Tree.{At}
 use Rattle.walks.specs.Inner.{Placed}
-use Rattle.piece.specs.Kinds.{isFree}
+use Rattle.piece.specs.Kinds.{is_free}
 use Rattle.layout.specs.declared.layout.Layout.{Layout}
-use Rattle.layout.specs.Check.{limit, tree, soundB}
+use Rattle.layout.specs.Check.{limit, tree, sound_b}
 use Rattle.layout.specs.SoundLayout.{Pieces, Holding, SoundLayout, Sized}
 use Rattle.layout.proofs.Listed.{entries, piece-low}
 use Rattle.layout.proofs.Exactly.{sound-says}
@@ -26,11 +26,11 @@ module _ (l : Layout) (sized : Sized l) (s : SoundLayout l) where
   pub free-entry : (k : ℕ) → k < l.frees → (d : Datum) × At (get_or l.free k 0) d (tree l) × (d.kind ≡ Free)
   free-entry = entry_at l.free l.frees (omega arith) s.free.holding
 
-  pub removable-entry : (k : ℕ) → k < l.removables → (d : Datum) × At (get_or l.removable k 0) d (tree l) × (isFree d.kind ≡ false)
+  pub removable-entry : (k : ℕ) → k < l.removables → (d : Datum) × At (get_or l.removable k 0) d (tree l) × (is_free d.kind ≡ false)
   removable-entry = entry_at l.removable l.removables (omega arith) s.removable
 
 -- the code, which knows that the test says yes, can read at it
-module _ (l : Layout) (sized : Sized l) (ok : soundB l ≡ true) where
+module _ (l : Layout) (sized : Sized l) (ok : sound_b l ≡ true) where
   low : {P : Datum → Type 0} {p : ℕ} → ((d : Datum) × At p d (tree l) × P d) → p < limit
   low e = piece-low l.nodes (tree l) (sound-says l sized ok).holds _ e.0 e.1
 

@@ -15,7 +15,7 @@ use Rattle.piece.specs.declared.parttype.PartType.{PartType}
 use Rattle.piece.specs.declared.rotation.Rotation.{Rotation}
 use Rattle.piece.specs.declared.rotation.Rotation.TheVariants.{Default, Rotated}
 use Rattle.piece.specs.declared.settings.Settings.{Settings}
-use Rattle.piece.specs.Offers.{allowed, along, across, fits, asOfferList, inRotation, offersIn, offersOf, shapes, turned}
+use Rattle.piece.specs.Offers.{allowed, along, across, fits, as_offer_list, in_rotation, offers_in, offers_of, shapes, turned}
 use Rattle.piece.proofs.Sizes.{fits-sides}
 use Rattle.piece.proofs.Offered.{held-count}
 use Rattle.lists.proofs.Scan.{clash, and-false}
@@ -25,37 +25,37 @@ use Rattle.layout.specs.declared.layout.Layout.{Layout}
 use Rattle.layout.specs.declared.replies.Sought.{Sought}
 use Rattle.layout.specs.declared.replies.Sought.TheVariants as sought
 use Rattle.layout.specs.declared.replies.Outcome.TheVariants as outcomes
-use Rattle.layout.specs.Asked.{soughtOf, freePieceOf}
+use Rattle.layout.specs.Asked.{sought_of, free_piece_of}
 use Rattle.layout.proofs.Marks.{headed}
 use Rattle.questions.specs.declared.replies.OffersAnswer.{OffersAnswer}
-use Rattle.questions.specs.Answers.{offeredFor, offersCall, refusedOffers}
+use Rattle.questions.specs.Answers.{offered_for, offers_call, refused_offers}
 use Rattle.questions.specs.declared.reason.Reason.{Reason}
 use Rattle.questions.specs.declared.reason.Reason.TheVariants.{Forbidden, TooWide, TooTall, TooWideAndTall, StagesUsedUp, Offered}
 use Rattle.questions.specs.declared.why_not.WhyAnswer.{WhyAnswer}
-use Rattle.questions.specs.Reasons.{reasonIn, reasonOf, tooTall, tooWide}
-use Rattle.questions.specs.WhyNot.{reasonsFor, refusedWhy, whyCall, whyFor}
+use Rattle.questions.specs.Reasons.{reason_in, reason_of, too_tall, too_wide}
+use Rattle.questions.specs.WhyNot.{reasons_for, refused_why, why_call, why_for}
 
 -- the two tests of the sides, and what they say together
 module _ (piece part : Size) where
-  wide : piece.width < part.width → tooWide piece part ≡ true
+  wide : piece.width < part.width → too_wide piece part ≡ true
   wide h = lt-ltb _ _ h
 
-  narrow : part.width ≤ piece.width → tooWide piece part ≡ false
+  narrow : part.width ≤ piece.width → too_wide piece part ≡ false
   narrow h = le-ltb _ _ h
 
-  tall : piece.height < part.height → tooTall piece part ≡ true
+  tall : piece.height < part.height → too_tall piece part ≡ true
   tall h = lt-ltb _ _ h
 
-  low : part.height ≤ piece.height → tooTall piece part ≡ false
+  low : part.height ≤ piece.height → too_tall piece part ≡ false
   low h = le-ltb _ _ h
 
-  within : tooWide piece part ≡ false → tooTall piece part ≡ false → fits piece part ≡ true
+  within : too_wide piece part ≡ false → too_tall piece part ≡ false → fits piece part ≡ true
   within w t =
       rw (le-leb part.width piece.width (ltb-false _ _ w), le-leb part.height piece.height (ltb-false _ _ t)) refl
 
 -- a rotation that fits has an offer exactly where it is an along fit or a stage is left
 some-shape : (r : Rotation) (al ac : Bool) (level stages : ℕ) → (al ≡ true) ⊎ (level < stages)
-    → 0 < length (inRotation r (shapes al ac level stages))
+    → 0 < length (in_rotation r (shapes al ac level stages))
 unfolding shapes
 some-shape r true ac level stages k = omega arith
 some-shape r false ac level stages (inl e) = absurd (clash e)
@@ -69,118 +69,118 @@ no-shape ac level stages h =
 
 module _ (piece : Datum) (part : PartType) (settings : Settings) (r : Rotation) where
   -- the part as it would be cut
-  abbrev cutAs : Size
-  cutAs = turned r part.size
+  abbrev cut_as : Size
+  cut_as = turned r part.size
 
   abbrev Allowed : Type 0
   Allowed = allowed part.turn r ≡ true
 
   abbrev Fits : Type 0
-  Fits = fits piece.size cutAs ≡ true
+  Fits = fits piece.size cut_as ≡ true
 
   -- when each holds
   abbrev When : Reason → Type 0
   When Forbidden = allowed part.turn r ≡ false
-  When TooWide = Allowed × (piece.size.width < cutAs.width) × (cutAs.height ≤ piece.size.height)
-  When TooTall = Allowed × (cutAs.width ≤ piece.size.width) × (piece.size.height < cutAs.height)
-  When TooWideAndTall = Allowed × (piece.size.width < cutAs.width) × (piece.size.height < cutAs.height)
-  When StagesUsedUp = Allowed × Fits × (along piece.cut piece.size cutAs ≡ false) × (settings.stages ≤ piece.level)
-  When Offered = Allowed × Fits × ((along piece.cut piece.size cutAs ≡ true) ⊎ (piece.level < settings.stages))
+  When TooWide = Allowed × (piece.size.width < cut_as.width) × (cut_as.height ≤ piece.size.height)
+  When TooTall = Allowed × (cut_as.width ≤ piece.size.width) × (piece.size.height < cut_as.height)
+  When TooWideAndTall = Allowed × (piece.size.width < cut_as.width) × (piece.size.height < cut_as.height)
+  When StagesUsedUp = Allowed × Fits × (along piece.cut piece.size cut_as ≡ false) × (settings.stages ≤ piece.level)
+  When Offered = Allowed × Fits × ((along piece.cut piece.size cut_as ≡ true) ⊎ (piece.level < settings.stages))
 
   -- the reason that is given holds
-  holds : When (reasonIn piece part settings r)
-  unfolding reasonIn
+  holds : When (reason_in piece part settings r)
+  unfolding reason_in
   holds =
-      go (allowed part.turn r) refl (tooWide piece.size cutAs) refl (tooTall piece.size cutAs) refl
-      (along piece.cut piece.size cutAs) refl (leb settings.stages piece.level) refl
+      go (allowed part.turn r) refl (too_wide piece.size cut_as) refl (too_tall piece.size cut_as) refl
+      (along piece.cut piece.size cut_as) refl (leb settings.stages piece.level) refl
     where
-      go : (a : Bool) → allowed part.turn r ≡ a → (w : Bool) → tooWide piece.size cutAs ≡ w → (t : Bool) → tooTall piece.size cutAs ≡ t
-          → (al : Bool) → along piece.cut piece.size cutAs ≡ al → (n : Bool) → leb settings.stages piece.level ≡ n → When (reasonOf a w t al n)
+      go : (a : Bool) → allowed part.turn r ≡ a → (w : Bool) → too_wide piece.size cut_as ≡ w → (t : Bool) → too_tall piece.size cut_as ≡ t
+          → (al : Bool) → along piece.cut piece.size cut_as ≡ al → (n : Bool) → leb settings.stages piece.level ≡ n → When (reason_of a w t al n)
       go false a w ew t et al eal n en = a
       go true a true w true t al eal n en = (a, ltb-true _ _ w, ltb-true _ _ t)
       go true a true w false t al eal n en = (a, ltb-true _ _ w, ltb-false _ _ t)
       go true a false w true t al eal n en = (a, ltb-false _ _ w, ltb-true _ _ t)
-      go true a false w false t true al n en = (a, within piece.size cutAs w t, inl al)
-      go true a false w false t false al true n = (a, within piece.size cutAs w t, al, leb-true _ _ n)
-      go true a false w false t false al false n = (a, within piece.size cutAs w t, inr (leb-false _ _ n))
+      go true a false w false t true al n en = (a, within piece.size cut_as w t, inl al)
+      go true a false w false t false al true n = (a, within piece.size cut_as w t, al, leb-true _ _ n)
+      go true a false w false t false al false n = (a, within piece.size cut_as w t, inr (leb-false _ _ n))
 
   -- and one that holds is given
-  given : (x : Reason) → When x → reasonIn piece part settings r ≡ x
-  unfolding reasonIn
+  given : (x : Reason) → When x → reason_in piece part settings r ≡ x
+  unfolding reason_in
   given Forbidden a = rw a refl
-  given TooWide (a, w, t) = rw (a, wide piece.size cutAs w, low piece.size cutAs t) refl
-  given TooTall (a, w, t) = rw (a, narrow piece.size cutAs w, tall piece.size cutAs t) refl
-  given TooWideAndTall (a, w, t) = rw (a, wide piece.size cutAs w, tall piece.size cutAs t) refl
+  given TooWide (a, w, t) = rw (a, wide piece.size cut_as w, low piece.size cut_as t) refl
+  given TooTall (a, w, t) = rw (a, narrow piece.size cut_as w, tall piece.size cut_as t) refl
+  given TooWideAndTall (a, w, t) = rw (a, wide piece.size cut_as w, tall piece.size cut_as t) refl
   given StagesUsedUp (a, f, al, n) =
-      let s = fits-sides piece.size cutAs f in
-      rw (a, narrow piece.size cutAs s.0, low piece.size cutAs s.1, al, le-leb settings.stages piece.level n) refl
+      let s = fits-sides piece.size cut_as f in
+      rw (a, narrow piece.size cut_as s.0, low piece.size cut_as s.1, al, le-leb settings.stages piece.level n) refl
   given Offered (a, f, k) =
-      let s = fits-sides piece.size cutAs f in
-      rw (a, narrow piece.size cutAs s.0, low piece.size cutAs s.1)
-      (⊎_elim (λ al. rw al refl) (λ n. rw (lt-leb settings.stages piece.level n) (either (along piece.cut piece.size cutAs))) k)
+      let s = fits-sides piece.size cut_as f in
+      rw (a, narrow piece.size cut_as s.0, low piece.size cut_as s.1)
+      (⊎_elim (λ al. rw al refl) (λ n. rw (lt-leb settings.stages piece.level n) (either (along piece.cut piece.size cut_as))) k)
     where
       either : (al : Bool) → cond (not al && false) StagesUsedUp Offered ≡ Offered
       either true = refl
       either false = refl
 
-  exactly : (x : Reason) → (reasonIn piece part settings r ≡ x) ↔ When x
+  exactly : (x : Reason) → (reason_in piece part settings r ≡ x) ↔ When x
   exactly x = ((λ e. subst (λ (y : Reason). When y) e holds), given x)
 
   -- ---- "answer per rotation: turn forbidden, too wide, too tall, too wide and too tall, stages used up, or offered. Each is named exactly when it
   -- holds, forbidden first"
 
   -- "turn forbidden": whatever else holds
-  pub forbidden-exactly : (reasonIn piece part settings r ≡ Forbidden) ↔ (allowed part.turn r ≡ false)
+  pub forbidden-exactly : (reason_in piece part settings r ≡ Forbidden) ↔ (allowed part.turn r ≡ false)
   forbidden-exactly = exactly Forbidden
 
   -- "too wide": and not too tall
-  pub too-wide-exactly : (reasonIn piece part settings r ≡ TooWide)
-      ↔ (Allowed × (piece.size.width < cutAs.width) × (cutAs.height ≤ piece.size.height))
+  pub too-wide-exactly : (reason_in piece part settings r ≡ TooWide)
+      ↔ (Allowed × (piece.size.width < cut_as.width) × (cut_as.height ≤ piece.size.height))
   too-wide-exactly = exactly TooWide
 
   -- "too tall": and not too wide
-  pub too-tall-exactly : (reasonIn piece part settings r ≡ TooTall)
-      ↔ (Allowed × (cutAs.width ≤ piece.size.width) × (piece.size.height < cutAs.height))
+  pub too-tall-exactly : (reason_in piece part settings r ≡ TooTall)
+      ↔ (Allowed × (cut_as.width ≤ piece.size.width) × (piece.size.height < cut_as.height))
   too-tall-exactly = exactly TooTall
 
   -- "too wide and too tall"
-  pub too-wide-and-tall-exactly : (reasonIn piece part settings r ≡ TooWideAndTall)
-      ↔ (Allowed × (piece.size.width < cutAs.width) × (piece.size.height < cutAs.height))
+  pub too-wide-and-tall-exactly : (reason_in piece part settings r ≡ TooWideAndTall)
+      ↔ (Allowed × (piece.size.width < cut_as.width) × (piece.size.height < cut_as.height))
   too-wide-and-tall-exactly = exactly TooWideAndTall
 
   -- `"stages used up" exactly when the part fits, isn't an along fit and the level has reached the stages`
-  pub stages-used-up-exactly : (reasonIn piece part settings r ≡ StagesUsedUp)
-      ↔ (Allowed × Fits × (along piece.cut piece.size cutAs ≡ false) × (settings.stages ≤ piece.level))
+  pub stages-used-up-exactly : (reason_in piece part settings r ≡ StagesUsedUp)
+      ↔ (Allowed × Fits × (along piece.cut piece.size cut_as ≡ false) × (settings.stages ≤ piece.level))
   stages-used-up-exactly = exactly StagesUsedUp
 
   -- "or offered"
-  pub offered-exactly : (reasonIn piece part settings r ≡ Offered)
-      ↔ (Allowed × Fits × ((along piece.cut piece.size cutAs ≡ true) ⊎ (piece.level < settings.stages)))
+  pub offered-exactly : (reason_in piece part settings r ≡ Offered)
+      ↔ (Allowed × Fits × ((along piece.cut piece.size cut_as ≡ true) ⊎ (piece.level < settings.stages)))
   offered-exactly = exactly Offered
 
   -- ---- a reason says offered exactly where the rotation has an offer
 
-  has-offer : When Offered → 0 < length (offersIn piece part settings r)
-  unfolding offersIn
+  has-offer : When Offered → 0 < length (offers_in piece part settings r)
+  unfolding offers_in
   has-offer (a, f, k) =
       rw (a, f)
-      (some-shape r (along piece.cut piece.size cutAs) (across piece.cut piece.size cutAs) piece.level settings.stages k)
+      (some-shape r (along piece.cut piece.size cut_as) (across piece.cut piece.size cut_as) piece.level settings.stages k)
 
   -- any other reason leaves none
-  no-offer : (x : Reason) → When x → (x ≡ Offered) ⊎ (offersIn piece part settings r ≡ [])
-  unfolding offersIn
+  no-offer : (x : Reason) → When x → (x ≡ Offered) ⊎ (offers_in piece part settings r ≡ [])
+  unfolding offers_in
   no-offer Forbidden a = inr (rw a refl)
-  no-offer TooWide (a, w, t) = inr (rw (a, lt-leb cutAs.width piece.size.width w) refl)
-  no-offer TooTall (a, w, t) = inr (rw (a, le-leb cutAs.width piece.size.width w, lt-leb cutAs.height piece.size.height t) refl)
-  no-offer TooWideAndTall (a, w, t) = inr (rw (a, lt-leb cutAs.width piece.size.width w) refl)
+  no-offer TooWide (a, w, t) = inr (rw (a, lt-leb cut_as.width piece.size.width w) refl)
+  no-offer TooTall (a, w, t) = inr (rw (a, le-leb cut_as.width piece.size.width w, lt-leb cut_as.height piece.size.height t) refl)
+  no-offer TooWideAndTall (a, w, t) = inr (rw (a, lt-leb cut_as.width piece.size.width w) refl)
   no-offer StagesUsedUp (a, f, al, n) =
-      inr (rw (a, f, al, no-shape (across piece.cut piece.size cutAs) piece.level settings.stages n) refl)
+      inr (rw (a, f, al, no-shape (across piece.cut piece.size cut_as) piece.level settings.stages n) refl)
   no-offer Offered k = inl refl
 
-  pub offered-has-offer : (reasonIn piece part settings r ≡ Offered) ↔ (0 < length (offersIn piece part settings r))
+  pub offered-has-offer : (reason_in piece part settings r ≡ Offered) ↔ (0 < length (offers_in piece part settings r))
   offered-has-offer = (
     (λ e. has-offer ((exactly Offered).0 e)),
-    λ h. ⊎_elim (λ e. e) (λ e. let z : ⊥ = omega (arith, ap length e) in absurd z) (no-offer (reasonIn piece part settings r) holds),
+    λ h. ⊎_elim (λ e. e) (λ e. let z : ⊥ = omega (arith, ap length e) in absurd z) (no-offer (reason_in piece part settings r) holds),
   )
 
 -- ---- over the calls
@@ -197,7 +197,7 @@ record Agree (w : WhyAnswer) (o : OffersAnswer) : Type 0 where
 not-offered : Forbidden ≡ Offered → ⊥
 not-offered e = let z : ◌≡◌ {A = ℕ} 0 1 = cc in omega arith
 
-refused-agree : (e : Refusal) → Agree (refusedWhy e) (refusedOffers e)
+refused-agree : (e : Refusal) → Agree (refused_why e) (refused_offers e)
 refused-agree e =
     record {
       outcome = refl;
@@ -210,11 +210,11 @@ either-some zero b h = inr (omega arith)
 either-some (suc a) b h = inl (omega arith)
 
 module _ (d : Datum) (p : PartType) (settings : Settings) where
-  counted : (asOfferList (offersOf d p settings)).count ≡ length (offersIn d p settings Default) + length (offersIn d p settings Rotated)
-  unfolding offersOf
-  counted = held-count _ ∙ length-append (offersIn d p settings Default) (offersIn d p settings Rotated)
+  counted : (as_offer_list (offers_of d p settings)).count ≡ length (offers_in d p settings Default) + length (offers_in d p settings Rotated)
+  unfolding offers_of
+  counted = held-count _ ∙ length-append (offers_in d p settings Default) (offers_in d p settings Rotated)
 
-  piece-offers : (0 < (asOfferList (offersOf d p settings)).count) ↔ Some (reasonsFor d p settings)
+  piece-offers : (0 < (as_offer_list (offers_of d p settings)).count) ↔ Some (reasons_for d p settings)
   piece-offers =
       let one = offered-has-offer d p settings Default in
       let two = offered-has-offer d p settings Rotated in (
@@ -222,30 +222,30 @@ module _ (d : Datum) (p : PartType) (settings : Settings) where
         ⊎_elim (λ e. omega (arith, counted, one.0 e)) (λ e. omega (arith, counted, two.0 e)),
       )
 
-sought-agree : (l : Layout) (p : PartType) (s : Sought) → Agree (whyFor l p s) (offeredFor l p s)
+sought-agree : (l : Layout) (p : PartType) (s : Sought) → Agree (why_for l p s) (offered_for l p s)
 sought-agree l p (sought.Refused e) = refused-agree e
 sought-agree l p (sought.Piece d) = record { outcome = refl; offers = piece-offers d p l.settings }
 
-calls-agree : (l : Layout) (m : Mark) (p : PartType) → Agree (whyCall l m p) (offersCall l m p)
-unfolding whyCall offersCall
-calls-agree l m p = sought-agree l p (freePieceOf l m p)
+calls-agree : (l : Layout) (m : Mark) (p : PartType) → Agree (why_call l m p) (offers_call l m p)
+unfolding why_call offers_call
+calls-agree l m p = sought-agree l p (free_piece_of l m p)
 
 module _ (l : Layout) (m : Mark) (p : PartType) where
   -- "Refusals: those of offers."
-  pub same_outcome : (whyCall l m p).outcome ≡ (offersCall l m p).outcome
+  pub same_outcome : (why_call l m p).outcome ≡ (offers_call l m p).outcome
   same_outcome = (calls-agree l m p).outcome
 
   -- the piece has some offer for the part exactly where one of the two reasons says so
-  pub some-offer : (0 < (offersCall l m p).offers.count) ↔ (((whyCall l m p).default ≡ Offered) ⊎ ((whyCall l m p).rotated ≡ Offered))
+  pub some-offer : (0 < (offers_call l m p).offers.count) ↔ (((why_call l m p).default ≡ Offered) ⊎ ((why_call l m p).rotated ≡ Offered))
   some-offer = (calls-agree l m p).offers
 
   -- a call that is done gives the reasons of the piece that the mark names, so that what is said above holds of its answer
-  pub reasons-of-piece : (d : Datum) → soughtOf l m ≡ sought.Piece d → (whyCall l m p).outcome ≡ outcomes.Done
-      → whyCall l m p ≡ reasonsFor d p l.settings
-  unfolding whyCall
-  reasons-of-piece d e = go (freePieceOf l m p) refl
+  pub reasons-of-piece : (d : Datum) → sought_of l m ≡ sought.Piece d → (why_call l m p).outcome ≡ outcomes.Done
+      → why_call l m p ≡ reasons_for d p l.settings
+  unfolding why_call
+  reasons-of-piece d e = go (free_piece_of l m p) refl
     where
-      go : (q : Sought) → freePieceOf l m p ≡ q → (whyFor l p q).outcome ≡ outcomes.Done → whyFor l p q ≡ reasonsFor d p l.settings
+      go : (q : Sought) → free_piece_of l m p ≡ q → (why_for l p q).outcome ≡ outcomes.Done → why_for l p q ≡ reasons_for d p l.settings
       go (sought.Refused r) f h = absurd (clash (cc))
       go (sought.Piece x) f h =
-          let is : x ≡ d = cc (headed l m p x f).named in ap (λ (y : Datum). reasonsFor y p l.settings) is
+          let is : x ≡ d = cc (headed l m p x f).named in ap (λ (y : Datum). reasons_for y p l.settings) is

@@ -17,25 +17,25 @@ use Rattle.piece.specs.Row.{nil, grow}
 use Rattle.piece.proofs.Sizes.{area_small}
 use Rattle.tree.specs.Tree.{Tree, In, At, count}
 use Rattle.tree.specs.Sound.{Topped}
-use Rattle.tree.specs.Figures.{freeArea, treeUsage}
+use Rattle.tree.specs.Figures.{free_area, tree_usage}
 use Rattle.tree.proofs.Rows.{in?}
 use Rattle.tree.proofs.Read.{Written, Readable, sound-readable}
 use Rattle.tree.proofs.Usage.{sheet-small}
 use Rattle.tree.proofs.Laws.AreaConserved.{area-conserved}
 use Rattle.table.specs.declared.Node.{Node}
-use Rattle.table.specs.Table.{zeroNode, at, Holds}
-use Rattle.walks.specs.Usage.{usageAlong}
+use Rattle.table.specs.Table.{zero_node, at, Holds}
+use Rattle.walks.specs.Usage.{usage_along}
 use Rattle.walks.specs.Inner.{Small}
-use Rattle.walks.specs.Columns.{usageIn, columnsOf}
+use Rattle.walks.specs.Columns.{usage_in, columns_of}
 use Rattle.walks.specs.declared.columns.Columns.{Columns}
 use Rattle.walks.proofs.Meaning.{usage-top, small}
-use Rattle.sound.specs.Listed.{areaListed}
+use Rattle.sound.specs.Listed.{area_listed}
 use Rattle.sound.proofs.Worth.{holds-free-area}
 use Rattle.sound.proofs.Serials.{shown-at}
 use Rattle.layout.specs.declared.layout.Layout.{Layout}
 use Rattle.layout.specs.Check.{limit, tree}
 use Rattle.layout.specs.SoundLayout.{SoundLayout}
-use Rattle.questions.specs.Answers.{allFree}
+use Rattle.questions.specs.Answers.{all_free}
 
 -- ---- an answer after refusal 1: the check, which says t, says yes; or it says no
 
@@ -63,58 +63,58 @@ readable-each P says l (grow p e k r) f i d (inr (inl y)) = readable-each P says
 readable-each P says l (grow p e k r) f i d (inr (inr y)) = readable-each P says l r f.2 i d y
 
 -- and where it holds of no piece, it holds of each place of a table that holds a tree: a place has a piece of it, or is zero
-place-each : (P : Datum → Type 0) → P zeroNode.datum → (t : List Node) (w : Tree) → Holds limit t w → ((i : ℕ) (d : Datum) → At i d w → P d)
+place-each : (P : Datum → Type 0) → P zero_node.datum → (t : List Node) (w : Tree) → Holds limit t w → ((i : ℕ) (d : Datum) → At i d w → P d)
     → (i : ℕ) → P (at t i).datum
 place-each P zero t w h each i =
     ⊎_elim (λ y. each i (at t i).datum (shown-at limit t limit limit i w h.rep y)) (λ n. rw (empty n (ltb i limit) refl) zero) (in? i w)
   where
-    empty : (In i w → ⊥) → (b : Bool) → ltb i limit ≡ b → at t i ≡ zeroNode
+    empty : (In i w → ⊥) → (b : Bool) → ltb i limit ≡ b → at t i ≡ zero_node
     empty n true e = h.rest i (ltb-true i limit e) n
-    empty n false e = get_or-eq_default t zeroNode (omega (arith, ltb-false i limit e, h.len))
+    empty n false e = get_or-eq_default t zero_node (omega (arith, ltb-false i limit e, h.len))
 
 -- ---- the top
 
 -- the top is a structure
-top_kept : (settings : Settings) (w : Tree) → Topped settings w → allFree w ≡ false
+top_kept : (settings : Settings) (w : Tree) → Topped settings w → all_free w ≡ false
 top_kept settings nil h = absurd h
 top_kept settings (grow p d k r) h = rw h.0.kind refl
 
 -- the tree usage of the top, as the walk finds it from the place 0 with enough fuel
 top-usage : (settings : Settings) (t : List Node) (w : Tree) → Topped settings w → Holds limit t w → (left : ℕ) → count w ≤ left
-    → usageIn limit t left 0 ≡ treeUsage w
+    → usage_in limit t left 0 ≡ tree_usage w
 top-usage settings t nil h holds left b = absurd h
 top-usage settings t (grow p d k r) h holds left b =
     let alone : Holds limit t (grow p d k nil) = rw h.0.alone at holds in
     let fuel : count (grow p d k nil) ≤ left = omega arith in
-    ap (λ (x : ℕ). usageIn limit t left x) (sym h.0.place) ∙ usage-top limit t p d k left alone fuel
+    ap (λ (x : ℕ). usage_in limit t left x) (sym h.0.place) ∙ usage-top limit t p d k left alone fuel
 
 -- ---- a sound layout
 
 module _ (l : Layout) (s : SoundLayout l) where
   -- "areas stay below 2^52"
-  pub free-small : freeArea (tree l) < 2 ^ 52
+  pub free-small : free_area (tree l) < 2 ^ 52
   free-small = omega (arith, area-conserved (tree l) s.sound, sheet-small s.sound.domain)
 
   -- "`is_empty` is no on every sound layout"
-  pub never-empty : allFree (tree l) ≡ false
+  pub never-empty : all_free (tree l) ≡ false
   never-empty = top_kept l.settings (tree l) s.sound.topped
 
-  pub each-place : (P : Datum → Type 0) → P zeroNode.datum → ((k : ℕ) (d : Datum) → Written k d → P d) → (i : ℕ) → P (at l.nodes i).datum
+  pub each-place : (P : Datum → Type 0) → P zero_node.datum → ((k : ℕ) (d : Datum) → Written k d → P d) → (i : ℕ) → P (at l.nodes i).datum
   each-place P zero says =
       place-each P zero l.nodes (tree l) s.holds (readable-each P says 0 (tree l) (sound-readable (tree l) s.sound))
 
   -- over the columns of the table
-  module _ (c : Columns) (e : c ≡ columnsOf l.nodes) where
+  module _ (c : Columns) (e : c ≡ columns_of l.nodes) where
     pub areas-small : Small c.area
     areas-small =
         rw e
         (small limit l.nodes
         (each-place (λ d. area d.size < 2 ^ 52) (omega arith) (λ k d w. area_small d.size w.small.width w.small.height)))
 
-    pub free-area-is : areaListed 0 c.kind c.area limit ≡ freeArea (tree l)
+    pub free-area-is : area_listed 0 c.kind c.area limit ≡ free_area (tree l)
     free-area-is = rw e (holds-free-area limit l.nodes (tree l) s.holds)
 
     -- the walk from the top, with the nodes held as fuel
-    pub usage-is : usageAlong limit c.first c.next c.kind c.area l.held 0 ≡ treeUsage (tree l)
+    pub usage-is : usage_along limit c.first c.next c.kind c.area l.held 0 ≡ tree_usage (tree l)
     usage-is =
         rw e (top-usage l.settings l.nodes (tree l) s.sound.topped s.holds l.held (omega (arith, s.held)))

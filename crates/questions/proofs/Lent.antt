@@ -17,34 +17,34 @@ use Rattle.tree.specs.Removal.{subtree}
 use Rattle.tree.specs.Snapshot.{snapshot}
 use Rattle.lists.specs.Lists.{entries}
 use Rattle.walks.specs.declared.columns.Columns.{Columns}
-use Rattle.walks.specs.Columns.{columnsOf, snapshotIn}
-use Rattle.walks.specs.Along.{below, numbersAlong}
+use Rattle.walks.specs.Columns.{columns_of, snapshot_in}
+use Rattle.walks.specs.Along.{below, numbers_along}
 use Rattle.walks.specs.Inner.{Placed}
 use Rattle.walks.proofs.Meaning.{snapshot-subtree}
 use Rattle.walks.proofs.Entries.{entries_below, placed_below}
 use Rattle.walks.proofs.Along.{length-snapshot, numbers-held-count, parts-most}
 use Rattle.marks.specs.declared.Refusal.TheVariants.{NotSound, BufferTooShort}
 use Rattle.layout.specs.declared.layout.Layout.{Layout}
-use Rattle.layout.specs.Check.{limit, tree, soundB}
+use Rattle.layout.specs.Check.{limit, tree, sound_b}
 use Rattle.layout.specs.SoundLayout.{SoundLayout}
 use Rattle.questions.specs.declared.replies.CountAnswer.{CountAnswer}
 use Rattle.questions.specs.declared.replies.CountAnswer.TheVariants.{Count, Refused}
-use Rattle.questions.specs.Written.{answerTo, leftInBuffer, snapshotBytes, heldNumbers}
+use Rattle.questions.specs.Written.{answer_to, left_in_buffer, snapshot_bytes, held_numbers}
 
 -- ---- the ways to end
 
 -- a call that is to write `what` answers r, and the buffer is this before and that after
 abbrev pub Ends : Layout → List ℕ → CountAnswer → List ℕ → List ℕ → Type 0
-Ends l what r before after = (r ≡ answerTo l what (length before)) × (after ≡ leftInBuffer l what before)
+Ends l what r before after = (r ≡ answer_to l what (length before)) × (after ≡ left_in_buffer l what before)
 
 module _ (l : Layout) (what before : List ℕ) where
-  pub not_sound : soundB l ≡ false → Ends l what (Refused NotSound) before before
+  pub not_sound : sound_b l ≡ false → Ends l what (Refused NotSound) before before
   not_sound e = rw e (refl, refl)
 
-  pub too_short : soundB l ≡ true → length before < length what → Ends l what (Refused BufferTooShort) before before
+  pub too_short : sound_b l ≡ true → length before < length what → Ends l what (Refused BufferTooShort) before before
   too_short e h = rw (e, lt-leb (length what) (length before) h) (refl, refl)
 
-  pub done : {n : ℕ} {after : List ℕ} → soundB l ≡ true → length what ≤ length before → n ≡ length what
+  pub done : {n : ℕ} {after : List ℕ} → sound_b l ≡ true → length what ≤ length before → n ≡ length what
       → after ≡ sets before 0 what → Ends l what (Count n) before after
   done e h f g = rw (e, le-leb (length what) (length before) h) (ap Count f, g)
 
@@ -61,19 +61,19 @@ top-whole (grow p d k r) s = rw (eq-eqb p 0 s.topped.0.place, s.topped.0.alone) 
 
 -- what is written down the tree from place 0, over columns
 abbrev pub written : Layout → Columns → List ℕ
-written l c = snapshotIn limit c l.held 0
+written l c = snapshot_in limit c l.held 0
 
 module _ (l : Layout) (s : SoundLayout l) where
   pub held-room : l.held ≤ limit
   held-room = omega (arith, s.held, s.sound.room)
 
-  pub bytes-length : length (snapshotBytes l) ≡ 14 * l.held
-  unfolding snapshotBytes
+  pub bytes-length : length (snapshot_bytes l) ≡ 14 * l.held
+  unfolding snapshot_bytes
   bytes-length = length-snapshot (tree l) ∙ rw s.held refl
 
   -- is the snapshot
-  pub written_is : {c : Columns} → c ≡ columnsOf l.nodes → written l c ≡ snapshotBytes l
-  unfolding snapshotBytes
+  pub written_is : {c : Columns} → c ≡ columns_of l.nodes → written l c ≡ snapshot_bytes l
+  unfolding snapshot_bytes
   written_is e =
       ap (written l) e
       ∙ snapshot-subtree limit l.nodes (tree l) 0 l.held s.holds (top_in (tree l) s.sound) (omega (arith, s.held))
@@ -85,11 +85,11 @@ module _ {o : List ℕ} (every : o ≡ below limit) where
   pub every-placed : Placed limit limit o
   every-placed = rw every (placed_below limit)
 
-  pub numbers-are : (l : Layout) → numbersAlong l.nodes (entries limit o) ≡ heldNumbers l
-  unfolding heldNumbers
-  numbers-are l = rw every (ap (numbersAlong l.nodes) (entries_below limit))
+  pub numbers-are : (l : Layout) → numbers_along l.nodes (entries limit o) ≡ held_numbers l
+  unfolding held_numbers
+  numbers-are l = rw every (ap (numbers_along l.nodes) (entries_below limit))
 
-pub numbers-room : (l : Layout) → SoundLayout l → length (heldNumbers l) ≤ limit
-unfolding heldNumbers
+pub numbers-room : (l : Layout) → SoundLayout l → length (held_numbers l) ≤ limit
+unfolding held_numbers
 numbers-room l s =
     omega (arith, numbers-held-count limit l.nodes (tree l) s.holds, parts-most (tree l), s.sound.room)

@@ -16,21 +16,21 @@ use Rattle.piece.specs.declared.parttype.PartType.{PartType}
 use Rattle.piece.specs.declared.settings.Settings.{Settings}
 use Rattle.piece.specs.Sides.{sized}
 use Rattle.piece.specs.Row.{nil, grow}
-use Rattle.piece.specs.Offers.{offersIn, offersOf, shapes}
+use Rattle.piece.specs.Offers.{offers_in, offers_of, shapes}
 use Rattle.piece.specs.Insertion.{block_of, table}
-use Rattle.lists.specs.Search.{firstFrom}
+use Rattle.lists.specs.Search.{first_from}
 use Rattle.tree.specs.Tree.{Tree, At}
 use Rattle.tree.specs.Booking.{block}
-use Rattle.tree.specs.Family.{unheldFrom}
-use Rattle.tree.specs.Worked.{bookedTree, opening, wantedPart}
+use Rattle.tree.specs.Family.{unheld_from}
+use Rattle.tree.specs.Worked.{booked_tree, opening, wanted_part}
 use Rattle.marks.specs.declared.Mark.{Mark}
 use Rattle.layout.specs.declared.layout.Layout.{Layout}
 use Rattle.layout.specs.Check.{tree}
 use Rattle.layout.specs.SoundLayout.{SoundLayout, Sized}
 use Rattle.layout.proofs.Marks.{Names}
 use Rattle.questions.specs.declared.replies.LightAnswer.TheVariants.{Room}
-use Rattle.questions.specs.Answers.{markOf}
-use Rattle.questions.specs.Light.{lightOf}
+use Rattle.questions.specs.Answers.{mark_of}
+use Rattle.questions.specs.Light.{light_of}
 use Rattle.questions.proofs.ListMarks.{one-mark}
 use Rattle.questions.proofs.LightExactly.{Offering, named-exactly, yes-exactly}
 
@@ -47,23 +47,23 @@ abbrev below : Datum
 below = piece 7 Free 2 Vertical 0 100 10
 
 -- the sheet after the booking, with places and serials
-abbrev cutSheet : Tree
-cutSheet =
+abbrev cut_sheet : Tree
+cut_sheet =
     grow 0 (piece 1 Structure 0 Vertical 0 100 60)
     (grow 1 (piece 3 Structure 1 Horizontal 0 100 60)
     (grow 2 (piece 4 Structure 2 Vertical 0 100 50) (grow 3 (piece 5 Part 3 Horizontal 7 40 50) nil (grow 4 beside nil nil)) (grow 5 below nil nil))
     nil)
     nil
 
-booked : bookedTree AcrossThenAlong 40 50 ≡ cutSheet
-unfolding block_of table block unheldFrom firstFrom
+booked : booked_tree AcrossThenAlong 40 50 ≡ cut_sheet
+unfolding block_of table block unheld_from first_from
 booked = refl
 
 abbrev shelf : PartType
-shelf = wantedPart 95 10
+shelf = wanted_part 95 10
 
-abbrev asOpened : Settings
-asOpened = (opening 3).settings
+abbrev as_opened : Settings
+as_opened = (opening 3).settings
 
 -- the mark of the strip
 abbrev pub strip : Mark
@@ -86,8 +86,8 @@ part : Part ≡ Free → ⊥
 part e = let z : ◌≡◌ {A = ℕ} 0 1 = cc in omega arith
 
 -- no free piece but the strip has an offer for the shelf
-only_below : (q : ℕ) (x : Datum) → At q x cutSheet → x.kind ≡ Free → 0 < length (offersOf x shelf asOpened) → (q ≡ 5) × (x ≡ below)
-unfolding offersOf offersIn
+only_below : (q : ℕ) (x : Datum) → At q x cut_sheet → x.kind ≡ Free → 0 < length (offers_of x shelf as_opened) → (q ≡ 5) × (x ≡ below)
+unfolding offers_of offers_in
 only_below q x (inl (e, f)) k o = absurd (solid _ x structure f k)
 only_below q x (inr (inl (inl (e, f)))) k o = absurd (solid _ x structure f k)
 only_below q x (inr (inl (inr (inl (inl (e, f)))))) k o = absurd (solid _ x structure f k)
@@ -96,8 +96,8 @@ only_below q x (inr (inl (inr (inl (inr (inl (inr (inr h)))))))) k o =
     let none : 0 < 0 = rw (alone 4 q beside x h).1 at o in absurd (omega arith)
 only_below q x (inr (inl (inr (inl (inr (inr h)))))) k o = alone 5 q below x h
 
-module _ (l : Layout) (sized : Sized l) (s : SoundLayout l) (number : l.number ≡ 1) (settings : l.settings ≡ asOpened)
-    (stands : tree l ≡ bookedTree AcrossThenAlong 40 50) where
+module _ (l : Layout) (sized : Sized l) (s : SoundLayout l) (number : l.number ≡ 1) (settings : l.settings ≡ as_opened)
+    (stands : tree l ≡ booked_tree AcrossThenAlong 40 50) where
   there : At 5 below (tree l)
   there = subst (λ (w : Tree). At 5 below w) (sym (stands ∙ booked)) (inr (inl (inr (inl (inr (inr (inl (refl, refl))))))))
 
@@ -105,16 +105,16 @@ module _ (l : Layout) (sized : Sized l) (s : SoundLayout l) (number : l.number �
   strips = record { layout = sym number; there = there; serial = refl }
 
   offering : Offering l shelf strip
-  unfolding offersOf offersIn shapes
+  unfolding offers_of offers_in shapes
   offering = record { piece = below; names = strips; free = refl; offer = rw settings (omega arith) }
 
   named : (m : Mark) → Offering l shelf m → m ≡ strip
   named m o =
       let found = subst (λ (w : Tree). At m.place o.piece w) (stands ∙ booked) o.names.there in
       let is = only_below m.place o.piece found o.free (rw settings at o.offer) in
-      one-mark l s m o.piece o.names ∙ ap (markOf l) is.0 ∙ sym (one-mark l s strip below strips)
+      one-mark l s m o.piece o.names ∙ ap (mark_of l) is.0 ∙ sym (one-mark l s strip below strips)
 
-  pub the-strip : lightOf l shelf ≡ Room strip
+  pub the-strip : light_of l shelf ≡ Room strip
   the-strip =
       let y = (yes-exactly l sized s shelf refl).1 (strip, offering) in
       y.1 ∙ ap Room (named y.0 ((named-exactly l sized s shelf refl y.0).0 y.1).offering)

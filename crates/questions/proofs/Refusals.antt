@@ -9,14 +9,14 @@ use lib.ListN.{length}
 use Rattle.lists.proofs.Scan.{clash}
 use Rattle.marks.specs.declared.Refusal.{Refusal}
 use Rattle.layout.specs.declared.layout.Layout.{Layout}
-use Rattle.layout.specs.Check.{soundB}
+use Rattle.layout.specs.Check.{sound_b}
 use Rattle.questions.specs.declared.replies.CountAnswer.TheVariants.{Refused}
-use Rattle.questions.specs.Written.{answerTo, leftInBuffer}
+use Rattle.questions.specs.Written.{answer_to, left_in_buffer}
 
-pub refused-writing : (l : Layout) (what out : List ℕ) (e : Refusal) → answerTo l what (length out) ≡ Refused e → leftInBuffer l what out ≡ out
-refused-writing l what out e h = go (soundB l) (leb (length what) (length out)) refl refl
+pub refused-writing : (l : Layout) (what out : List ℕ) (e : Refusal) → answer_to l what (length out) ≡ Refused e → left_in_buffer l what out ≡ out
+refused-writing l what out e h = go (sound_b l) (leb (length what) (length out)) refl refl
   where
-    go : (a b : Bool) → soundB l ≡ a → leb (length what) (length out) ≡ b → leftInBuffer l what out ≡ out
+    go : (a b : Bool) → sound_b l ≡ a → leb (length what) (length out) ≡ b → left_in_buffer l what out ≡ out
     go true true x y = let o = rw (x, y) at h in absurd (clash (cc))
     go true false x y = rw (x, y) refl
     go false b x y = rw x refl

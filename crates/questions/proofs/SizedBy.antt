@@ -3,7 +3,7 @@ use mathlib.Core.Path.{◌≡◌, sym, ◌∙◌}
 use mathlib.Core.Bool.{Bool, true}
 use borrow.Fn.Kinds.{GoodsP}
 use Rattle.layout.specs.declared.layout.Layout.{Layout}
-use Rattle.layout.specs.Check.{soundB}
+use Rattle.layout.specs.Check.{sound_b}
 use Rattle.layout.specs.SoundLayout.{SoundLayout, Sized}
 use Rattle.layout.proofs.Typed.{typed-sized}
 use Rattle.layout.proofs.Exactly.{sound-says}
@@ -17,5 +17,5 @@ pub sized-by : (l : Layout) → Given l → Sized l
 sized-by l g = typed-sized l _ g.0
 
 -- the check answered t, which was yes
-pub sound-by : (l : Layout) → Given l → {t : Bool} → t ≡ soundB l → t ≡ true → SoundLayout l
+pub sound-by : (l : Layout) → Given l → {t : Bool} → t ≡ sound_b l → t ≡ true → SoundLayout l
 sound-by l g e h = sound-says l (sized-by l g) (sym e ∙ h)

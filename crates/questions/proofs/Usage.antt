@@ -19,7 +19,7 @@ use Rattle.piece.specs.Row.{nil, grow}
 use Rattle.piece.proofs.Sizes.{area_small}
 use Rattle.tree.specs.Tree.{Tree}
 use Rattle.tree.specs.Sound.{Kinded, Children, Topped}
-use Rattle.tree.specs.Figures.{partArea, nought, one, whole, sheetUsage, usageOf, added, treeUsage}
+use Rattle.tree.specs.Figures.{part_area, nought, one, whole, sheet_usage, usage_of, added, tree_usage}
 use Rattle.tree.proofs.Read.{Readable, sound-readable}
 use Rattle.tree.proofs.Usage.{sheet-small, sheet-positive}
 use Rattle.layout.specs.declared.layout.Layout.{Layout}
@@ -103,20 +103,20 @@ unfolding of_bits
 one-is = (refl, refl)
 
 -- the sheet's
-sheet-counts : (used sheet : ℕ) → used ≤ 2 ^ 53 → 0 < sheet → sheet ≤ 2 ^ 53 → Counts (sheetUsage used sheet)
-unfolding sheetUsage
+sheet-counts : (used sheet : ℕ) → used ≤ 2 ^ 53 → 0 < sheet → sheet ≤ 2 ^ 53 → Counts (sheet_usage used sheet)
+unfolding sheet_usage
 sheet-counts used sheet hu h hs =
     div-counts (whole used) (whole sheet) sheet (is-counts (whole used) used 1 (whole_is used hu)) h (whole_is sheet hs)
 
 -- a piece's area times its usage: a free piece can have area 0, and its usage is 0 then too
 piece-counts : (κ : Kind) (d : Datum) (k r : Tree) → Kinded κ d k r → area d.size ≤ 2 ^ 53 → Counts (added nought k)
-    → Counts (mul binary64 (whole (area d.size)) (usageOf κ (area d.size) (added nought k)))
+    → Counts (mul binary64 (whole (area d.size)) (usage_of κ (area d.size) (added nought k)))
 piece-counts Free d k r f small c = mul-finite (whole (area d.size)) nought (area d.size) 0 (whole_is (area d.size) small) nought-is
 piece-counts Part d k r f small c = mul-finite (whole (area d.size)) one (area d.size) 1 (whole_is (area d.size) small) one-is
 piece-counts Structure d k r f small c =
     let a = area d.size in
     let above = mul-pos f.sided.wide f.sided.tall in
-    mul-counts (whole a) (usageOf Structure a (added nought k)) a above (whole_is a small)
+    mul-counts (whole a) (usage_of Structure a (added nought k)) a above (whole_is a small)
     (div-counts (added nought k) (whole a) a c above (whole_is a small))
 
 -- a row's, added to s
@@ -128,9 +128,9 @@ row_counts settings q (grow p d k r) h l f s c =
     let small = area_small d.size f.0.small.width f.0.small.height in
     let below = row_counts settings d k h.below (l + 1) f.1 nought (is-counts nought 0 1 nought-is) in
     let here = piece-counts d.kind d k r h.kinded (omega arith) below in
-    row_counts settings q r h.beside l f.2 (add binary64 s (mul binary64 (whole a) (usageOf d.kind a (added nought k)))) (add-counts s _ c here)
+    row_counts settings q r h.beside l f.2 (add binary64 s (mul binary64 (whole a) (usage_of d.kind a (added nought k)))) (add-counts s _ c here)
 
-top-counts : (settings : Settings) (w : Tree) → Topped settings w → Readable 0 w → Counts (treeUsage w)
+top-counts : (settings : Settings) (w : Tree) → Topped settings w → Readable 0 w → Counts (tree_usage w)
 top-counts settings nil h f = absurd h
 top-counts settings (grow p d k r) h f =
     let a = area d.size in
@@ -143,12 +143,12 @@ top-counts settings (grow p d k r) h f =
 -- ---- of a sound layout
 
 module _ (l : Layout) (s : SoundLayout l) where
-  pub sheet-usage-number : T (not (is_nan (sheetUsage (partArea (tree l)) (area l.settings.sheet))))
+  pub sheet-usage-number : T (not (is_nan (sheet_usage (part_area (tree l)) (area l.settings.sheet))))
   sheet-usage-number =
-      let used = partArea (tree l) in
+      let used = part_area (tree l) in
       let sheet = area l.settings.sheet in
-      is_number (sheetUsage used sheet)
+      is_number (sheet_usage used sheet)
       (sheet-counts used sheet (omega (arith, used-small l s, s.used)) (sheet-positive s.sound.domain) (omega (arith, sheet-small s.sound.domain)))
 
-  pub tree-usage-number : T (not (is_nan (treeUsage (tree l))))
-  tree-usage-number = is_number (treeUsage (tree l)) (top-counts l.settings (tree l) s.sound.topped (sound-readable (tree l) s.sound))
+  pub tree-usage-number : T (not (is_nan (tree_usage (tree l))))
+  tree-usage-number = is_number (tree_usage (tree l)) (top-counts l.settings (tree l) s.sound.topped (sound-readable (tree l) s.sound))

@@ -10,15 +10,15 @@ use Rattle.layout.specs.declared.layout.Layout.{Layout}
 use Rattle.layout.proofs.Determined.{only}
 use Rattle.questions.specs.declared.reason.Reason.{Reason}
 use Rattle.questions.specs.declared.why_not.WhyAnswer.{WhyAnswer}
-use Rattle.questions.specs.Reasons.{reasonIn, reasonNo}
-use Rattle.questions.specs.WhyNot.{whyCall}
+use Rattle.questions.specs.Reasons.{reason_in, reason_no}
+use Rattle.questions.specs.WhyNot.{why_call}
 
-pub number-is-one : (x : Reason) (r s : ℕ) → r ≡ reasonNo x → s ≡ reasonNo x → r ≡ s
+pub number-is-one : (x : Reason) (r s : ℕ) → r ≡ reason_no x → s ≡ reason_no x → r ≡ s
 number-is-one x = only
 
 pub reason-in-is-one : (d : Datum) (p : PartType) (settings : Settings) (q : Rotation) (r s : Reason)
-    → r ≡ reasonIn d p settings q → s ≡ reasonIn d p settings q → r ≡ s
+    → r ≡ reason_in d p settings q → s ≡ reason_in d p settings q → r ≡ s
 reason-in-is-one d p settings q = only
 
-pub why-not-is-one : (l : Layout) (m : Mark) (p : PartType) (r s : WhyAnswer) → r ≡ whyCall l m p → s ≡ whyCall l m p → r ≡ s
+pub why-not-is-one : (l : Layout) (m : Mark) (p : PartType) (r s : WhyAnswer) → r ≡ why_call l m p → s ≡ why_call l m p → r ≡ s
 why-not-is-one l m p = only

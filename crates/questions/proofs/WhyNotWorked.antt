@@ -8,11 +8,11 @@ use Rattle.piece.specs.declared.parttype.Turn.{Turn}
 use Rattle.piece.specs.declared.parttype.Turn.TheVariants.{Either, Fixed}
 use Rattle.piece.specs.declared.parttype.PartType.{PartType}
 use Rattle.piece.specs.Sides.{sized}
-use Rattle.tree.specs.Open.{firstFree}
+use Rattle.tree.specs.Open.{first_free}
 use Rattle.tree.specs.Worked.{opening}
 use Rattle.questions.specs.declared.reason.Reason.{Reason}
 use Rattle.questions.specs.declared.reason.Reason.TheVariants.{Forbidden, TooWide, TooTall, TooWideAndTall, StagesUsedUp, Offered}
-use Rattle.questions.specs.Reasons.{reasonIn}
+use Rattle.questions.specs.Reasons.{reason_in}
 
 -- the part, number 7, w x h
 abbrev pub part : Turn → ℕ → ℕ → PartType
@@ -24,7 +24,7 @@ both d r = d ∷ r ∷ []
 abbrev pub reasons : Turn → ℕ → ℕ → ℕ → List Reason
 reasons t w h stages =
     let o = opening stages in
-    both (reasonIn (firstFree o) (part t w h) o.settings Default) (reasonIn (firstFree o) (part t w h) o.settings Rotated)
+    both (reason_in (first_free o) (part t w h) o.settings Default) (reason_in (first_free o) (part t w h) o.settings Rotated)
 
 unfoldable pub computed : List (List Reason)
 computed =
@@ -62,5 +62,5 @@ paper =
     ∷ []
 
 pub worked : computed ≡ paper
-unfolding computed paper reasonIn
+unfolding computed paper reason_in
 worked = refl

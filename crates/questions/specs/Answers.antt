@@ -2,11 +2,11 @@
 use Rattle.std.specs.Prelude.{List, Bool, true, cond, ◌&&◌, ℕ, ltb, get_or}
 use Rattle.piece.specs.declared.parttype.PartType.{PartType}
 use Rattle.piece.specs.Sides.{area}
-use Rattle.piece.specs.Offers.{asOfferList, noOffers, offersOf}
+use Rattle.piece.specs.Offers.{as_offer_list, no_offers, offers_of}
 use Rattle.piece.specs.Row.{nil, grow}
-use Rattle.piece.specs.Kinds.{isFree}
+use Rattle.piece.specs.Kinds.{is_free}
 use Rattle.tree.specs.Tree.{Tree, count}
-use Rattle.tree.specs.Figures.{partArea, freeArea, eatenArea, sheetUsage, treeUsage}
+use Rattle.tree.specs.Figures.{part_area, free_area, eaten_area, sheet_usage, tree_usage}
 use Rattle.table.specs.Table.{at}
 use Rattle.marks.specs.declared.Mark.{Mark}
 use Rattle.marks.specs.declared.Refusal.{Refusal}
@@ -15,8 +15,8 @@ use Rattle.layout.specs.declared.layout.Layout.{Layout}
 use Rattle.layout.specs.declared.replies.Sought.{Sought}
 use Rattle.layout.specs.declared.replies.Sought.TheVariants as sought
 use Rattle.layout.specs.declared.replies.Outcome.TheVariants as outcomes
-use Rattle.layout.specs.Check.{tree, soundB}
-use Rattle.layout.specs.Asked.{freePieceOf}
+use Rattle.layout.specs.Check.{tree, sound_b}
+use Rattle.layout.specs.Asked.{free_piece_of}
 use Rattle.questions.specs.declared.replies.AreaAnswer.{AreaAnswer}
 use Rattle.questions.specs.declared.replies.AreaAnswer.TheVariants as areas
 use Rattle.questions.specs.declared.replies.CountAnswer.{CountAnswer}
@@ -31,58 +31,58 @@ use Rattle.questions.specs.declared.replies.OffersAnswer.{OffersAnswer}
 
 -- ---- Figures: refusal 1
 
-unfoldable pub usedAreaOf : Layout → AreaAnswer
-usedAreaOf l = cond (soundB l) (areas.Area (partArea (tree l))) (areas.Refused NotSound)
+unfoldable pub used_area_of : Layout → AreaAnswer
+used_area_of l = cond (sound_b l) (areas.Area (part_area (tree l))) (areas.Refused NotSound)
 
-unfoldable pub freeAreaOf : Layout → AreaAnswer
-freeAreaOf l = cond (soundB l) (areas.Area (freeArea (tree l))) (areas.Refused NotSound)
+unfoldable pub free_area_of : Layout → AreaAnswer
+free_area_of l = cond (sound_b l) (areas.Area (free_area (tree l))) (areas.Refused NotSound)
 
 -- document 02, No. 4
-unfoldable pub eatenAreaOf : Layout → AreaAnswer
-eatenAreaOf l = cond (soundB l) (areas.Area (eatenArea (tree l))) (areas.Refused NotSound)
+unfoldable pub eaten_area_of : Layout → AreaAnswer
+eaten_area_of l = cond (sound_b l) (areas.Area (eaten_area (tree l))) (areas.Refused NotSound)
 
-unfoldable pub nodesHeldOf : Layout → CountAnswer
-nodesHeldOf l = cond (soundB l) (counts.Count (count (tree l))) (counts.Refused NotSound)
+unfoldable pub nodes_held_of : Layout → CountAnswer
+nodes_held_of l = cond (sound_b l) (counts.Count (count (tree l))) (counts.Refused NotSound)
 
-unfoldable pub sheetUsageOf : Layout → UsageAnswer
-sheetUsageOf l =
-    cond (soundB l) (usages.Usage (sheetUsage (partArea (tree l)) (area l.settings.sheet))) (usages.Refused NotSound)
+unfoldable pub sheet_usage_of : Layout → UsageAnswer
+sheet_usage_of l =
+    cond (sound_b l) (usages.Usage (sheet_usage (part_area (tree l)) (area l.settings.sheet))) (usages.Refused NotSound)
 
-unfoldable pub treeUsageOf : Layout → UsageAnswer
-treeUsageOf l = cond (soundB l) (usages.Usage (treeUsage (tree l))) (usages.Refused NotSound)
+unfoldable pub tree_usage_of : Layout → UsageAnswer
+tree_usage_of l = cond (sound_b l) (usages.Usage (tree_usage (tree l))) (usages.Refused NotSound)
 
 -- no node has a part or a child: "`is_empty` is no on every sound layout"
-abbrev pub allFree : Tree → Bool
-allFree nil = true
-allFree (grow p d k r) = isFree d.kind && (allFree k && allFree r)
+abbrev pub all_free : Tree → Bool
+all_free nil = true
+all_free (grow p d k r) = is_free d.kind && (all_free k && all_free r)
 
-unfoldable pub isEmptyOf : Layout → EmptyAnswer
-isEmptyOf l = cond (soundB l) (empties.Says (allFree (tree l))) (empties.Refused NotSound)
+unfoldable pub is_empty_of : Layout → EmptyAnswer
+is_empty_of l = cond (sound_b l) (empties.Says (all_free (tree l))) (empties.Refused NotSound)
 
 -- ---- The two lists: "a position gives a mark"; refusals 1, 12
 
 -- the mark of the piece at a place
-abbrev pub markOf : Layout → ℕ → Mark
-markOf l p = record { layout = l.number; place = p; serial = (at l.nodes p).datum.serial }
+abbrev pub mark_of : Layout → ℕ → Mark
+mark_of l p = record { layout = l.number; place = p; serial = (at l.nodes p).datum.serial }
 
-abbrev pub markAtPosition : Layout → List ℕ → ℕ → ℕ → MarkAnswer
-markAtPosition l list n k =
-    cond (soundB l) (cond (ltb k n) (marks.Found (markOf l (get_or list k 0))) (marks.Refused PastTheEnd)) (marks.Refused NotSound)
+abbrev pub mark_at_position : Layout → List ℕ → ℕ → ℕ → MarkAnswer
+mark_at_position l list n k =
+    cond (sound_b l) (cond (ltb k n) (marks.Found (mark_of l (get_or list k 0))) (marks.Refused PastTheEnd)) (marks.Refused NotSound)
 
-unfoldable pub freeMarkOf : Layout → ℕ → MarkAnswer
-freeMarkOf l k = markAtPosition l l.free l.frees k
+unfoldable pub free_mark_of : Layout → ℕ → MarkAnswer
+free_mark_of l k = mark_at_position l l.free l.frees k
 
-unfoldable pub removableMarkOf : Layout → ℕ → MarkAnswer
-removableMarkOf l k = markAtPosition l l.removable l.removables k
+unfoldable pub removable_mark_of : Layout → ℕ → MarkAnswer
+removable_mark_of l k = mark_at_position l l.removable l.removables k
 
 -- ---- Offers on a mark, after the head of a call on a free piece: refusals 1, 3, 4, 5, 6
 
-abbrev pub refusedOffers : Refusal → OffersAnswer
-refusedOffers r = record { outcome = outcomes.Refused r; offers = noOffers }
+abbrev pub refused_offers : Refusal → OffersAnswer
+refused_offers r = record { outcome = outcomes.Refused r; offers = no_offers }
 
-abbrev pub offeredFor : Layout → PartType → Sought → OffersAnswer
-offeredFor l p (sought.Refused r) = refusedOffers r
-offeredFor l p (sought.Piece d) = record { outcome = outcomes.Done; offers = asOfferList (offersOf d p l.settings) }
+abbrev pub offered_for : Layout → PartType → Sought → OffersAnswer
+offered_for l p (sought.Refused r) = refused_offers r
+offered_for l p (sought.Piece d) = record { outcome = outcomes.Done; offers = as_offer_list (offers_of d p l.settings) }
 
-unfoldable pub offersCall : Layout → Mark → PartType → OffersAnswer
-offersCall l m p = offeredFor l p (freePieceOf l m p)
+unfoldable pub offers_call : Layout → Mark → PartType → OffersAnswer
+offers_call l m p = offered_for l p (free_piece_of l m p)

@@ -7,10 +7,10 @@ use Rattle.piece.specs.Sides.{laid}
 use Rattle.table.specs.declared.Node.{Node}
 use Rattle.table.specs.Table.{at}
 
-abbrev pub stripOf : Datum → ℕ
-stripOf d = d.eaten * (laid d.cut d.size).height
+abbrev pub strip_of : Datum → ℕ
+strip_of d = d.eaten * (laid d.cut d.size).height
 
 -- the strips of the first n places
-unfoldable pub stripsOf : List Node → ℕ → ℕ
-stripsOf t zero = 0
-stripsOf t (suc n) = stripsOf t n + stripOf (at t n).datum
+unfoldable pub strips_of : List Node → ℕ → ℕ
+strips_of t zero = 0
+strips_of t (suc n) = strips_of t n + strip_of (at t n).datum

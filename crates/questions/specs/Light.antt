@@ -5,40 +5,40 @@ use Rattle.std.specs.Prelude.{Bool, cond, ℕ, ltb, get_or, length}
 use Rattle.piece.specs.declared.node.Datum.{Datum}
 use Rattle.piece.specs.declared.parttype.PartType.{PartType}
 use Rattle.piece.specs.declared.settings.Settings.{Settings}
-use Rattle.piece.specs.Offers.{offersOf}
-use Rattle.lists.specs.Search.{firstFrom}
+use Rattle.piece.specs.Offers.{offers_of}
+use Rattle.lists.specs.Search.{first_from}
 use Rattle.table.specs.Table.{at}
 use Rattle.marks.specs.declared.Mark.{Mark}
-use Rattle.marks.specs.Marks.{zeroMark}
+use Rattle.marks.specs.Marks.{zero_mark}
 use Rattle.marks.specs.declared.Refusal.TheVariants.{NotSound, PartOutside}
 use Rattle.layout.specs.declared.layout.Layout.{Layout}
-use Rattle.layout.specs.Check.{soundB}
-use Rattle.layout.specs.Asked.{partB}
+use Rattle.layout.specs.Check.{sound_b}
+use Rattle.layout.specs.Asked.{part_b}
 use Rattle.questions.specs.declared.replies.LightAnswer.{LightAnswer}
 use Rattle.questions.specs.declared.replies.LightAnswer.TheVariants.{Room, NoRoom, Refused}
-use Rattle.questions.specs.Answers.{markOf}
+use Rattle.questions.specs.Answers.{mark_of}
 
 -- the piece "has an offer for the part in an allowed rotation"
-abbrev pub hasOffer : Datum → PartType → Settings → Bool
-hasOffer piece part settings = ltb 0 (length (offersOf piece part settings))
+abbrev pub has_offer : Datum → PartType → Settings → Bool
+has_offer piece part settings = ltb 0 (length (offers_of piece part settings))
 
 -- the piece at a position of the free list has one
-abbrev pub offeringAt : Layout → PartType → ℕ → Bool
-offeringAt l p k = hasOffer (at l.nodes (get_or l.free k 0)).datum p l.settings
+abbrev pub offering_at : Layout → PartType → ℕ → Bool
+offering_at l p k = has_offer (at l.nodes (get_or l.free k 0)).datum p l.settings
 
 -- "the first such piece of the free list": its position, or the list's end where there is none
-unfoldable pub firstOffering : Layout → PartType → ℕ
-firstOffering l p = firstFrom (offeringAt l p) l.frees 0
+unfoldable pub first_offering : Layout → PartType → ℕ
+first_offering l p = first_from (offering_at l p) l.frees 0
 
 -- what the light says of that position
-abbrev pub lightAt : Layout → ℕ → LightAnswer
-lightAt l k = cond (ltb k l.frees) (Room (markOf l (get_or l.free k 0))) NoRoom
+abbrev pub light_at : Layout → ℕ → LightAnswer
+light_at l k = cond (ltb k l.frees) (Room (mark_of l (get_or l.free k 0))) NoRoom
 
-unfoldable pub lightOf : Layout → PartType → LightAnswer
-lightOf l p = cond (soundB l) (cond (partB p) (lightAt l (firstOffering l p)) (Refused PartOutside)) (Refused NotSound)
+unfoldable pub light_of : Layout → PartType → LightAnswer
+light_of l p = cond (sound_b l) (cond (part_b p) (light_at l (first_offering l p)) (Refused PartOutside)) (Refused NotSound)
 
 -- the mark that is named; where the answer is no, or a refusal, it is zero
-abbrev pub lightMark : LightAnswer → Mark
-lightMark (Room m) = m
-lightMark NoRoom = zeroMark
-lightMark (Refused r) = zeroMark
+abbrev pub light_mark : LightAnswer → Mark
+light_mark (Room m) = m
+light_mark NoRoom = zero_mark
+light_mark (Refused r) = zero_mark

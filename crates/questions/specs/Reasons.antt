@@ -10,18 +10,18 @@ use Rattle.questions.specs.declared.reason.Reason.{Reason}
 use Rattle.questions.specs.declared.reason.Reason.TheVariants.{Forbidden, TooWide, TooTall, TooWideAndTall, StagesUsedUp, Offered}
 
 -- "turn forbidden, too wide, too tall, too wide and too tall, stages used up, or offered": the number of each, in this order
-abbrev pub reasonNo : Reason → ℕ
-reasonNo Forbidden = 0
-reasonNo TooWide = 1
-reasonNo TooTall = 2
-reasonNo TooWideAndTall = 3
-reasonNo StagesUsedUp = 4
-reasonNo Offered = 5
+abbrev pub reason_no : Reason → ℕ
+reason_no Forbidden = 0
+reason_no TooWide = 1
+reason_no TooTall = 2
+reason_no TooWideAndTall = 3
+reason_no StagesUsedUp = 4
+reason_no Offered = 5
 
 -- "Each is named exactly when it holds, forbidden first": whether the turn is allowed, the part too wide, too tall, an along fit, and whether "the
 -- level has reached the stages". What is too wide or too tall does not fit, so that stages are looked at only where the part fits.
-abbrev pub reasonOf : Bool → Bool → Bool → Bool → Bool → Reason
-reasonOf allows wide tall al reached =
+abbrev pub reason_of : Bool → Bool → Bool → Bool → Bool → Reason
+reason_of allows wide tall al reached =
     cond (not allows) Forbidden
     (cond (wide && not tall) TooWide
     (cond (not wide && tall) TooTall
@@ -29,15 +29,15 @@ reasonOf allows wide tall al reached =
     (cond (not al && reached) StagesUsedUp
     Offered))))
 
-abbrev pub tooWide : Size → Size → Bool
-tooWide piece part = ltb piece.width part.width
+abbrev pub too_wide : Size → Size → Bool
+too_wide piece part = ltb piece.width part.width
 
-abbrev pub tooTall : Size → Size → Bool
-tooTall piece part = ltb piece.height part.height
+abbrev pub too_tall : Size → Size → Bool
+too_tall piece part = ltb piece.height part.height
 
 -- the reason of one rotation
-unfoldable pub reasonIn : Datum → PartType → Settings → Rotation → Reason
-reasonIn piece part settings r =
+unfoldable pub reason_in : Datum → PartType → Settings → Rotation → Reason
+reason_in piece part settings r =
     let p = turned r part.size in
-    reasonOf (allowed part.turn r) (tooWide piece.size p) (tooTall piece.size p) (along piece.cut piece.size p)
+    reason_of (allowed part.turn r) (too_wide piece.size p) (too_tall piece.size p) (along piece.cut piece.size p)
     (leb settings.stages piece.level)

@@ -10,23 +10,23 @@ use Rattle.layout.specs.declared.layout.Layout.{Layout}
 use Rattle.layout.specs.declared.replies.Sought.{Sought}
 use Rattle.layout.specs.declared.replies.Sought.TheVariants as sought
 use Rattle.layout.specs.declared.replies.Outcome.TheVariants as outcomes
-use Rattle.layout.specs.Asked.{freePieceOf}
+use Rattle.layout.specs.Asked.{free_piece_of}
 use Rattle.questions.specs.declared.reason.Reason.TheVariants.{Forbidden}
 use Rattle.questions.specs.declared.why_not.WhyAnswer.{WhyAnswer}
-use Rattle.questions.specs.Reasons.{reasonIn}
+use Rattle.questions.specs.Reasons.{reason_in}
 
 -- "zero in other fields": the reason with number 0
-abbrev pub refusedWhy : Refusal → WhyAnswer
-refusedWhy r = record { outcome = outcomes.Refused r; default = Forbidden; rotated = Forbidden }
+abbrev pub refused_why : Refusal → WhyAnswer
+refused_why r = record { outcome = outcomes.Refused r; default = Forbidden; rotated = Forbidden }
 
 -- "answer per rotation"
-abbrev pub reasonsFor : Datum → PartType → Settings → WhyAnswer
-reasonsFor d p settings =
-    record { outcome = outcomes.Done; default = reasonIn d p settings Default; rotated = reasonIn d p settings Rotated }
+abbrev pub reasons_for : Datum → PartType → Settings → WhyAnswer
+reasons_for d p settings =
+    record { outcome = outcomes.Done; default = reason_in d p settings Default; rotated = reason_in d p settings Rotated }
 
-abbrev pub whyFor : Layout → PartType → Sought → WhyAnswer
-whyFor l p (sought.Refused r) = refusedWhy r
-whyFor l p (sought.Piece d) = reasonsFor d p l.settings
+abbrev pub why_for : Layout → PartType → Sought → WhyAnswer
+why_for l p (sought.Refused r) = refused_why r
+why_for l p (sought.Piece d) = reasons_for d p l.settings
 
-unfoldable pub whyCall : Layout → Mark → PartType → WhyAnswer
-whyCall l m p = whyFor l p (freePieceOf l m p)
+unfoldable pub why_call : Layout → Mark → PartType → WhyAnswer
+why_call l m p = why_for l p (free_piece_of l m p)

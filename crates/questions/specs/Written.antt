@@ -3,26 +3,26 @@
 use Rattle.std.specs.Prelude.{List, cond, ℕ, leb, length}
 use Rattle.std.proofs.lemmas.List.Edits.{sets}
 use Rattle.tree.specs.Snapshot.{snapshot}
-use Rattle.walks.specs.Along.{below, numbersAlong}
+use Rattle.walks.specs.Along.{below, numbers_along}
 use Rattle.marks.specs.declared.Refusal.TheVariants.{NotSound, BufferTooShort}
 use Rattle.layout.specs.declared.layout.Layout.{Layout}
-use Rattle.layout.specs.Check.{limit, tree, soundB}
+use Rattle.layout.specs.Check.{limit, tree, sound_b}
 use Rattle.questions.specs.declared.replies.CountAnswer.{CountAnswer}
 use Rattle.questions.specs.declared.replies.CountAnswer.TheVariants.{Count, Refused}
 
 -- how many entries were written, of what is to be written into so much room
-abbrev pub answerTo : Layout → List ℕ → ℕ → CountAnswer
-answerTo l what room =
-    cond (soundB l) (cond (leb (length what) room) (Count (length what)) (Refused BufferTooShort)) (Refused NotSound)
+abbrev pub answer_to : Layout → List ℕ → ℕ → CountAnswer
+answer_to l what room =
+    cond (sound_b l) (cond (leb (length what) room) (Count (length what)) (Refused BufferTooShort)) (Refused NotSound)
 
 -- what the buffer then holds
-abbrev pub leftInBuffer : Layout → List ℕ → List ℕ → List ℕ
-leftInBuffer l what out = cond (soundB l) (cond (leb (length what) (length out)) (sets out 0 what) out) out
+abbrev pub left_in_buffer : Layout → List ℕ → List ℕ → List ℕ
+left_in_buffer l what out = cond (sound_b l) (cond (leb (length what) (length out)) (sets out 0 what) out) out
 
 -- the tree's snapshot
-unfoldable pub snapshotBytes : Layout → List ℕ
-snapshotBytes l = snapshot (tree l)
+unfoldable pub snapshot_bytes : Layout → List ℕ
+snapshot_bytes l = snapshot (tree l)
 
 -- the numbers of the parts held, by place
-unfoldable pub heldNumbers : Layout → List ℕ
-heldNumbers l = numbersAlong l.nodes (below limit)
+unfoldable pub held_numbers : Layout → List ℕ
+held_numbers l = numbers_along l.nodes (below limit)

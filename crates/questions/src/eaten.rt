@@ -1,7 +1,7 @@
 // The area that the saw's blade has eaten (document 02, change request 4), added up over the places of a table.
 ghost use Rattle.std.specs.Prelude.{◌≡◌, ◌<◌, ◌^◌};
 ghost use Rattle.lists.specs.Lists.{limit};
-ghost use Rattle.questions.specs.Eaten.{stripOf, stripsOf};
+ghost use Rattle.questions.specs.Eaten.{strip_of, strips_of};
 
 use piece::node::Datum;
 use piece::size::Size;
@@ -9,7 +9,7 @@ use table::{LIMIT, Node};
 
 // The strip behind a piece: its parent's cut, which took the piece off, divided one side and left the other whole.
 fn strip_of(d: Datum) -> u64
-    ensures { result ≡ stripOf d }
+    ensures { result ≡ strip_of d }
 {
     let cut = d.cut;
     let size = d.size;
@@ -22,8 +22,8 @@ fn strip_of(d: Datum) -> u64
 
 // The strips of all places, where they are known to be small.
 pub fn strips_of(nodes: [Node; LIMIT]) -> u64
-    requires { stripsOf nodes limit < 2 ^ 52 }
-    ensures { result ≡ stripsOf nodes limit }
+    requires { strips_of nodes limit < 2 ^ 52 }
+    ensures { result ≡ strips_of nodes limit }
 {
     let mut sum: u64 = 0;
     let mut i: usize = 0;

@@ -1,6 +1,6 @@
 // The figures of a layout: areas (used, free and eaten), nodes held, usage. Each examines the layout first (refusal 1).
 ghost use Rattle.std.specs.Prelude.{◌≡◌};
-ghost use Rattle.questions.specs.Answers.{eatenAreaOf, freeAreaOf, isEmptyOf, nodesHeldOf, sheetUsageOf, treeUsageOf, usedAreaOf};
+ghost use Rattle.questions.specs.Answers.{eaten_area_of, free_area_of, is_empty_of, nodes_held_of, sheet_usage_of, tree_usage_of, used_area_of};
 
 use crate::eaten::strips_of;
 use crate::replies::{AreaAnswer, CountAnswer, EmptyAnswer, UsageAnswer};
@@ -11,7 +11,7 @@ use walks::columns::columns_of;
 use walks::usage::usage_of;
 
 pub fn used_area(layout: Layout) -> AreaAnswer
-    ensures { result ≡ usedAreaOf layout }
+    ensures { result ≡ used_area_of layout }
 {
     if layout.sound() {
         AreaAnswer::Area(layout.used)
@@ -22,7 +22,7 @@ pub fn used_area(layout: Layout) -> AreaAnswer
 
 // The sum over the free pieces, never what the parts leave over.
 pub fn free_area(layout: Layout) -> AreaAnswer
-    ensures { result ≡ freeAreaOf layout }
+    ensures { result ≡ free_area_of layout }
 {
     if layout.sound() {} else {
         return AreaAnswer::Refused(Refusal::NotSound);
@@ -36,7 +36,7 @@ pub fn free_area(layout: Layout) -> AreaAnswer
 
 // What the saw's blade has eaten: the strip behind each piece.
 pub fn eaten_area(layout: Layout) -> AreaAnswer
-    ensures { result ≡ eatenAreaOf layout }
+    ensures { result ≡ eaten_area_of layout }
 {
     if layout.sound() {} else {
         return AreaAnswer::Refused(Refusal::NotSound);
@@ -46,7 +46,7 @@ pub fn eaten_area(layout: Layout) -> AreaAnswer
 }
 
 pub fn nodes_held(layout: Layout) -> CountAnswer
-    ensures { result ≡ nodesHeldOf layout }
+    ensures { result ≡ nodes_held_of layout }
 {
     if layout.sound() {
         CountAnswer::Count(layout.held)
@@ -57,7 +57,7 @@ pub fn nodes_held(layout: Layout) -> CountAnswer
 
 // Whole areas below 2^52 are cast without loss and divided once.
 pub fn sheet_usage(layout: Layout) -> UsageAnswer
-    ensures { result ≡ sheetUsageOf layout }
+    ensures { result ≡ sheet_usage_of layout }
 {
     if layout.sound() {} else {
         return UsageAnswer::Refused(Refusal::NotSound);
@@ -69,7 +69,7 @@ pub fn sheet_usage(layout: Layout) -> UsageAnswer
 }
 
 pub fn tree_usage(layout: Layout) -> UsageAnswer
-    ensures { result ≡ treeUsageOf layout }
+    ensures { result ≡ tree_usage_of layout }
 {
     if layout.sound() {} else {
         return UsageAnswer::Refused(Refusal::NotSound);
@@ -86,7 +86,7 @@ pub fn tree_usage(layout: Layout) -> UsageAnswer
 
 // No on every sound layout: the top has a child.
 pub fn is_empty(layout: Layout) -> EmptyAnswer
-    ensures { result ≡ isEmptyOf layout }
+    ensures { result ≡ is_empty_of layout }
 {
     if layout.sound() {
         EmptyAnswer::Says(false)

@@ -2,8 +2,8 @@
 ghost use Rattle.std.specs.Prelude.{◌≡◌, true, ◌<◌, ◌≤◌};
 ghost use Rattle.lists.specs.Lists.{limit};
 ghost use Rattle.walks.specs.Inner.{Placed};
-ghost use Rattle.layout.specs.Check.{soundB};
-ghost use Rattle.questions.specs.Answers.{freeMarkOf, markAtPosition, markOf, removableMarkOf};
+ghost use Rattle.layout.specs.Check.{sound_b};
+ghost use Rattle.questions.specs.Answers.{free_mark_of, mark_at_position, mark_of, removable_mark_of};
 
 use crate::replies::MarkAnswer;
 use layout::layout::Layout;
@@ -13,7 +13,7 @@ use table::LIMIT;
 // The mark of the piece at a place.
 pub(crate) fn mark_of(layout: Layout, place: u16) -> Mark
     requires { place < limit }
-    ensures { result ≡ markOf layout place }
+    ensures { result ≡ mark_of layout place }
 {
     let at = place as usize;
     let n = layout.nodes[at];
@@ -26,8 +26,8 @@ pub(crate) fn mark_of(layout: Layout, place: u16) -> Mark
 
 // The mark at a position of a list of which `count` entries count.
 fn mark_at(layout: Layout, list: [u16; LIMIT], count: u16, position: u16) -> MarkAnswer
-    requires { soundB layout ≡ true → (count ≤ limit) × Placed limit count list }
-    ensures { result ≡ markAtPosition layout list count position }
+    requires { sound_b layout ≡ true → (count ≤ limit) × Placed limit count list }
+    ensures { result ≡ mark_at_position layout list count position }
 {
     if layout.sound() {} else {
         return MarkAnswer::Refused(Refusal::NotSound);
@@ -41,7 +41,7 @@ fn mark_at(layout: Layout, list: [u16; LIMIT], count: u16, position: u16) -> Mar
 
 // The mark at a position of the free list.
 pub fn free_mark(layout: Layout, position: u16) -> MarkAnswer
-    ensures { result ≡ freeMarkOf layout position }
+    ensures { result ≡ free_mark_of layout position }
 {
     let list = layout.free;
     mark_at(layout, list, layout.frees, position)
@@ -49,7 +49,7 @@ pub fn free_mark(layout: Layout, position: u16) -> MarkAnswer
 
 // The mark at a position of the removable list.
 pub fn removable_mark(layout: Layout, position: u16) -> MarkAnswer
-    ensures { result ≡ removableMarkOf layout position }
+    ensures { result ≡ removable_mark_of layout position }
 {
     let list = layout.removable;
     mark_at(layout, list, layout.removables, position)

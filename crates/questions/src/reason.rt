@@ -1,6 +1,6 @@
 // What a free piece says of a part in one rotation.
 ghost use Rattle.std.specs.Prelude.{◌≡◌};
-ghost use Rattle.questions.specs.Reasons.{reasonIn, reasonNo, reasonOf};
+ghost use Rattle.questions.specs.Reasons.{reason_in, reason_no, reason_of};
 
 use piece::node::{Datum, fits_along};
 use piece::parttype::PartType;
@@ -20,7 +20,7 @@ pub enum Reason {
 
 impl Reason {
     pub fn number(self) -> u8
-        ensures { result ≡ reasonNo self }
+        ensures { result ≡ reason_no self }
     {
         match self {
             Reason::Forbidden => 0,
@@ -35,7 +35,7 @@ impl Reason {
 
 // The reason, from whether the turn is allowed, the part too wide, too tall, an along fit, and whether the level has reached the stages.
 fn reason_of(allowed: bool, wide: bool, tall: bool, along: bool, reached: bool) -> Reason
-    ensures { result ≡ reasonOf allowed wide tall along reached }
+    ensures { result ≡ reason_of allowed wide tall along reached }
 {
     if allowed {} else {
         return Reason::Forbidden;
@@ -60,7 +60,7 @@ fn reason_of(allowed: bool, wide: bool, tall: bool, along: bool, reached: bool) 
 
 // Why a free piece does not offer a part in this rotation, or that it does.
 pub fn reason_in(piece: Datum, part: PartType, settings: Settings, rotation: Rotation) -> Reason
-    ensures { result ≡ reasonIn piece part settings rotation }
+    ensures { result ≡ reason_in piece part settings rotation }
 {
     let whole = piece.size;
     let cut = piece.cut;

@@ -1,6 +1,6 @@
 // The answers of the calls. An array stands beside its enum, as the language asks.
 ghost use Rattle.std.specs.Prelude.{◌≡◌};
-ghost use Rattle.questions.specs.Light.{lightMark};
+ghost use Rattle.questions.specs.Light.{light_mark};
 
 use layout::replies::Outcome;
 use marks::{Mark, Refusal};
@@ -42,7 +42,7 @@ pub enum LightAnswer {
 impl LightAnswer {
     // The mark that is named; zero where there is none.
     pub fn mark(self) -> Mark
-        ensures { result ≡ lightMark self }
+        ensures { result ≡ light_mark self }
     {
         match self {
             LightAnswer::Room(mark) => mark,

@@ -1,8 +1,8 @@
 // Room for a part: the room light (refusals 1 and 3), and the offers of the free piece that a mark names (refusals 1, 3, 4, 5, 6).
 ghost use Rattle.std.specs.Prelude.{◌≡◌, true};
-ghost use Rattle.layout.specs.Check.{soundB};
-ghost use Rattle.questions.specs.Answers.{offersCall, refusedOffers};
-ghost use Rattle.questions.specs.Light.{firstOffering, hasOffer, lightAt, lightOf};
+ghost use Rattle.layout.specs.Check.{sound_b};
+ghost use Rattle.questions.specs.Answers.{offers_call, refused_offers};
+ghost use Rattle.questions.specs.Light.{first_offering, has_offer, light_at, light_of};
 
 use crate::positions::mark_of;
 use crate::replies::{LightAnswer, OffersAnswer};
@@ -16,7 +16,7 @@ use piece::parttype::PartType;
 use piece::settings::Settings;
 
 fn refused_offers(refusal: Refusal) -> OffersAnswer
-    ensures { result ≡ refusedOffers refusal }
+    ensures { result ≡ refused_offers refusal }
 {
     OffersAnswer {
         outcome: Outcome::Refused(refusal),
@@ -26,7 +26,7 @@ fn refused_offers(refusal: Refusal) -> OffersAnswer
 
 // Whether a piece has an offer for the part.
 fn has_offer(piece: Datum, part: PartType, settings: Settings) -> bool
-    ensures { result ≡ hasOffer piece part settings }
+    ensures { result ≡ has_offer piece part settings }
 {
     let offers = piece::insertion_option::offers(piece, part, settings);
     0 < offers.count
@@ -34,8 +34,8 @@ fn has_offer(piece: Datum, part: PartType, settings: Settings) -> bool
 
 // The first piece of a sound layout's free list that has an offer for the part.
 fn first_offering(layout: Layout, part: PartType) -> LightAnswer
-    requires { soundB layout ≡ true }
-    ensures { result ≡ lightAt layout (firstOffering layout part) }
+    requires { sound_b layout ≡ true }
+    ensures { result ≡ light_at layout (first_offering layout part) }
 {
     let mut i: u16 = 0;
     while i < layout.frees {
@@ -52,7 +52,7 @@ fn first_offering(layout: Layout, part: PartType) -> LightAnswer
 
 // Whether some free piece has an offer for the part, and the mark of the first one that has.
 pub fn room_light(layout: Layout, part: PartType) -> LightAnswer
-    ensures { result ≡ lightOf layout part }
+    ensures { result ≡ light_of layout part }
 {
     if layout.sound() {} else {
         return LightAnswer::Refused(Refusal::NotSound);
@@ -65,7 +65,7 @@ pub fn room_light(layout: Layout, part: PartType) -> LightAnswer
 
 // What the free piece that a mark names offers for a part.
 pub fn offers(layout: Layout, mark: Mark, part: PartType) -> OffersAnswer
-    ensures { result ≡ offersCall layout mark part }
+    ensures { result ≡ offers_call layout mark part }
 {
     match layout.free_piece(mark, part) {
         Sought::Refused(refusal) => refused_offers(refusal),

@@ -1,6 +1,6 @@
 // Why a free piece does not offer a part, in each rotation, on the mark of the piece. Refusals 1, 3, 4, 5, 6: "those of offers".
 ghost use Rattle.std.specs.Prelude.{◌≡◌};
-ghost use Rattle.questions.specs.WhyNot.{reasonsFor, refusedWhy, whyCall};
+ghost use Rattle.questions.specs.WhyNot.{reasons_for, refused_why, why_call};
 
 use crate::reason::{Reason, reason_in};
 use layout::layout::Layout;
@@ -20,7 +20,7 @@ pub struct WhyAnswer {
 }
 
 fn refused_why(refusal: Refusal) -> WhyAnswer
-    ensures { result ≡ refusedWhy refusal }
+    ensures { result ≡ refused_why refusal }
 {
     WhyAnswer {
         outcome: Outcome::Refused(refusal),
@@ -30,7 +30,7 @@ fn refused_why(refusal: Refusal) -> WhyAnswer
 }
 
 fn reasons_for(piece: Datum, part: PartType, settings: Settings) -> WhyAnswer
-    ensures { result ≡ reasonsFor piece part settings }
+    ensures { result ≡ reasons_for piece part settings }
 {
     WhyAnswer {
         outcome: Outcome::Done,
@@ -41,7 +41,7 @@ fn reasons_for(piece: Datum, part: PartType, settings: Settings) -> WhyAnswer
 
 // What the free piece that a mark names says of a part.
 pub fn why_not(layout: Layout, mark: Mark, part: PartType) -> WhyAnswer
-    ensures { result ≡ whyCall layout mark part }
+    ensures { result ≡ why_call layout mark part }
 {
     match layout.free_piece(mark, part) {
         Sought::Refused(refusal) => refused_why(refusal),

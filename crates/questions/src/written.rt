@@ -1,7 +1,7 @@
 // The calls that write into a lent buffer: the tree snapshot (Rust: core/insertion/node_blueprint.rs) and the part numbers held
 // (Rust: included_part_ids of core/entities/layout.rs; ours are by place).
 ghost use Rattle.std.specs.Prelude.{◌≡◌, length};
-ghost use Rattle.questions.specs.Written.{answerTo, heldNumbers, leftInBuffer, snapshotBytes};
+ghost use Rattle.questions.specs.Written.{answer_to, held_numbers, left_in_buffer, snapshot_bytes};
 
 use crate::replies::CountAnswer;
 use layout::layout::Layout;
@@ -13,8 +13,8 @@ use walks::snapshot::{NODE, put_subtree};
 
 // The snapshot of the tree, 14 bytes a node, and how many bytes it has. It is written down the tree from the top, which is at place 0.
 pub fn snapshot(layout: Layout, out: &mut [u8]) -> CountAnswer
-    ensures answer { result ≡ answerTo layout (snapshotBytes layout) (length out.old) }
-    ensures written { out.new ≡ leftInBuffer layout (snapshotBytes layout) out.old }
+    ensures answer { result ≡ answer_to layout (snapshot_bytes layout) (length out.old) }
+    ensures written { out.new ≡ left_in_buffer layout (snapshot_bytes layout) out.old }
 {
     if layout.sound() {} else {
         return CountAnswer::Refused(Refusal::NotSound);
@@ -35,8 +35,8 @@ pub fn snapshot(layout: Layout, out: &mut [u8]) -> CountAnswer
 
 // The numbers of the parts held, by place, and how many there are.
 pub fn part_numbers(layout: Layout, out: &mut [u16]) -> CountAnswer
-    ensures answer { result ≡ answerTo layout (heldNumbers layout) (length out.old) }
-    ensures written { out.new ≡ leftInBuffer layout (heldNumbers layout) out.old }
+    ensures answer { result ≡ answer_to layout (held_numbers layout) (length out.old) }
+    ensures written { out.new ≡ left_in_buffer layout (held_numbers layout) out.old }
 {
     if layout.sound() {} else {
         return CountAnswer::Refused(Refusal::NotSound);

@@ -12,9 +12,9 @@ use Rattle.piece.specs.declared.node.Datum.{Datum}
 use Rattle.piece.specs.declared.node.Kind.TheVariants.{Free}
 use Rattle.piece.specs.declared.settings.Settings.{Settings}
 use Rattle.piece.specs.Row.{nil, grow}
-use Rattle.piece.specs.Kinds.{isFree, isStructure}
+use Rattle.piece.specs.Kinds.{is_free, is_structure}
 use Rattle.lists.specs.Lists.{limit}
-use Rattle.lists.specs.Search.{firstFrom}
+use Rattle.lists.specs.Search.{first_from}
 use Rattle.lists.proofs.Scan.{and_left, and_right, and-false, clash, first-before, first-from, first_holds}
 use Rattle.tree.specs.Tree.{Tree, In, Distinct, after}
 use Rattle.tree.specs.Sound.{Sound}
@@ -29,11 +29,11 @@ use Rattle.tree.proofs.Tidying.{free-is, structure-is}
 use Rattle.tree.proofs.Laws.TidyTree.{untidy-removable}
 use Rattle.table.specs.declared.Node.{Node}
 use Rattle.table.specs.Table.{at, Holds}
-use Rattle.table.specs.Steps.{freeLast, freeLastPlace, going}
+use Rattle.table.specs.Steps.{free_last, free_last_place, going}
 use Rattle.table.proofs.Rep.{Shows, shows}
 use Rattle.table.proofs.Links.{datum-is}
-use Rattle.removal.specs.Going.{areaAlong, areaIfPart}
-use Rattle.removal.specs.Untidy.{bareGoing, bareIn, untidyIn, lowestUntidy}
+use Rattle.removal.specs.Going.{area_along, area_if_part}
+use Rattle.removal.specs.Untidy.{bare_going, bare_in, untidy_in, lowest_untidy}
 use Rattle.removal.proofs.Row.{row_of}
 
 -- ---- how the search goes
@@ -43,39 +43,39 @@ abbrev begins : ℕ
 begins = 1
 
 -- the lowest place from i on
-abbrev pub untidyFrom : List Node → ℕ → ℕ
-untidyFrom t i = firstFrom (untidyIn t) (limit - i) i
+abbrev pub untidy_from : List Node → ℕ → ℕ
+untidy_from t i = first_from (untidy_in t) (limit - i) i
 
 module _ (t : List Node) where
   -- what the tests at a place say
   module _ (i : ℕ) where
-    pub no-first : limit ≤ (at t i).first → untidyIn t i ≡ false
-    unfolding untidyIn
+    pub no-first : limit ≤ (at t i).first → untidy_in t i ≡ false
+    unfolding untidy_in
     no-first h = rw (le-ltb (at t i).first limit h) refl
 
-    pub not-bare : bareIn (at t i) (at t (at t i).first) ≡ false → untidyIn t i ≡ false
-    unfolding untidyIn
+    pub not-bare : bare_in (at t i) (at t (at t i).first) ≡ false → untidy_in t i ≡ false
+    unfolding untidy_in
     not-bare e = and-false (ltb (at t i).first limit) _ e
 
-    pub is-untidy : (at t i).first < limit → bareIn (at t i) (at t (at t i).first) ≡ true → untidyIn t i ≡ true
-    unfolding untidyIn
+    pub is-untidy : (at t i).first < limit → bare_in (at t i) (at t (at t i).first) ≡ true → untidy_in t i ≡ true
+    unfolding untidy_in
     is-untidy h e = rw (lt-ltb (at t i).first limit h, e) refl
 
-  pub from_start : untidyFrom t begins ≡ lowestUntidy t
-  unfolding lowestUntidy
+  pub from_start : untidy_from t begins ≡ lowest_untidy t
+  unfolding lowest_untidy
   from_start = refl
 
   module _ (i : ℕ) where
-    pub from_past : limit ≤ i → untidyFrom t i ≡ i
-    unfolding firstFrom
+    pub from_past : limit ≤ i → untidy_from t i ≡ i
+    unfolding first_from
     from_past h = let e : limit - i ≡ 0 = omega arith in rw e refl
 
-    pub from-here : i < limit → untidyIn t i ≡ true → untidyFrom t i ≡ i
-    unfolding firstFrom
+    pub from-here : i < limit → untidy_in t i ≡ true → untidy_from t i ≡ i
+    unfolding first_from
     from-here h f = let e : limit - i ≡ suc (limit - (i + 1)) = omega arith in rw (e, f) refl
 
-    pub from_on : i < limit → untidyIn t i ≡ false → untidyFrom t i ≡ untidyFrom t (i + 1)
-    unfolding firstFrom
+    pub from_on : i < limit → untidy_in t i ≡ false → untidy_from t i ≡ untidy_from t (i + 1)
+    unfolding first_from
     from_on h f = let e : limit - i ≡ suc (limit - (i + 1)) = omega arith in rw (e, f) refl
 
 -- ---- what it finds
@@ -83,16 +83,16 @@ module _ (t : List Node) where
 -- what the test says of a piece that is untidy
 record Bare (t : List Node) (i : ℕ) : Type 0 where
   first : (at t i).first < limit
-  structure : isStructure (at t i).datum.kind ≡ true
-  free : isFree (at t (at t i).first).datum.kind ≡ true
+  structure : is_structure (at t i).datum.kind ≡ true
+  free : is_free (at t (at t i).first).datum.kind ≡ true
 
-bare-means : (t : List Node) (i : ℕ) → untidyIn t i ≡ true → Bare t i
-unfolding untidyIn bareIn
+bare-means : (t : List Node) (i : ℕ) → untidy_in t i ≡ true → Bare t i
+unfolding untidy_in bare_in
 bare-means t i e =
     let a = ltb (at t i).first limit in
-    let b = isStructure (at t i).datum.kind in
+    let b = is_structure (at t i).datum.kind in
     let c = eqb (at t i).first (at t i).last in
-    let d = isFree (at t (at t i).first).datum.kind in
+    let d = is_free (at t (at t i).first).datum.kind in
     let o = and_right a (b && (c && d)) e in
     record {
       first = ltb-true (at t i).first limit (and_left a (b && (c && d)) e);
@@ -102,7 +102,7 @@ bare-means t i e =
 
 module _ (settings : Settings) (t : List Node) (w : Tree) (sound : Sound limit settings w) (h : Holds limit t w) where
   -- the children of a piece whose first child is there and free are that one
-  only_child : (x : ℕ) (k : Tree) → Kids x k w → Shows limit t x k → (at t x).first < limit → isFree (at t (at t x).first).datum.kind ≡ true
+  only_child : (x : ℕ) (k : Tree) → Kids x k w → Shows limit t x k → (at t x).first < limit → is_free (at t (at t x).first).datum.kind ≡ true
       → (p : ℕ) × (e : Datum) × Kids x (grow p e nil nil) w × (e.kind ≡ Free)
   only_child x nil g o low free = let no-child : ⊥ = omega (arith, o.first) in absurd no-child
   only_child x (grow p e k r) g o low free =
@@ -114,7 +114,7 @@ module _ (settings : Settings) (t : List Node) (w : Tree) (sound : Sound limit s
       (p, e, rw (z.1, z.2) at g, kind)
 
   -- a place where the test holds is that of an untidy structure, but for the top's
-  pub untidy-means : (x : ℕ) → x < limit → (x ≡ 0 → ⊥) → untidyIn t x ≡ true → Untidy x w
+  pub untidy-means : (x : ℕ) → x < limit → (x ≡ 0 → ⊥) → untidy_in t x ≡ true → Untidy x w
   untidy-means x low below e = go (in? x w)
     where
       b : Bare t x
@@ -139,8 +139,8 @@ module _ (settings : Settings) (t : List Node) (w : Tree) (sound : Sound limit s
       go (inr n) = absurd (clash (rw (h.rest x low n) at b.structure))
 
   -- and at each of those it holds
-  pub untidy-shows : (x : ℕ) → Untidy x w → (x < limit) × (untidyIn t x ≡ true)
-  unfolding bareIn
+  pub untidy-shows : (x : ℕ) → Untidy x w → (x < limit) × (untidy_in t x ≡ true)
+  unfolding bare_in
   untidy-shows x u =
       let k = grow u.place u.child nil nil in
       let o = shows limit t limit limit x k w h.rep u.only in
@@ -153,27 +153,27 @@ module _ (settings : Settings) (t : List Node) (w : Tree) (sound : Sound limit s
       )
 
   -- what is found is the lowest untidy structure
-  pub found-lowest : lowestUntidy t < limit → Lowest (lowestUntidy t) w
-  unfolding lowestUntidy
+  pub found-lowest : lowest_untidy t < limit → Lowest (lowest_untidy t) w
+  unfolding lowest_untidy
   found-lowest b =
-      let from = first-from (untidyIn t) (limit - begins) begins in
+      let from = first-from (untidy_in t) (limit - begins) begins in
       record {
-        untidy = untidy-means (lowestUntidy t) b (λ z. omega arith) (first_holds (untidyIn t) (limit - begins) begins (omega arith));
+        untidy = untidy-means (lowest_untidy t) b (λ z. omega arith) (first_holds (untidy_in t) (limit - begins) begins (omega arith));
         lowest = λ y l u. not-before y l u;
       }
     where
-      not-before : (y : ℕ) → y < lowestUntidy t → Untidy y w → ⊥
+      not-before : (y : ℕ) → y < lowest_untidy t → Untidy y w → ⊥
       not-before y l u =
           let some : begins ≤ y = omega (arith, u.below) in
-          clash (sym (first-before (untidyIn t) (limit - begins) begins y some l) ∙ (untidy-shows y u).1)
+          clash (sym (first-before (untidy_in t) (limit - begins) begins y some l) ∙ (untidy-shows y u).1)
 
   -- and where nothing is found there is none
-  pub found_none : limit ≤ lowestUntidy t → Tidy w
-  unfolding lowestUntidy
+  pub found_none : limit ≤ lowest_untidy t → Tidy w
+  unfolding lowest_untidy
   found_none b x u =
       let s = untidy-shows x u in
       let some : begins ≤ x = omega (arith, u.below) in
-      clash (sym (first-before (untidyIn t) (limit - begins) begins x some (omega arith)) ∙ s.1)
+      clash (sym (first-before (untidy_in t) (limit - begins) begins x some (omega arith)) ∙ s.1)
 
 -- ---- what goes with one of them
 
@@ -181,21 +181,21 @@ module _ (settings : Settings) (t : List Node) (w : Tree) (sound : Sound limit s
 kids-one : (x : ℕ) (k m w : Tree) → Distinct w → Kids x k w → Kids x m w → k ≡ m
 kids-one x k m nil u g h = absurd g
 kids-one x k m (grow p d l r) u (inl e) (inl f) = e.1 ∙ sym f.1
-kids-one x k m (grow p d l r) u (inl e) (inr (inl h)) = absurd (u.notBelow (in-eq l e.0 (kids-in x m l h)))
-kids-one x k m (grow p d l r) u (inl e) (inr (inr h)) = absurd (u.notBeside (in-eq r e.0 (kids-in x m r h)))
-kids-one x k m (grow p d l r) u (inr (inl g)) (inl f) = absurd (u.notBelow (in-eq l f.0 (kids-in x k l g)))
+kids-one x k m (grow p d l r) u (inl e) (inr (inl h)) = absurd (u.not_below (in-eq l e.0 (kids-in x m l h)))
+kids-one x k m (grow p d l r) u (inl e) (inr (inr h)) = absurd (u.not_beside (in-eq r e.0 (kids-in x m r h)))
+kids-one x k m (grow p d l r) u (inr (inl g)) (inl f) = absurd (u.not_below (in-eq l f.0 (kids-in x k l g)))
 kids-one x k m (grow p d l r) u (inr (inl g)) (inr (inl h)) = kids-one x k m l u.below g h
 kids-one x k m (grow p d l r) u (inr (inl g)) (inr (inr h)) = absurd (u.apart x (kids-in x k l g) (kids-in x m r h))
-kids-one x k m (grow p d l r) u (inr (inr g)) (inl f) = absurd (u.notBeside (in-eq r f.0 (kids-in x k r g)))
+kids-one x k m (grow p d l r) u (inr (inr g)) (inl f) = absurd (u.not_beside (in-eq r f.0 (kids-in x k r g)))
 kids-one x k m (grow p d l r) u (inr (inr g)) (inr (inl h)) = absurd (u.apart x (kids-in x m l h) (kids-in x k r g))
 kids-one x k m (grow p d l r) u (inr (inr g)) (inr (inr h)) = kids-one x k m r u.beside g h
 
 -- the free piece at the end of a row has no part's area
-end-area : (t : List Node) (q : ℕ) → areaAlong t (freeLastPlace t q) ≡ 0
-unfolding freeLastPlace
-end-area t q = go (freeLast t q) refl
+end-area : (t : List Node) (q : ℕ) → area_along t (free_last_place t q) ≡ 0
+unfolding free_last_place
+end-area t q = go (free_last t q) refl
   where
-    go : (b : Bool) → freeLast t q ≡ b → areaAlong t (cond b ((at t q).last ∷ []) []) ≡ 0
+    go : (b : Bool) → free_last t q ≡ b → area_along t (cond b ((at t q).last ∷ []) []) ≡ 0
     go false e = refl
     go true e = rw (free-is (at t (at t q).last).datum.kind e) refl
 
@@ -211,8 +211,8 @@ module _ (settings : Settings) (t : List Node) (w : Tree) (sound : Sound limit s
   bare-first = rw own-shows.first own-shows.rep.0
 
   -- that goes, and it
-  pub bare-goes : bareGoing t x ≡ going t x w
-  unfolding bareGoing
+  pub bare-goes : bare_going t x ≡ going t x w
+  unfolding bare_going
   bare-goes =
       let z = untidy-removable x w u in
       let o = row_of limit settings t w sound h x z in
@@ -223,12 +223,12 @@ module _ (settings : Settings) (t : List Node) (w : Tree) (sound : Sound limit s
       rw (own-shows.first, is, below) refl
 
   -- and none of it is a part
-  pub bare-area : areaAlong t (bareGoing t x) ≡ 0
-  unfolding bareGoing
+  pub bare-area : area_along t (bare_going t x) ≡ 0
+  unfolding bare_going
   bare-area =
       let i = kids-at x own u.place u.child w u.only (inl (refl, refl)) in
-      let child : areaIfPart (at t (at t x).first).datum ≡ 0 =
+      let child : area_if_part (at t (at t x).first).datum ≡ 0 =
       rw (own-shows.first, datum-is limit t limit limit u.place u.child w h.rep i, u.free) refl
       in
-      let piece : areaIfPart (at t x).datum ≡ 0 = rw (datum-is limit t limit limit x u.piece w h.rep u.there, u.structure) refl in
+      let piece : area_if_part (at t x).datum ≡ 0 = rw (datum-is limit t limit limit x u.piece w h.rep u.there, u.structure) refl in
       omega (arith, child, piece, end-area t (at t x).parent)

@@ -11,7 +11,7 @@ use Rattle.tree.specs.Tree.{Tree, In, At, Distinct}
 use Rattle.tree.specs.Sound.{Sound}
 use Rattle.tree.specs.Removal.{remove, cleared}
 use Rattle.tree.specs.Apart.{Removable}
-use Rattle.tree.specs.ListSteps.{omitAll, put}
+use Rattle.tree.specs.ListSteps.{omit_all, put}
 use Rattle.tree.specs.Pieces.{pieces_of, FreeList, Serials}
 use Rattle.tree.proofs.Rows.{at_in}
 use Rattle.tree.proofs.Bookings.{at-unique}
@@ -22,7 +22,7 @@ use Rattle.table.specs.Table.{Holds}
 use Rattle.table.specs.Steps.{going}
 use Rattle.table.proofs.Steps.{clear-sound}
 use Rattle.layout_nodes.proofs.FreeSteps.{free-cut-all, free-put}
-use Rattle.removal.specs.Remove.{newFree}
+use Rattle.removal.specs.Remove.{new_free}
 use Rattle.removal.proofs.Pieces.{cleared-was, cleared-stays, new-there, remove-pieces}
 use Rattle.removal.proofs.Serials.{new-serial, new-free}
 
@@ -36,7 +36,7 @@ module _ (limit : ℕ) (settings : Settings) (t : List Node) (w : Tree) (sound :
   left_alone = alone (cleared x w) (clear-sound limit settings t w sound h x z).distinct
 
   -- when all that goes has gone
-  pub cleared-free : FreeList (cleared x w) (omitAll xs (going t x w))
+  pub cleared-free : FreeList (cleared x w) (omit_all xs (going t x w))
   cleared-free =
       free-cut-all (pieces_of w) (pieces_of (cleared x w)) (going t x w) xs
       (λ i e y q n. cleared-stays limit settings t w sound h x z i e y n)
@@ -47,9 +47,9 @@ module _ (limit : ℕ) (settings : Settings) (t : List Node) (w : Tree) (sound :
   -- and when the new piece is there; the areas are those of the pieces then
   pub remove-free : (n last : ℕ) → (In n (cleared x w) → ⊥) → Serials w last → (areas : ℕ → ℕ)
       → ((i : ℕ) (e : Datum) → At i e (remove x n (last + 1) w) → areas i ≡ area e.size)
-      → FreeList (remove x n (last + 1) w) (put areas (omitAll xs (going t x w)) n)
+      → FreeList (remove x n (last + 1) w) (put areas (omit_all xs (going t x w)) n)
   remove-free n last unheld serials areas sized =
-      free-put (pieces_of (cleared x w)) (pieces_of (remove x n (last + 1) w)) areas n (newFree t x last) (omitAll xs (going t x w))
+      free-put (pieces_of (cleared x w)) (pieces_of (remove x n (last + 1) w)) areas n (new_free t x last) (omit_all xs (going t x w))
       (λ i e y q. at-remove x n (last + 1) i e w y)
       (λ i e y q. remove-pieces limit settings t w sound h x z n last unheld i e y)
       (new-there limit settings t w sound h x z n last)

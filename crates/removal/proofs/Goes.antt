@@ -19,23 +19,23 @@ use Rattle.tree.specs.Steps.{leaving}
 use Rattle.tree.specs.ListSteps.{Names}
 use Rattle.tree.proofs.Rows.{same?}
 use Rattle.table.specs.declared.Node.{Node}
-use Rattle.table.specs.Table.{zeroNode, withFirst, with_last, with_next, withPrev, at, joinBefore, joinAfter, unlink, Rep, Holds}
+use Rattle.table.specs.Table.{zero_node, with_first, with_last, with_next, with_prev, at, join_before, join_after, unlink, Rep, Holds}
 use Rattle.table.specs.Steps.{going}
-use Rattle.walks.specs.Order.{childrenFirst}
+use Rattle.walks.specs.Order.{children_first}
 use Rattle.walks.proofs.Meaning.{order-subtree}
-use Rattle.removal.specs.Going.{goingOf}
+use Rattle.removal.specs.Going.{going_of}
 use Rattle.removal.specs.Inner.{Goes}
 
 -- ---- the walk
 
 -- the two ways to say the order of a removal are one
-pub leaving-is : (r : Tree) → childrenFirst r ≡ leaving r
+pub leaving-is : (r : Tree) → children_first r ≡ leaving r
 leaving-is nil = refl
 leaving-is (grow p d k r) =
-    append_assoc (childrenFirst k) (p ∷ []) (childrenFirst r) ∙ rw (leaving-is k, leaving-is r) refl
+    append_assoc (children_first k) (p ∷ []) (children_first r) ∙ rw (leaving-is k, leaving-is r) refl
 
-pub going-is : (t : List Node) (w : Tree) (x : ℕ) → Holds lists.limit t w → In x w → goingOf t x (count w) ≡ going t x w
-unfolding goingOf
+pub going-is : (t : List Node) (w : Tree) (x : ℕ) → Holds lists.limit t w → In x w → going_of t x (count w) ≡ going t x w
+unfolding going_of
 going-is t w x h i =
     rw (order-subtree lists.limit t w x (count w) h i (le_refl (count w)), leaving-is (subtree x w)) refl
 
@@ -45,36 +45,36 @@ abbrev parents : List Node → List ℕ
 parents t = map (λ (n : Node). n.parent) t
 
 parent-at : (t : List Node) (p : ℕ) → get_or (parents t) p 0 ≡ (at t p).parent
-parent-at t p = get_or-map (λ (n : Node). n.parent) t p zeroNode
+parent-at t p = get_or-map (λ (n : Node). n.parent) t p zero_node
 
 -- the siblings' links are no parents
 module _ (limit : ℕ) (q pv nx : ℕ) where
-  before-parents : (t : List Node) → parents (joinBefore limit t q pv nx) ≡ parents t
+  before-parents : (t : List Node) → parents (join_before limit t q pv nx) ≡ parents t
   before-parents t = go (leb limit pv)
     where
-      go : (b : Bool) → parents (cond b (set t q (withFirst (at t q) nx)) (set t pv (with_next (at t pv) nx))) ≡ parents t
-      go true = map-set_same (λ (n : Node). n.parent) t q (withFirst (at t q) nx) zeroNode refl
-      go false = map-set_same (λ (n : Node). n.parent) t pv (with_next (at t pv) nx) zeroNode refl
+      go : (b : Bool) → parents (cond b (set t q (with_first (at t q) nx)) (set t pv (with_next (at t pv) nx))) ≡ parents t
+      go true = map-set_same (λ (n : Node). n.parent) t q (with_first (at t q) nx) zero_node refl
+      go false = map-set_same (λ (n : Node). n.parent) t pv (with_next (at t pv) nx) zero_node refl
 
-  after-parents : (t : List Node) → parents (joinAfter limit t q pv nx) ≡ parents t
+  after-parents : (t : List Node) → parents (join_after limit t q pv nx) ≡ parents t
   after-parents t = go (leb limit nx)
     where
-      go : (b : Bool) → parents (cond b (set t q (with_last (at t q) pv)) (set t nx (withPrev (at t nx) pv))) ≡ parents t
-      go true = map-set_same (λ (n : Node). n.parent) t q (with_last (at t q) pv) zeroNode refl
-      go false = map-set_same (λ (n : Node). n.parent) t nx (withPrev (at t nx) pv) zeroNode refl
+      go : (b : Bool) → parents (cond b (set t q (with_last (at t q) pv)) (set t nx (with_prev (at t nx) pv))) ≡ parents t
+      go true = map-set_same (λ (n : Node). n.parent) t q (with_last (at t q) pv) zero_node refl
+      go false = map-set_same (λ (n : Node). n.parent) t nx (with_prev (at t nx) pv) zero_node refl
 
 -- what is unlinked has the parent 0 then, as an unheld place has
 module _ (limit : ℕ) (t : List Node) (x p : ℕ) where
   abbrev parted : List Node
   parted =
-      let n = at t x in joinAfter limit (joinBefore limit t n.parent n.prev n.next) n.parent n.prev n.next
+      let n = at t x in join_after limit (join_before limit t n.parent n.prev n.next) n.parent n.prev n.next
 
   parted-parent : (at parted p).parent ≡ (at t p).parent
   parted-parent =
       let n = at t x in
       sym (parent-at parted p)
       ∙ ap (λ (l : List ℕ). get_or l p 0)
-      (after-parents limit n.parent n.prev n.next (joinBefore limit t n.parent n.prev n.next)
+      (after-parents limit n.parent n.prev n.next (join_before limit t n.parent n.prev n.next)
       ∙ before-parents limit n.parent n.prev n.next t)
       ∙ parent-at t p
 
@@ -83,10 +83,10 @@ module _ (limit : ℕ) (t : List Node) (x p : ℕ) where
   unlink-parent = go (same? p x) (dec_lt x (length parted))
     where
       go : (p ≡ x) ⊎ (p ≡ x → ⊥) → Dec (x < length parted)
-          → ((at (set parted x zeroNode) p).parent ≡ 0) ⊎ ((at (set parted x zeroNode) p).parent ≡ (at t p).parent)
-      go (inl e) (yes b) = inl (rw e (ap (λ (n : Node). n.parent) (get_or-set_same parted x zeroNode zeroNode b)))
-      go (inl e) (no b) = inr (rw (set_out parted x zeroNode (omega arith)) parted-parent)
-      go (inr n) b = inr (ap (λ (n : Node). n.parent) (get_or-set_other parted x p zeroNode zeroNode n) ∙ parted-parent)
+          → ((at (set parted x zero_node) p).parent ≡ 0) ⊎ ((at (set parted x zero_node) p).parent ≡ (at t p).parent)
+      go (inl e) (yes b) = inl (rw e (ap (λ (n : Node). n.parent) (get_or-set_same parted x zero_node zero_node b)))
+      go (inl e) (no b) = inr (rw (set_out parted x zero_node (omega arith)) parted-parent)
+      go (inr n) b = inr (ap (λ (n : Node). n.parent) (get_or-set_other parted x p zero_node zero_node n) ∙ parted-parent)
 
 -- places whose parents are places can be unlinked in any order
 pub goes-all : (limit : ℕ) (ps : List ℕ) (t : List Node) → 0 < limit

@@ -11,7 +11,7 @@ use lib.ListN.{length, get_or, length-append, length-replicate}
 use lib.Seq.{sets, length-sets}
 use Rattle.table.specs.declared.Node.{Node}
 use Rattle.table.specs.Table.{at}
-use Rattle.table.specs.Steps.{freeLast, freeLastPlace}
+use Rattle.table.specs.Steps.{free_last, free_last_place}
 use Rattle.lists.specs.Lists.{limit, zeros, entries}
 use Rattle.lists.proofs.Fill.{sets-append}
 use Rattle.walks.specs.Inner.{Placed}
@@ -20,8 +20,8 @@ use Rattle.walks.specs.Columns.{order_in}
 use Rattle.walks.specs.Walk.{gathered, walk_of}
 use Rattle.walks.specs.Order.{itself, order_of}
 use Rattle.walks.proofs.Entries.{written-entries, written-placed}
-use Rattle.removal.specs.Going.{goingOf}
-use Rattle.removal.specs.Untidy.{bareGoing}
+use Rattle.removal.specs.Going.{going_of}
+use Rattle.removal.specs.Untidy.{bare_going}
 
 -- ---- all are places
 
@@ -62,9 +62,9 @@ module _ (limit : ℕ) where
       let l = siblings limit next n (get_or first x 0) in
       low-append (gathered g l) (itself x) (low-gathered g (low-order first next n) l (low-siblings next n (get_or first x 0))) (h, tt)
 
-  low-free-last : (t : List Node) (q : ℕ) → (at t q).last < limit → Low (freeLastPlace t q)
-  unfolding freeLastPlace
-  low-free-last t q h = go (freeLast t q)
+  low-free-last : (t : List Node) (q : ℕ) → (at t q).last < limit → Low (free_last_place t q)
+  unfolding free_last_place
+  low-free-last t q h = go (free_last t q)
     where
       go : (b : Bool) → Low (cond b ((at t q).last ∷ []) [])
       go true = (h, tt)
@@ -77,21 +77,21 @@ module _ (t : List Node) (x held : ℕ) where
   below = order_in limit t held x
 
   abbrev end : List ℕ
-  end = freeLastPlace t (at t x).parent
+  end = free_last_place t (at t x).parent
 
-  pub going-length : length (goingOf t x held) ≡ length below + length end
-  unfolding goingOf
+  pub going-length : length (going_of t x held) ≡ length below + length end
+  unfolding going_of
   going-length = length-append below end
 
-  pub going-placed : x < limit → (at t (at t x).parent).last < limit → Placed limit (length (goingOf t x held)) (goingOf t x held)
-  unfolding goingOf
+  pub going-placed : x < limit → (at t (at t x).parent).last < limit → Placed limit (length (going_of t x held)) (going_of t x held)
+  unfolding going_of
   going-placed h l =
       low-placed limit (below ++ end)
       (low-append limit below end (low-order limit _ _ held x h) (low-free-last limit t (at t x).parent l))
 
   -- what the walk writes, and how much that is, where there is room for all that goes
-  module _ {o : List ℕ} {k : ℕ} (first : o ≡ sets (zeros limit) 0 below) (k-is : k ≡ 0 + length below) (room : length (goingOf t x held) ≤ limit) where
-    fits : length (goingOf t x held) ≤ length (zeros limit)
+  module _ {o : List ℕ} {k : ℕ} (first : o ≡ sets (zeros limit) 0 below) (k-is : k ≡ 0 + length below) (room : length (going_of t x held) ≤ limit) where
+    fits : length (going_of t x held) ≤ length (zeros limit)
     fits = omega (arith, length-replicate {A = ℕ} limit 0)
 
     pub end_fits : k + length end ≤ length o
@@ -99,44 +99,44 @@ module _ (t : List Node) (x held : ℕ) where
 
     -- and with what comes behind it
     module _ {order : List ℕ} {n : ℕ} (second : order ≡ sets o k end) (n-is : n ≡ k + length end) where
-      wrote : order ≡ sets (zeros limit) 0 (goingOf t x held)
-      unfolding goingOf
+      wrote : order ≡ sets (zeros limit) 0 (going_of t x held)
+      unfolding going_of
       wrote = second ∙ rw (first, k-is) (sym (sets-append below end (zeros limit) 0))
 
-      many : n ≡ 0 + length (goingOf t x held)
+      many : n ≡ 0 + length (going_of t x held)
       many = omega (arith, going-length)
 
-      pub gone-places : entries n order ≡ goingOf t x held
-      gone-places = written-entries (zeros limit) (goingOf t x held) wrote many fits
+      pub gone-places : entries n order ≡ going_of t x held
+      gone-places = written-entries (zeros limit) (going_of t x held) wrote many fits
 
-      pub gone-count : n ≡ length (goingOf t x held)
+      pub gone-count : n ≡ length (going_of t x held)
       gone-count = omega (arith, many)
 
       pub gone-placed : x < limit → (at t (at t x).parent).last < limit → Placed limit n order
-      gone-placed h l = written-placed (zeros limit) (goingOf t x held) wrote many fits limit (going-placed h l)
+      gone-placed h l = written-placed (zeros limit) (going_of t x held) wrote many fits limit (going-placed h l)
 
 -- ---- what goes with a structure that tidying takes out
 
 module _ (t : List Node) (x : ℕ) where
-  pub bare-length : (2 ≤ length (bareGoing t x)) × (length (bareGoing t x) ≤ 3)
-  unfolding bareGoing freeLastPlace
-  bare-length = go (freeLast t (at t x).parent)
+  pub bare-length : (2 ≤ length (bare_going t x)) × (length (bare_going t x) ≤ 3)
+  unfolding bare_going free_last_place
+  bare-length = go (free_last t (at t x).parent)
     where
       go : (b : Bool) → let l = (at t x).first ∷ x ∷ cond b ((at t (at t x).parent).last ∷ []) [] in (2 ≤ length l) × (length l ≤ 3)
       go true = (omega arith, omega arith)
       go false = (omega arith, omega arith)
 
   pub bare-gone : {order : List ℕ} {n : ℕ} → x < limit → (at t (at t x).parent).last < limit → (at t x).first < limit
-      → order ≡ sets (zeros limit) 0 (bareGoing t x) → n ≡ length (bareGoing t x)
-      → (entries n order ≡ bareGoing t x) × ((n ≡ length (bareGoing t x)) × Placed limit n order)
-  unfolding bareGoing
+      → order ≡ sets (zeros limit) 0 (bare_going t x) → n ≡ length (bare_going t x)
+      → (entries n order ≡ bare_going t x) × ((n ≡ length (bare_going t x)) × Placed limit n order)
+  unfolding bare_going
   bare-gone {order} {n} h l f w m =
-      let n-is : n ≡ 0 + length (bareGoing t x) = omega (arith, m) in
-      let fits : length (bareGoing t x) ≤ length (zeros limit) = omega (arith, bare-length.1, length-replicate {A = ℕ} limit 0) in (
-        written-entries (zeros limit) (bareGoing t x) w n-is fits,
-        (m, written-placed (zeros limit) (bareGoing t x) w n-is fits limit bare-placed),
+      let n-is : n ≡ 0 + length (bare_going t x) = omega (arith, m) in
+      let fits : length (bare_going t x) ≤ length (zeros limit) = omega (arith, bare-length.1, length-replicate {A = ℕ} limit 0) in (
+        written-entries (zeros limit) (bare_going t x) w n-is fits,
+        (m, written-placed (zeros limit) (bare_going t x) w n-is fits limit bare-placed),
       )
     where
-      bare-placed : Placed limit (length (bareGoing t x)) (bareGoing t x)
+      bare-placed : Placed limit (length (bare_going t x)) (bare_going t x)
       bare-placed =
-          low-placed limit ((at t x).first ∷ x ∷ freeLastPlace t (at t x).parent) (f, (h, low-free-last limit t (at t x).parent l))
+          low-placed limit ((at t x).first ∷ x ∷ free_last_place t (at t x).parent) (f, (h, low-free-last limit t (at t x).parent l))

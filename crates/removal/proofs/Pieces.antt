@@ -8,10 +8,10 @@ use native.Mathlib.Omega.{arith}
 use Rattle.piece.specs.declared.node.Datum.{Datum}
 use Rattle.piece.specs.declared.settings.Settings.{Settings}
 use Rattle.piece.specs.Row.{nil, grow}
-use Rattle.piece.specs.Kinds.{isFree}
+use Rattle.piece.specs.Kinds.{is_free}
 use Rattle.tree.specs.Tree.{Tree, In, At, Distinct, after}
 use Rattle.tree.specs.Sound.{Sound}
-use Rattle.tree.specs.Removal.{freed, board, lastFree, withoutLast, settled, remove, cleared}
+use Rattle.tree.specs.Removal.{freed, board, last_free, without_last, settled, remove, cleared}
 use Rattle.tree.specs.Apart.{Removable}
 use Rattle.tree.specs.Steps.{leaving}
 use Rattle.tree.specs.ListSteps.{Names}
@@ -21,14 +21,14 @@ use Rattle.tree.proofs.RemoveKept.{in_left, remove-distinct}
 use Rattle.tree.proofs.Counts.{in_remove}
 use Rattle.tree.proofs.Stays.{at-remove, cleared_at, at_second}
 use Rattle.tree.proofs.Kids.{kids_under, kids-distinct, after-apart, after-second, put, put_in, in-put, put-new, put-kids, kids-at}
-use Rattle.tree.proofs.Spots.{freeEnd}
+use Rattle.tree.proofs.Spots.{free_end}
 use Rattle.tree.proofs.Leaving.{names-cases, names-first, names-second, leaving-in, in-leaving, end-in, end-out, left-or-end}
 use Rattle.table.specs.declared.Node.{Node}
 use Rattle.table.specs.Table.{at, last, Holds}
 use Rattle.table.specs.Steps.{going}
 use Rattle.table.proofs.Rep.{last-cases, last-after, bound, shows}
 use Rattle.removal.specs.Inner.{Goes}
-use Rattle.removal.specs.Remove.{newFree}
+use Rattle.removal.specs.Remove.{new_free}
 use Rattle.removal.proofs.Row.{RowOf, whole, rest, new_is, row_of}
 use Rattle.removal.proofs.Goes.{goes-all, row-parents}
 
@@ -53,18 +53,18 @@ module _ (t : List Node) (x : ℕ) (d : Datum) (w : Tree) (dis : Distinct w) (o 
 
   module _ (i : ℕ) where
     -- what goes is x, below x, or the free piece at the end
-    goes-cases : Names i (going t x w) → In i (grow x d o.below nil) ⊎ Names i (freeEnd o.behind)
+    goes-cases : Names i (going t x w) → In i (grow x d o.below nil) ⊎ Names i (free_end o.behind)
     goes-cases y =
         ⊎_elim (λ v. inl (leaving-in i (grow x d o.below nil) v)) inr
-        (names-cases i (leaving (grow x d o.below nil)) (freeEnd o.behind) (rw o.goes at y))
+        (names-cases i (leaving (grow x d o.below nil)) (free_end o.behind) (rw o.goes at y))
 
     goes-own : In i (grow x d o.below nil) → Names i (going t x w)
     goes-own y =
         rw o.goes
-        (names-first i (leaving (grow x d o.below nil)) (freeEnd o.behind) (in-leaving i (grow x d o.below nil) y))
+        (names-first i (leaving (grow x d o.below nil)) (free_end o.behind) (in-leaving i (grow x d o.below nil) y))
 
-    goes_end : Names i (freeEnd o.behind) → Names i (going t x w)
-    goes_end y = rw o.goes (names-second i (leaving (grow x d o.below nil)) (freeEnd o.behind) y)
+    goes_end : Names i (free_end o.behind) → Names i (going t x w)
+    goes_end y = rw o.goes (names-second i (leaving (grow x d o.below nil)) (free_end o.behind) y)
 
     -- so it is of the row, from x on
     goes-from : Names i (going t x w) → In i row
@@ -78,23 +78,23 @@ module _ (t : List Node) (x : ℕ) (d : Datum) (w : Tree) (dis : Distinct w) (o 
     goes-out : Names i (going t x w) → In i k → ⊥
     goes-out y v =
         ⊎_elim (λ a. after-apart o.before row row-dis i a (goes-from y)) (λ a. late a (goes-cases y))
-        (in_after i o.before (withoutLast o.behind) v)
+        (in_after i o.before (without_last o.behind) v)
       where
-        late : In i (withoutLast o.behind) → In i (grow x d o.below nil) ⊎ Names i (freeEnd o.behind) → ⊥
-        late a (inl (inl e)) = row_apart.notBeside (in-eq o.behind e (in_left i o.behind a))
+        late : In i (without_last o.behind) → In i (grow x d o.below nil) ⊎ Names i (free_end o.behind) → ⊥
+        late a (inl (inl e)) = row_apart.not_beside (in-eq o.behind e (in_left i o.behind a))
         late a (inl (inr (inl u))) = row_apart.apart i u (in_left i o.behind a)
         late a (inl (inr (inr u))) = u
         late a (inr u) = end-out i o.behind row_apart.beside u a
 
     -- all else of it is
     row-left : (Names i (going t x w) → ⊥) → In i m → In i k
-    row-left n y = ⊎_elim (λ a. in-first i o.before (withoutLast o.behind) a) from (in_after i o.before row y)
+    row-left n y = ⊎_elim (λ a. in-first i o.before (without_last o.behind) a) from (in_after i o.before row y)
       where
         from : In i row → In i k
         from (inl e) = absurd (n (goes-own (inl e)))
         from (inr (inl u)) = absurd (n (goes-own (inr (inl u))))
         from (inr (inr u)) =
-            ⊎_elim (λ a. in-second i o.before (withoutLast o.behind) a) (λ a. absurd (n (goes_end a)))
+            ⊎_elim (λ a. in-second i o.before (without_last o.behind) a) (λ a. absurd (n (goes_end a)))
             (left-or-end i o.behind o.leaves u)
 
     -- ---- the tree
@@ -121,13 +121,13 @@ module _ (t : List Node) (x : ℕ) (d : Datum) (w : Tree) (dis : Distinct w) (o 
         subst (λ (f : Datum). At i f (cleared x w)) (at-unique i e g.0 w dis y (cleared_at i g.0 x w g.1)) g.1
 
   -- the new piece is there at the end
-  new-at : (n s : ℕ) → At n (freed s d (board d (lastFree o.behind))) (remove x n s w)
+  new-at : (n s : ℕ) → At n (freed s d (board d (last_free o.behind))) (remove x n s w)
   unfolding settled
   new-at n s =
       let u = after o.before (settled n s d o.behind) in
       rw (o.comes n s)
-      (kids-at o.parent u n (freed s d (board d (lastFree o.behind))) (put o.parent u w) (put-kids o.parent u m w dis o.kids)
-      (at_second n _ o.before (settled n s d o.behind) (at_second n _ (withoutLast o.behind) _ (inl (refl, refl)))))
+      (kids-at o.parent u n (freed s d (board d (last_free o.behind))) (put o.parent u w) (put-kids o.parent u m w dis o.kids)
+      (at_second n _ o.before (settled n s d o.behind) (at_second n _ (without_last o.behind) _ (inl (refl, refl)))))
 
 -- ---- The laws.
 
@@ -175,20 +175,20 @@ module _ (limit : ℕ) (settings : Settings) (t : List Node) (w : Tree) (sound :
 
   -- after the removal a piece is one that is left, or the new one
   module _ (n last : ℕ) where
-    pub new-there : At n (newFree t x last) (remove x n (last + 1) w)
+    pub new-there : At n (new_free t x last) (remove x n (last + 1) w)
     new-there = rw (new_is t x z.piece w o last) (new-at t x z.piece w h.distinct o n (last + 1))
 
     pub remove-pieces : (In n (cleared x w) → ⊥) → (i : ℕ) (e : Datum) → At i e (remove x n (last + 1) w)
-        → At i e (cleared x w) ⊎ ((i ≡ n) × (e ≡ newFree t x last))
+        → At i e (cleared x w) ⊎ ((i ≡ n) × (e ≡ new_free t x last))
     remove-pieces unheld i e y = ⊎_elim new old (in_remove x n (last + 1) i w (at_in i e (remove x n (last + 1) w) y))
       where
         apart : Distinct (remove x n (last + 1) w)
         apart = remove-distinct x n (last + 1) w h.distinct unheld
 
-        new : i ≡ n → At i e (cleared x w) ⊎ ((i ≡ n) × (e ≡ newFree t x last))
-        new q = inr (q, at-unique n (newFree t x last) e (remove x n (last + 1) w) apart new-there (rw q at y))
+        new : i ≡ n → At i e (cleared x w) ⊎ ((i ≡ n) × (e ≡ new_free t x last))
+        new q = inr (q, at-unique n (new_free t x last) e (remove x n (last + 1) w) apart new-there (rw q at y))
 
-        old : In i (cleared x w) → At i e (cleared x w) ⊎ ((i ≡ n) × (e ≡ newFree t x last))
+        old : In i (cleared x w) → At i e (cleared x w) ⊎ ((i ≡ n) × (e ≡ new_free t x last))
         old v =
             let g = in-at i (cleared x w) v in
             let same : g.0 ≡ e =

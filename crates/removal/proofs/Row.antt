@@ -6,22 +6,22 @@ use Prim.Native.Nat.{ℕ, ◌+◌}
 use Rattle.piece.specs.declared.node.Datum.{Datum}
 use Rattle.piece.specs.declared.settings.Settings.{Settings}
 use Rattle.piece.specs.Row.{nil, grow}
-use Rattle.piece.specs.Kinds.{isFree}
+use Rattle.piece.specs.Kinds.{is_free}
 use Rattle.tree.specs.Tree.{Tree, after}
 use Rattle.tree.specs.Sound.{Sound}
-use Rattle.tree.specs.Removal.{freed, board, lastFree, withoutLast, settled, remove, cleared}
+use Rattle.tree.specs.Removal.{freed, board, last_free, without_last, settled, remove, cleared}
 use Rattle.tree.specs.Apart.{Removable}
 use Rattle.tree.specs.Steps.{Kids, leaving}
 use Rattle.tree.proofs.Kids.{put}
 use Rattle.tree.proofs.Goes.{cleared-put, remove-put}
-use Rattle.tree.proofs.Spots.{freeEnd, FreeLeaves}
+use Rattle.tree.proofs.Spots.{free_end, FreeLeaves}
 use Rattle.table.specs.declared.Node.{Node}
 use Rattle.table.specs.Table.{at, Holds}
-use Rattle.table.specs.Steps.{going, freeLastDatum}
+use Rattle.table.specs.Steps.{going, free_last_datum}
 use Rattle.table.proofs.Links.{datum-is}
 use Rattle.table.proofs.Removal.{end_is}
 use Rattle.table.proofs.Steps.{parent_is, spot, row, leaves, going-row}
-use Rattle.removal.specs.Remove.{newFree}
+use Rattle.removal.specs.Remove.{new_free}
 
 -- the piece d at x, in the tree w of the table t
 pub record RowOf (t : List Node) (x : ℕ) (d : Datum) (w : Tree) : Type 0 where
@@ -33,9 +33,9 @@ pub record RowOf (t : List Node) (x : ℕ) (d : Datum) (w : Tree) : Type 0 where
   pub leaves : FreeLeaves behind
   pub hangs : (at t x).parent ≡ parent
   pub shown : (at t x).datum ≡ d
-  pub end : lastFree behind ≡ freeLastDatum t parent
-  pub goes : going t x w ≡ leaving (grow x d below nil) ++ freeEnd behind
-  pub left : cleared x w ≡ put parent (after before (withoutLast behind)) w
+  pub end : last_free behind ≡ free_last_datum t parent
+  pub goes : going t x w ≡ leaving (grow x d below nil) ++ free_end behind
+  pub left : cleared x w ≡ put parent (after before (without_last behind)) w
   pub comes : (n s : ℕ) → remove x n s w ≡ put parent (after before (settled n s d behind)) w
 
 module _ (t : List Node) (x : ℕ) (d : Datum) (w : Tree) (o : RowOf t x d w) where
@@ -44,11 +44,11 @@ module _ (t : List Node) (x : ℕ) (d : Datum) (w : Tree) (o : RowOf t x d w) wh
   whole = after o.before (grow x d o.below o.behind)
 
   abbrev pub rest : Tree
-  rest = after o.before (withoutLast o.behind)
+  rest = after o.before (without_last o.behind)
 
   -- the free piece that comes
-  pub new_is : (last : ℕ) → newFree t x last ≡ freed (last + 1) d (board d (lastFree o.behind))
-  unfolding newFree
+  pub new_is : (last : ℕ) → new_free t x last ≡ freed (last + 1) d (board d (last_free o.behind))
+  unfolding new_free
   new_is last = rw (o.shown, o.hangs, o.end) refl
 
 pub row_of : (limit : ℕ) (settings : Settings) (t : List Node) (w : Tree) → Sound limit settings w → Holds limit t w

@@ -11,20 +11,20 @@ use Rattle.tree.specs.Tree.{Tree, In, At}
 use Rattle.tree.specs.Sound.{Sound}
 use Rattle.tree.specs.Removal.{remove, cleared}
 use Rattle.tree.specs.Apart.{Removable}
-use Rattle.tree.specs.Pieces.{Serials, maxSerial}
+use Rattle.tree.specs.Pieces.{Serials, max_serial}
 use Rattle.tree.proofs.Stays.{cleared_at}
 use Rattle.table.specs.declared.Node.{Node}
 use Rattle.table.specs.Table.{Holds}
-use Rattle.removal.specs.Remove.{newFree}
+use Rattle.removal.specs.Remove.{new_free}
 use Rattle.removal.proofs.Pieces.{remove-pieces}
 
 -- what the new piece is
-pub new-serial : (t : List Node) (x last : ℕ) → (newFree t x last).serial ≡ last + 1
-unfolding newFree
+pub new-serial : (t : List Node) (x last : ℕ) → (new_free t x last).serial ≡ last + 1
+unfolding new_free
 new-serial t x last = refl
 
-pub new-free : (t : List Node) (x last : ℕ) → (newFree t x last).kind ≡ Free
-unfolding newFree
+pub new-free : (t : List Node) (x last : ℕ) → (new_free t x last).kind ≡ Free
+unfolding new_free
 new-free t x last = refl
 
 module _ (limit : ℕ) (settings : Settings) (t : List Node) (w : Tree) (sound : Sound limit settings w) (h : Holds limit t w)
@@ -39,7 +39,7 @@ module _ (limit : ℕ) (settings : Settings) (t : List Node) (w : Tree) (sound :
       (λ v. inr (v.0, ap (λ (f : Datum). f.serial) v.1 ∙ new-serial t x last))
       (remove-pieces limit settings t w sound h x z n last unheld i e y)
 
-  pub remove-serials : last + 1 ≤ maxSerial → Serials w' (last + 1)
+  pub remove-serials : last + 1 ≤ max_serial → Serials w' (last + 1)
   remove-serials room =
       record {
         differ = λ i j d e y v s. differ i j d e s (serial-is i d y) (serial-is j e v);

@@ -14,10 +14,10 @@ use Rattle.tree.specs.Removal.{cleared, remove}
 use Rattle.tree.specs.Apart.{Removable}
 use Rattle.tree.specs.Sound.{Sound}
 use Rattle.tree.specs.Steps.{Marked}
-use Rattle.tree.specs.ListSteps.{omitAll, put, strikeAll}
-use Rattle.tree.specs.Pieces.{pieces_of, Holding, FreeList, RemovableList, maxSerial}
-use Rattle.tree.specs.Family.{newPlace}
-use Rattle.tree.specs.Enrolment.{removedList}
+use Rattle.tree.specs.ListSteps.{omit_all, put, strike_all}
+use Rattle.tree.specs.Pieces.{pieces_of, Holding, FreeList, RemovableList, max_serial}
+use Rattle.tree.specs.Family.{new_place}
+use Rattle.tree.specs.Enrolment.{removed_list}
 use Rattle.tree.proofs.Rows.{at_in}
 use Rattle.tree.proofs.Read.{Small}
 use Rattle.tree.proofs.Laws.RemovalSound.{removal-sound}
@@ -25,17 +25,17 @@ use Rattle.tree.proofs.Stays.{cleared_at}
 use Rattle.tree.proofs.Family.{fresh-removal}
 use Rattle.table.specs.declared.Node.{Node}
 use Rattle.table.specs.Table.{at, Holds, append}
-use Rattle.table.specs.Steps.{going, unlinkAll}
-use Rattle.table.specs.Unheld.{lowestFrom}
+use Rattle.table.specs.Steps.{going, unlink_all}
+use Rattle.table.specs.Unheld.{lowest_from}
 use Rattle.table.proofs.Links.{datum-is}
 use Rattle.table.proofs.Steps.{clear-sound, remove-sound}
 use Rattle.table.proofs.Family.{lowest-is}
 use Rattle.layout_nodes.specs.declared.LayoutNodes.{LayoutNodes}
-use Rattle.layout_nodes.specs.Listings.{areaIn, entriesOf}
+use Rattle.layout_nodes.specs.Listings.{area_in, entries_of}
 use Rattle.layout_nodes.specs.Standing.{Stands}
 use Rattle.layout_nodes.proofs.Listed.{entries-listing, kept-listing}
 use Rattle.layout_nodes.proofs.HoldingSteps.{holding-most, holding-single}
-use Rattle.removal.specs.Remove.{newFree, returned, removedFrom, removedNodes}
+use Rattle.removal.specs.Remove.{new_free, returned, removed_from, removed_nodes}
 use Rattle.removal.specs.Inner.{Clearable}
 use Rattle.removal.proofs.Pieces.{goes, parent-low, last-low}
 use Rattle.removal.proofs.Serials.{remove-serials}
@@ -44,13 +44,13 @@ use Rattle.removal.proofs.RemovableList.{remove-removable, returned-is}
 use Rattle.removal.proofs.Rooms.{free-room, removable-room, place-room, new-small}
 
 module _ (settings : Settings) (last : ℕ) (w : Tree) (n : LayoutNodes) (stands : Stands settings last w n) (x : ℕ)
-    (z : Removable x w) (spent : last + 1 ≤ maxSerial) where
+    (z : Removable x w) (spent : last + 1 ≤ max_serial) where
   -- what goes
   abbrev g : List ℕ
   g = going n.nodes x w
 
   abbrev left : List Node
-  left = unlinkAll limit n.nodes g
+  left = unlink_all limit n.nodes g
 
   gone : Holds limit left (cleared x w)
   gone = clear-sound limit settings n.nodes w stands.sound stands.holds x z
@@ -63,9 +63,9 @@ module _ (settings : Settings) (last : ℕ) (w : Tree) (n : LayoutNodes) (stands
 
   -- the place of the new free piece
   abbrev pub place : ℕ
-  place = newPlace limit (cleared x w) 0
+  place = new_place limit (cleared x w) 0
 
-  place_is : lowestFrom limit left 0 ≡ place
+  place_is : lowest_from limit left 0 ≡ place
   place_is = lowest-is limit left (cleared x w) gone marked 0
 
   place-low : place < limit
@@ -81,28 +81,28 @@ module _ (settings : Settings) (last : ℕ) (w : Tree) (n : LayoutNodes) (stands
   sound-is = removal-sound limit settings w x place (last + 1) stands.sound z place-low place-new
 
   abbrev table : List Node
-  table = append limit left (at n.nodes x).parent place (newFree n.nodes x last)
+  table = append limit left (at n.nodes x).parent place (new_free n.nodes x last)
 
   table_is : Holds limit table after
-  unfolding newFree
+  unfolding new_free
   table_is =
       rw datum (remove-sound limit settings n.nodes w stands.sound stands.holds x z place (last + 1) place-low place-new)
 
   abbrev frees : List ℕ
-  frees = put (areaIn table) (omitAll (entriesOf n.free) g) place
+  frees = put (area_in table) (omit_all (entries_of n.free) g) place
 
   free-is : FreeList after frees
   free-is =
-      remove-free limit settings n.nodes w stands.sound stands.holds x z (entriesOf n.free) stands.free place last place-new
-      stands.serials (areaIn table)
+      remove-free limit settings n.nodes w stands.sound stands.holds x z (entries_of n.free) stands.free place last place-new
+      stands.serials (area_in table)
       (λ i e y. ap (λ (f : Datum). area f.size) (datum-is limit table limit limit i e after table_is.rep y))
 
   abbrev solids : List ℕ
-  solids = let q = (at n.nodes x).parent in returned (at left q) q (strikeAll (entriesOf n.removable) g)
+  solids = let q = (at n.nodes x).parent in returned (at left q) q (strike_all (entries_of n.removable) g)
 
   solid-is : RemovableList after solids
   solid-is =
-      remove-removable settings n.nodes w stands.sound stands.holds x z (entriesOf n.removable) stands.removable place last
+      remove-removable settings n.nodes w stands.sound stands.holds x z (entries_of n.removable) stands.removable place last
       place-new
 
   rooms : (P : Datum → Type 0) (l : List ℕ) → Holding P (pieces_of after) l → length l ≤ limit
@@ -115,26 +115,26 @@ module _ (settings : Settings) (last : ℕ) (w : Tree) (n : LayoutNodes) (stands
         placed = stands.sound.placed x (at_in x z.piece w z.there);
         hung = parent-low limit settings n.nodes w stands.sound stands.holds x z;
         ended = last-low limit settings n.nodes w stands.sound stands.holds x z;
-        freeKept = stands.freeKept;
-        removableKept = stands.removableKept;
-        freeSingle = holding-single _ w (entriesOf n.free) stands.free.holding stands.sound.placed;
-        removableSingle = holding-single _ w (entriesOf n.removable) stands.removable stands.sound.placed;
+        free_kept = stands.free_kept;
+        removable_kept = stands.removable_kept;
+        free_single = holding-single _ w (entries_of n.free) stands.free.holding stands.sound.placed;
+        removable_single = holding-single _ w (entries_of n.removable) stands.removable stands.sound.placed;
         goes = goes limit settings n.nodes w stands.sound stands.holds x z;
         some = place-room settings n.nodes w stands.sound stands.holds x z;
-        freeRoom = free-room settings n.nodes w stands.sound stands.holds x z (entriesOf n.free) stands.free;
-        removableRoom =
-            removable-room settings n.nodes w stands.sound stands.holds x z (entriesOf n.removable) stands.removable;
+        free_room = free-room settings n.nodes w stands.sound stands.holds x z (entries_of n.free) stands.free;
+        removable_room =
+            removable-room settings n.nodes w stands.sound stands.holds x z (entries_of n.removable) stands.removable;
         wide = let s = small.width in omega arith;
         tall = let s = small.height in omega arith;
         spent = let s = spent in omega arith;
       }
     where
-      small : Small (newFree n.nodes x last).size
+      small : Small (new_free n.nodes x last).size
       small = new-small settings n.nodes w stands.sound stands.holds x z last
 
   -- all stands again
-  pub remove-stands : Stands settings (last + 1) after (removedNodes n g x last).nodes
-  unfolding removedNodes removedFrom
+  pub remove-stands : Stands settings (last + 1) after (removed_nodes n g x last).nodes
+  unfolding removed_nodes removed_from
   remove-stands =
       rw place_is
       (record {
@@ -142,18 +142,18 @@ module _ (settings : Settings) (last : ℕ) (w : Tree) (n : LayoutNodes) (stands
         holds = table_is;
         free = rw (entries-listing frees) free-is;
         removable = rw (entries-listing solids) solid-is;
-        freeKept = kept-listing frees (rooms _ frees free-is.holding);
-        removableKept = kept-listing solids (rooms _ solids solid-is);
+        free_kept = kept-listing frees (rooms _ frees free-is.holding);
+        removable_kept = kept-listing solids (rooms _ solids solid-is);
         serials =
             remove-serials limit settings n.nodes w stands.sound stands.holds x z place last place-new stands.serials spent;
       })
 
-  pub remove-place : (removedNodes n g x last).place ≡ place
-  unfolding removedNodes removedFrom
+  pub remove-place : (removed_nodes n g x last).place ≡ place
+  unfolding removed_nodes removed_from
   remove-place = place_is
 
-  pub remove-list : entriesOf (removedNodes n g x last).nodes.removable ≡ removedList limit x w (entriesOf n.removable)
-  unfolding removedNodes removedFrom
+  pub remove-list : entries_of (removed_nodes n g x last).nodes.removable ≡ removed_list limit x w (entries_of n.removable)
+  unfolding removed_nodes removed_from
   remove-list =
       entries-listing solids
-      ∙ returned-is settings n.nodes w stands.sound stands.holds x z (entriesOf n.removable) stands.removable place last place-new
+      ∙ returned-is settings n.nodes w stands.sound stands.holds x z (entries_of n.removable) stands.removable place last place-new

@@ -10,7 +10,7 @@ use Rattle.tree.specs.ListSteps.{push, strike}
 use Rattle.table.specs.declared.Node.{Node}
 use Rattle.lists.specs.Lists.{limit}
 use Rattle.layout_nodes.specs.declared.listing.Listing.{Listing}
-use Rattle.layout_nodes.specs.Listings.{Kept, entriesOf, listing}
+use Rattle.layout_nodes.specs.Listings.{Kept, entries_of, listing}
 use Rattle.layout_nodes.proofs.Listed.{entries-are, kept-as, strike-length-most}
 use Rattle.removal.specs.Remove.{returned}
 
@@ -21,7 +21,7 @@ module _ (parent : Node) (q : ℕ) (ys : List ℕ) where
   stays h = rw (lt-leb limit parent.first h) refl
 
   -- it has none: m holds the list so far, and w is what is left without the parent
-  module _ {m w : Listing} (e : m ≡ listing ys) (f : w ≡ listing (strike (entriesOf m) q)) (room : length ys < limit) where
+  module _ {m w : Listing} (e : m ≡ listing ys) (f : w ≡ listing (strike (entries_of m) q)) (room : length ys < limit) where
     struck : w ≡ listing (strike ys q)
     struck = f ∙ ap (λ (zs : List ℕ). listing (strike zs q)) (entries-are ys e)
 
@@ -31,7 +31,7 @@ module _ (parent : Node) (q : ℕ) (ys : List ℕ) where
     pub struck-room : w.count < limit
     struck-room = omega (arith, strike-length-most ys q, ap (λ (l : Listing). l.count) struck)
 
-    pub comes_back : {r : Listing} → limit ≤ parent.first → r ≡ listing (push (entriesOf w) q) → r ≡ listing (returned parent q ys)
+    pub comes_back : {r : Listing} → limit ≤ parent.first → r ≡ listing (push (entries_of w) q) → r ≡ listing (returned parent q ys)
     unfolding returned
     comes_back h g =
         g ∙ ap (λ (zs : List ℕ). listing (push zs q)) (entries-are (strike ys q) struck) ∙ rw (le-leb limit parent.first h) refl

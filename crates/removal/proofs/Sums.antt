@@ -12,25 +12,25 @@ use Rattle.piece.specs.declared.node.Kind.{Kind}
 use Rattle.piece.specs.declared.node.Kind.TheVariants.{Free, Part, Structure}
 use Rattle.piece.specs.declared.settings.Settings.{Settings}
 use Rattle.piece.specs.Row.{nil, grow}
-use Rattle.piece.specs.Kinds.{isFree, isPart}
-use Rattle.tree.specs.Tree.{Tree, Distinct, count, isNil, after}
+use Rattle.piece.specs.Kinds.{is_free, is_part}
+use Rattle.tree.specs.Tree.{Tree, Distinct, count, is_nil, after}
 use Rattle.tree.specs.Sound.{Sound}
 use Rattle.tree.specs.Figures as figures
-use Rattle.tree.specs.Removal.{freed, board, lastFree, withoutLast, settled, remove, cleared, removedNumbers, subtree}
+use Rattle.tree.specs.Removal.{freed, board, last_free, without_last, settled, remove, cleared, removed_numbers, subtree}
 use Rattle.tree.specs.Apart.{Removable}
 use Rattle.tree.specs.Steps.{Kids, leaving}
 use Rattle.tree.proofs.Kids.{put, put-here, put-left, put_right, kids-in}
-use Rattle.tree.proofs.Spots.{freeEnd, FreeLeaves, end-alone}
+use Rattle.tree.proofs.Spots.{free_end, FreeLeaves, end-alone}
 use Rattle.table.specs.declared.Node.{Node}
 use Rattle.table.specs.Table.{at, last, Holds}
-use Rattle.table.specs.Steps.{freeLast, freeLastPlace, going}
+use Rattle.table.specs.Steps.{free_last, free_last_place, going}
 use Rattle.table.proofs.Rep.{shows, row_from}
-use Rattle.walks.specs.Order.{childrenFirst}
-use Rattle.walks.specs.Along.{number_at, numbersAlong}
+use Rattle.walks.specs.Order.{children_first}
+use Rattle.walks.specs.Along.{number_at, numbers_along}
 use Rattle.walks.proofs.Meaning.{length-order}
 use Rattle.walks.proofs.Entries.{gathered-append}
 use Rattle.walks.proofs.Along.{Shown, rep-shown, sound-ends, length-numbers, parts-most, numbers-removed}
-use Rattle.removal.specs.Going.{areaIfPart, areaAlong}
+use Rattle.removal.specs.Going.{area_if_part, area_along}
 use Rattle.removal.proofs.Row.{RowOf, whole, row_of}
 use Rattle.removal.proofs.Goes.{leaving-is}
 
@@ -66,16 +66,16 @@ module _ (t : List Node) (φ : Datum → ℕ) (F : Tree → ℕ) (G : List ℕ �
       ∙ omega (arith, G-more p (leaving r), ap φ e.0.1, F-grow p d k r, sum-leaving limit k e.1, sum-leaving limit r e.2)
 
   -- the free piece at the end of a row, and the rest of it
-  sum-end : (limit : ℕ) (b : Tree) → Shown limit t b → FreeLeaves b → F (withoutLast b) + G (freeEnd b) ≡ F b
+  sum-end : (limit : ℕ) (b : Tree) → Shown limit t b → FreeLeaves b → F (without_last b) + G (free_end b) ≡ F b
   sum-end limit nil e f = omega (arith, G-nil)
-  sum-end limit (grow p d k r) e f = go (isFree d.kind && isNil r) refl (sum-end limit r e.2 f.1)
+  sum-end limit (grow p d k r) e f = go (is_free d.kind && is_nil r) refl (sum-end limit r e.2 f.1)
     where
-      go : (c : Bool) → (isFree d.kind && isNil r) ≡ c → F (withoutLast r) + G (freeEnd r) ≡ F r
-          → F (cond c nil (grow p d k (withoutLast r))) + G (cond c (p ∷ []) (freeEnd r)) ≡ F (grow p d k r)
+      go : (c : Bool) → (is_free d.kind && is_nil r) ≡ c → F (without_last r) + G (free_end r) ≡ F r
+          → F (cond c nil (grow p d k (without_last r))) + G (cond c (p ∷ []) (free_end r)) ≡ F (grow p d k r)
       go true z ih =
           let a = end-alone p d k r f z in
           rw (a.0, a.1) (omega (arith, F-nil, G-nil, G-more p [], ap φ e.0.1, F-grow p d nil nil))
-      go false z ih = omega (arith, F-grow p d k r, F-grow p d k (withoutLast r))
+      go false z ih = omega (arith, F-grow p d k r, F-grow p d k (without_last r))
 
   module _ (limit : ℕ) (x : ℕ) (d : Datum) (w : Tree) (h : Holds limit t w) (o : RowOf t x d w) where
     abbrev row : Tree
@@ -86,13 +86,13 @@ module _ (t : List Node) (φ : Datum → ℕ) (F : Tree → ℕ) (G : List ℕ �
         let u = shows limit t limit limit o.parent (whole t x d w o) w h.rep o.kids in
         rep-shown limit t o.parent (last limit o.before) row (row_from limit t o.parent limit o.before row u.rep)
 
-    sum-going : G (going t x w) + F (withoutLast o.behind) ≡ F row
+    sum-going : G (going t x w) + F (without_last o.behind) ≡ F row
     sum-going =
         let own = grow x d o.below nil in
         rw o.goes
         (omega (
           arith,
-          sum-append (leaving own) (freeEnd o.behind),
+          sum-append (leaving own) (free_end o.behind),
           sum-leaving limit own (row-shown.0, row-shown.1, tt),
           sum-end limit o.behind row-shown.2 o.leaves,
           F-grow x d o.below nil,
@@ -101,7 +101,7 @@ module _ (t : List Node) (φ : Datum → ℕ) (F : Tree → ℕ) (G : List ℕ �
         ))
 
     -- the row that is there in the end, with what went, is the row that was, with what came
-    sum_row : (v : Tree) (c : ℕ) → F v ≡ F (withoutLast o.behind) + c
+    sum_row : (v : Tree) (c : ℕ) → F v ≡ F (without_last o.behind) + c
         → F (put o.parent (after o.before v) w) + G (going t x w) ≡ F w + c
     sum_row v c e =
         omega (
@@ -113,30 +113,30 @@ module _ (t : List Node) (φ : Datum → ℕ) (F : Tree → ℕ) (G : List ℕ �
         )
 
     pub sum-cleared : F (cleared x w) + G (going t x w) ≡ F w
-    sum-cleared = rw o.left (omega (arith, sum_row (withoutLast o.behind) 0 (omega arith)))
+    sum-cleared = rw o.left (omega (arith, sum_row (without_last o.behind) 0 (omega arith)))
 
-    pub sum-removed : (n s : ℕ) → F (remove x n s w) + G (going t x w) ≡ F w + φ (freed s d (board d (lastFree o.behind)))
+    pub sum-removed : (n s : ℕ) → F (remove x n s w) + G (going t x w) ≡ F w + φ (freed s d (board d (last_free o.behind)))
     unfolding settled
     sum-removed n s =
-        let e = freed s d (board d (lastFree o.behind)) in
+        let e = freed s d (board d (last_free o.behind)) in
         rw (o.comes n s)
         (sum_row (settled n s d o.behind) (φ e)
-        (sum-after (withoutLast o.behind) (grow n e nil nil) ∙ omega (arith, F-grow n e nil nil, F-nil)))
+        (sum-after (without_last o.behind) (grow n e nil nil) ∙ omega (arith, F-grow n e nil nil, F-nil)))
 
 -- ---- The laws.
 
 -- a piece that is free is no part
-free-numberless : (c : Kind) (v : ℕ) → isFree c ≡ true → cond (isPart c) (v ∷ []) [] ≡ []
+free-numberless : (c : Kind) (v : ℕ) → is_free c ≡ true → cond (is_part c) (v ∷ []) [] ≡ []
 free-numberless Free v e = refl
 free-numberless Part v e = absurd (false≢true e)
 free-numberless Structure v e = absurd (false≢true e)
 
 -- the free last piece has no number
-end-numberless : (t : List Node) (q : ℕ) → numbersAlong t (freeLastPlace t q) ≡ []
-unfolding freeLastPlace
-end-numberless t q = go (freeLast t q) refl
+end-numberless : (t : List Node) (q : ℕ) → numbers_along t (free_last_place t q) ≡ []
+unfolding free_last_place
+end-numberless t q = go (free_last t q) refl
   where
-    go : (b : Bool) → freeLast t q ≡ b → numbersAlong t (cond b ((at t q).last ∷ []) []) ≡ []
+    go : (b : Bool) → free_last t q ≡ b → numbers_along t (cond b ((at t q).last ∷ []) []) ≡ []
     go true e = rw (free-numberless (at t (at t q).last).datum.kind (at t (at t q).last).datum.number e) refl
     go false e = refl
 
@@ -153,11 +153,11 @@ module _ (limit : ℕ) (settings : Settings) (t : List Node) (w : Tree) (sound :
   removed-count n s =
       sum-removed t (λ e. 1) count length refl (λ p e k r. refl) refl (λ p ps. omega arith) limit x z.piece w h o n s
 
-  pub removed-area : (n s : ℕ) → figures.partArea (remove x n s w) + areaAlong t (going t x w) ≡ figures.partArea w
+  pub removed-area : (n s : ℕ) → figures.part_area (remove x n s w) + area_along t (going t x w) ≡ figures.part_area w
   removed-area n s =
       omega (
         arith,
-        sum-removed t areaIfPart figures.partArea (areaAlong t) refl (λ p e k r. refl) refl (λ p ps. refl) limit x z.piece w h o n s,
+        sum-removed t area_if_part figures.part_area (area_along t) refl (λ p e k r. refl) refl (λ p ps. refl) limit x z.piece w h o n s,
       )
 
   -- what goes is at most what there is
@@ -165,13 +165,13 @@ module _ (limit : ℕ) (settings : Settings) (t : List Node) (w : Tree) (sound :
   going-most = omega (arith, left-count, sound.room)
 
   -- the numbers that come out are those of the subtree
-  pub removed-numbers : numbersAlong t (going t x w) ≡ removedNumbers x w
+  pub removed-numbers : numbers_along t (going t x w) ≡ removed_numbers x w
   removed-numbers =
-      gathered-append (number_at t) (leaving (subtree x w)) (freeLastPlace t (at t x).parent)
-      ∙ rw (← leaving-is (subtree x w), end-numberless t (at t x).parent, append-nil (numbersAlong t (childrenFirst (subtree x w))))
+      gathered-append (number_at t) (leaving (subtree x w)) (free_last_place t (at t x).parent)
+      ∙ rw (← leaving-is (subtree x w), end-numberless t (at t x).parent, append-nil (numbers_along t (children_first (subtree x w))))
       (numbers-removed limit t w h x (sound-ends limit settings w sound))
 
-  pub removed-few : length (removedNumbers x w) ≤ limit
+  pub removed-few : length (removed_numbers x w) ≤ limit
   removed-few =
       let u = subtree x w in
       omega (
@@ -180,6 +180,6 @@ module _ (limit : ℕ) (settings : Settings) (t : List Node) (w : Tree) (sound :
         parts-most u,
         length-order u,
         ap length (leaving-is u),
-        length-append (leaving u) (freeLastPlace t (at t x).parent),
+        length-append (leaving u) (free_last_place t (at t x).parent),
         going-most,
       )

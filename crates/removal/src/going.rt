@@ -2,10 +2,10 @@
 ghost use Rattle.std.specs.Prelude.{◌≡◌, ◌+◌, ◌≤◌, ◌<◌, length};
 ghost use Rattle.lists.specs.Lists.{limit};
 ghost use Rattle.std.proofs.lemmas.List.Edits.{sets};
-ghost use Rattle.table.specs.Steps.{freeLastPlace};
+ghost use Rattle.table.specs.Steps.{free_last_place};
 ghost use Rattle.table.specs.Table.{at};
 ghost use Rattle.walks.specs.Inner.{Hangs, Placed};
-ghost use Rattle.removal.specs.Going.{goingOf, places};
+ghost use Rattle.removal.specs.Going.{going_of, places};
 
 use table::{LIMIT, Node};
 use walks::order::order_out;
@@ -19,9 +19,9 @@ pub struct Going {
 
 // Writes the place of the last child of q at n, if that is free, and gives the next index.
 fn put_free_last(nodes: [Node; LIMIT], q: u16, order: &mut [u16], n: usize) -> usize
-    requires { (q < limit) × ((at nodes q).last < limit) × (n + length (freeLastPlace nodes q) ≤ length order.old) }
-    ensures written { order.new ≡ sets order.old n (freeLastPlace nodes q) }
-    ensures counted { result ≡ n + length (freeLastPlace nodes q) }
+    requires { (q < limit) × ((at nodes q).last < limit) × (n + length (free_last_place nodes q) ≤ length order.old) }
+    ensures written { order.new ≡ sets order.old n (free_last_place nodes q) }
+    ensures counted { result ≡ n + length (free_last_place nodes q) }
 {
     let qi = q as usize;
     let up = nodes[qi];
@@ -42,9 +42,9 @@ fn put_free_last(nodes: [Node; LIMIT], q: u16, order: &mut [u16], n: usize) -> u
 // the end of its row.
 pub fn going_with(nodes: [Node; LIMIT], x: u16, held: usize) -> Going
     requires { (x < limit) × ((at nodes x).parent < limit) × ((at nodes (at nodes x).parent).last < limit)
-        × (length (goingOf nodes x held) ≤ limit) × Hangs limit nodes x held }
-    ensures entries { places result ≡ goingOf nodes x held }
-    ensures counted { result.count ≡ length (goingOf nodes x held) }
+        × (length (going_of nodes x held) ≤ limit) × Hangs limit nodes x held }
+    ensures entries { places result ≡ going_of nodes x held }
+    ensures counted { result.count ≡ length (going_of nodes x held) }
     ensures placed { Placed limit result.count result.order }
 {
     let xi = x as usize;

@@ -2,14 +2,14 @@
 ghost use Rattle.std.specs.Prelude.{◌≡◌, ◌+◌, ◌≤◌, ◌<◌, length};
 ghost use Rattle.lists.specs.Lists.{limit};
 ghost use Rattle.tree.specs.Removal.{board, freed, spare};
-ghost use Rattle.tree.specs.ListSteps.{omitAll, put, strikeAll};
-ghost use Rattle.table.specs.Steps.{unlinkAll};
+ghost use Rattle.tree.specs.ListSteps.{omit_all, put, strike_all};
+ghost use Rattle.table.specs.Steps.{unlink_all};
 ghost use Rattle.walks.specs.Inner.{Placed};
-ghost use Rattle.layout_nodes.specs.Listings.{Kept, areaIn, entriesOf, listing};
+ghost use Rattle.layout_nodes.specs.Listings.{Kept, area_in, entries_of, listing};
 ghost use Rattle.layout_nodes.specs.Inner.{Single};
-ghost use Rattle.removal.specs.Going.{areaAlong, areaIfPart, places};
+ghost use Rattle.removal.specs.Going.{area_along, area_if_part, places};
 ghost use Rattle.removal.specs.Inner.{Goes, Clearable};
-ghost use Rattle.removal.specs.Remove.{ifFree, removedNodes, returned};
+ghost use Rattle.removal.specs.Remove.{if_free, removed_nodes, returned};
 
 use crate::going::Going;
 use layout_nodes::LayoutNodes;
@@ -31,7 +31,7 @@ pub struct Cleared {
 // The places are unlinked one after the other, in one table. A turn is `unlink` of table/src/places.rt, written out: a call would copy the table.
 fn unlink_all(nodes: [Node; LIMIT], g: Going) -> [Node; LIMIT]
     requires { (g.count ≤ limit) × Goes limit nodes (places g) }
-    ensures { result ≡ unlinkAll limit nodes (places g) }
+    ensures { result ≡ unlink_all limit nodes (places g) }
 {
     let order = g.order;
     let count = g.count;
@@ -73,7 +73,7 @@ fn unlink_all(nodes: [Node; LIMIT], g: Going) -> [Node; LIMIT]
 
 // The area of a part; another piece has none.
 fn part_area(d: Datum) -> u64
-    ensures { result ≡ areaIfPart d }
+    ensures { result ≡ area_if_part d }
 {
     let kind = d.kind;
     let size = d.size;
@@ -87,8 +87,8 @@ fn part_area(d: Datum) -> u64
 
 // The areas of the parts that go.
 pub fn area_along(nodes: [Node; LIMIT], g: Going) -> u64
-    requires { (g.count ≤ limit) × Placed limit g.count g.order × (areaAlong nodes (places g) ≤ 18446744073709551615) }
-    ensures { result ≡ areaAlong nodes (places g) }
+    requires { (g.count ≤ limit) × Placed limit g.count g.order × (area_along nodes (places g) ≤ 18446744073709551615) }
+    ensures { result ≡ area_along nodes (places g) }
 {
     let order = g.order;
     let count = g.count;
@@ -106,7 +106,7 @@ pub fn area_along(nodes: [Node; LIMIT], g: Going) -> u64
 
 // What the last piece of a row has of the side that their parent's cut divides, if it is free.
 fn spare_of(cut: Orientation, end: Datum) -> u32
-    ensures { result ≡ spare cut (ifFree end) }
+    ensures { result ≡ spare cut (if_free end) }
 {
     let kind = end.kind;
     let size = end.size;
@@ -118,8 +118,8 @@ fn spare_of(cut: Orientation, end: Datum) -> u32
 
 // The board of d, with the last piece of its row, if that is free. What was eaten behind d comes back with it.
 fn board_with(d: Datum, end: Datum) -> Size
-    requires { ((board d (ifFree end)).width ≤ 4294967295) × ((board d (ifFree end)).height ≤ 4294967295) }
-    ensures { result ≡ board d (ifFree end) }
+    requires { ((board d (if_free end)).width ≤ 4294967295) × ((board d (if_free end)).height ≤ 4294967295) }
+    ensures { result ≡ board d (if_free end) }
 {
     let cut = d.cut;
     let own = d.size;
@@ -135,8 +135,8 @@ fn board_with(d: Datum, end: Datum) -> Size
 
 // The free piece that comes where d was, where `end` is the last piece of its row.
 pub(crate) fn new_free(d: Datum, end: Datum, last: u32) -> Datum
-    requires { ((board d (ifFree end)).width ≤ 4294967295) × ((board d (ifFree end)).height ≤ 4294967295) × (last ≤ 1000000) }
-    ensures { result ≡ freed (last + 1) d (board d (ifFree end)) }
+    requires { ((board d (if_free end)).width ≤ 4294967295) × ((board d (if_free end)).height ≤ 4294967295) × (last ≤ 1000000) }
+    ensures { result ≡ freed (last + 1) d (board d (if_free end)) }
 {
     let size = board_with(d, end);
     let cut = d.cut;
@@ -153,9 +153,9 @@ pub(crate) fn new_free(d: Datum, end: Datum, last: u32) -> Datum
 
 // The free list without the pieces that go and with the new one, which stands at `place` of the table.
 pub(crate) fn free_list(free: Listing, g: Going, nodes: [Node; LIMIT], place: u16) -> Listing
-    requires { Kept free × (g.count ≤ limit) × (length (omitAll (entriesOf free) (places g)) < limit)
-        × Single (entriesOf free) }
-    ensures { result ≡ listing (put (areaIn nodes) (omitAll (entriesOf free) (places g)) place) }
+    requires { Kept free × (g.count ≤ limit) × (length (omit_all (entries_of free) (places g)) < limit)
+        × Single (entries_of free) }
+    ensures { result ≡ listing (put (area_in nodes) (omit_all (entries_of free) (places g)) place) }
 {
     let order = g.order;
     let count = g.count;
@@ -166,9 +166,9 @@ pub(crate) fn free_list(free: Listing, g: Going, nodes: [Node; LIMIT], place: u1
 
 // The removable list without the pieces that go. A parent that has lost its last child is taken out, and returns at once: it stands at q.
 pub(crate) fn removable_list(removable: Listing, g: Going, parent: Node, q: u16) -> Listing
-    requires { Kept removable × (g.count ≤ limit) × (length (strikeAll (entriesOf removable) (places g)) < limit)
-        × Single (entriesOf removable) }
-    ensures { result ≡ listing (returned parent q (strikeAll (entriesOf removable) (places g))) }
+    requires { Kept removable × (g.count ≤ limit) × (length (strike_all (entries_of removable) (places g)) < limit)
+        × Single (entries_of removable) }
+    ensures { result ≡ listing (returned parent q (strike_all (entries_of removable) (places g))) }
 {
     let order = g.order;
     let count = g.count;
@@ -183,7 +183,7 @@ pub(crate) fn removable_list(removable: Listing, g: Going, parent: Node, q: u16)
 // The piece at x goes, where g is what goes with it, and one free piece comes at the end of its row: it has the serial after `last`.
 pub fn remove(n: LayoutNodes, g: Going, x: u16, last: u32) -> Cleared
     requires { (g.count ≤ limit) × Clearable n (places g) x last }
-    ensures { result ≡ removedNodes n (places g) x last }
+    ensures { result ≡ removed_nodes n (places g) x last }
 {
     let old = n.nodes;
     let old_free = n.free;

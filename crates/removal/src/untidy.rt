@@ -3,13 +3,13 @@
 // table more often in every removal.
 ghost use Rattle.std.specs.Prelude.{◌≡◌, ◌≤◌, ◌<◌, length};
 ghost use Rattle.lists.specs.Lists.{limit};
-ghost use Rattle.table.specs.Steps.{unlinkAll};
+ghost use Rattle.table.specs.Steps.{unlink_all};
 ghost use Rattle.table.specs.Table.{at};
 ghost use Rattle.walks.specs.Inner.{Placed};
 ghost use Rattle.removal.specs.Going.{places};
 ghost use Rattle.removal.specs.Inner.{Goes, Clearable};
-ghost use Rattle.removal.specs.Remove.{removedNodes};
-ghost use Rattle.removal.specs.Untidy.{bareGoing, bareIn, lowestUntidy};
+ghost use Rattle.removal.specs.Remove.{removed_nodes};
+ghost use Rattle.removal.specs.Untidy.{bare_going, bare_in, lowest_untidy};
 
 use crate::going::Going;
 use crate::remove::{Cleared, free_list, new_free, removable_list};
@@ -19,7 +19,7 @@ use table::{LIMIT, NONE, Node};
 
 // Whether a piece is a structure whose first child, which is handed in, is its last and free.
 fn is_bare(n: Node, child: Node) -> bool
-    ensures { result ≡ bareIn n child }
+    ensures { result ≡ bare_in n child }
 {
     let d = n.datum;
     let kind = d.kind;
@@ -34,7 +34,7 @@ fn is_bare(n: Node, child: Node) -> bool
 
 // The lowest place of such a structure but the top; NONE where there is none.
 pub fn lowest_untidy(nodes: [Node; LIMIT]) -> u16
-    ensures { result ≡ lowestUntidy nodes }
+    ensures { result ≡ lowest_untidy nodes }
 {
     let mut i: u16 = 1;
     let place = loop {
@@ -58,8 +58,8 @@ pub fn lowest_untidy(nodes: [Node; LIMIT]) -> u16
 // What goes with such a structure at x: its child, itself, and then the free piece at the end of its row.
 pub fn going_bare(nodes: [Node; LIMIT], x: u16) -> Going
     requires { (x < limit) × ((at nodes x).parent < limit) × ((at nodes (at nodes x).parent).last < limit) × ((at nodes x).first < limit) }
-    ensures entries { places result ≡ bareGoing nodes x }
-    ensures counted { result.count ≡ length (bareGoing nodes x) }
+    ensures entries { places result ≡ bare_going nodes x }
+    ensures counted { result.count ≡ length (bare_going nodes x) }
     ensures placed { Placed limit result.count result.order }
 {
     let xi = x as usize;
@@ -85,7 +85,7 @@ pub fn going_bare(nodes: [Node; LIMIT], x: u16) -> Going
 // The two or three places are unlinked one after the other.
 fn unlink_bare(nodes: [Node; LIMIT], g: Going) -> [Node; LIMIT]
     requires { (2 ≤ g.count) × (g.count ≤ 3) × Goes limit nodes (places g) }
-    ensures { result ≡ unlinkAll limit nodes (places g) }
+    ensures { result ≡ unlink_all limit nodes (places g) }
 {
     let order = g.order;
     let one = unlink(nodes, order[0]);
@@ -99,7 +99,7 @@ fn unlink_bare(nodes: [Node; LIMIT], g: Going) -> [Node; LIMIT]
 // Such a structure at x goes, where g is what goes with it: what `remove` does.
 pub fn remove_bare(n: LayoutNodes, g: Going, x: u16, last: u32) -> Cleared
     requires { (2 ≤ g.count) × (g.count ≤ 3) × Clearable n (places g) x last }
-    ensures { result ≡ removedNodes n (places g) x last }
+    ensures { result ≡ removed_nodes n (places g) x last }
 {
     let old = n.nodes;
     let old_free = n.free;

@@ -1,5 +1,5 @@
 // A record of a block: 18 bytes that ask and 56 that answer.
-use hex::four;
+use hexadecimal::four;
 use piece::insertion_blueprint::{InsertionBlueprint, InsertionNode, InsertionShape, nodes};
 use piece::orientation::Orientation;
 use piece::size::Size;

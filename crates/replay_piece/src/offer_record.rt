@@ -1,5 +1,5 @@
 // A record of offers: 20 bytes that ask and 9 that answer.
-use hex::four;
+use hexadecimal::four;
 use piece::insertion_option::{Offer, OfferList, offers};
 use piece::node::{Datum, Kind};
 use piece::orientation::Orientation;

@@ -15,7 +15,7 @@ pub fn decoded(line: &[u8; 149], n: usize) -> Record {
     while i < n {
         let high = line[2 * i];
         let low = line[2 * i + 1];
-        let b = hex::byte(high, low);
+        let b = hexadecimal::byte(high, low);
         if 256 <= b {
             return Record { ok: false, bytes };
         }

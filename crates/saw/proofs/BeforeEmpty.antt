@@ -17,62 +17,62 @@ use Rattle.piece.specs.declared.node.Kind.TheVariants.{Free, Part, Structure}
 use Rattle.piece.specs.declared.settings.Settings.{Settings}
 use Rattle.piece.specs.Sides.{area}
 use Rattle.piece.specs.Row.{nil, grow}
-use Rattle.piece.specs.Kinds.{isFree}
-use Rattle.piece.specs.Numbers.{kindNo}
+use Rattle.piece.specs.Kinds.{is_free}
+use Rattle.piece.specs.Numbers.{kind_no}
 use Rattle.tree.specs.Tree.{Tree, At}
 use Rattle.tree.specs.Sound.{Sound}
 use Rattle.lists.proofs.Scan.{test, clash, and_left}
 use Rattle.saw.specs.declared.cut.Cut.{Cut}
 use Rattle.saw.specs.Saw.{side}
-use Rattle.saw.specs.Cuts.{is_empty, keptAfter, withoutEmpty, cutOff, cuts, boards}
+use Rattle.saw.specs.Cuts.{is_empty, kept_after, without_empty, cut_off, cuts, boards}
 use Rattle.saw.proofs.Sawn.{empties, cuts-count}
 
 -- ---- before one offcut
 
-is_free : (κ : Kind) → isFree κ ≡ true → kindNo κ ≡ kindNo Free
-is_free Free e = refl
-is_free Part e = absurd (clash e)
-is_free Structure e = absurd (clash e)
+is_free-kind : (κ : Kind) → is_free κ ≡ true → kind_no κ ≡ kind_no Free
+is_free-kind Free e = refl
+is_free-kind Part e = absurd (clash e)
+is_free-kind Structure e = absurd (clash e)
 
 -- behind the piece d of a row comes the offcut e of area 0
 module _ (way : Orientation) (i : ℕ) (d : Datum) (q : ℕ) (e : Datum) (l : Tree) (empty : is_empty e ≡ true) where
   -- the cut that takes d off
-  abbrev pub cutBehind : Cut
-  cutBehind =
-      record { place = i; way = way; distance = side way d.size; piece = kindNo d.kind; remainder = kindNo Free; eaten = d.eaten }
+  abbrev pub cut_behind : Cut
+  cut_behind =
+      record { place = i; way = way; distance = side way d.size; piece = kind_no d.kind; remainder = kind_no Free; eaten = d.eaten }
 
-  not-before : d.eaten ≡ 0 → cutOff way i d (keptAfter d.eaten (grow q e l nil)) ≡ []
+  not-before : d.eaten ≡ 0 → cut_off way i d (kept_after d.eaten (grow q e l nil)) ≡ []
   not-before z = rw (empty, eq-eqb d.eaten 0 z) refl
 
-  pub cut-before : (d.eaten ≡ 0 → ⊥) → cutOff way i d (keptAfter d.eaten (grow q e l nil)) ≡ cutBehind ∷ []
-  cut-before z = rw (empty, ne_eqb d.eaten 0 z, is_free e.kind (and_left (isFree e.kind) (eqb (area e.size) 0) empty)) refl
+  pub cut-before : (d.eaten ≡ 0 → ⊥) → cut_off way i d (kept_after d.eaten (grow q e l nil)) ≡ cut_behind ∷ []
+  cut-before z = rw (empty, ne_eqb d.eaten 0 z, is_free-kind e.kind (and_left (is_free e.kind) (eqb (area e.size) 0) empty)) refl
 
-  some-eaten : Dec (d.eaten ≡ 0) → cutOff way i d (keptAfter d.eaten (grow q e l nil)) ≡ [] → d.eaten ≡ 0
+  some-eaten : Dec (d.eaten ≡ 0) → cut_off way i d (kept_after d.eaten (grow q e l nil)) ≡ [] → d.eaten ≡ 0
   some-eaten (yes z) h = z
   some-eaten (no z) h = let none : ◌≡◌ {A = ℕ} 1 0 = sym (ap length (cut-before z)) ∙ ap length h in omega arith
 
-  pub no-cut-before : (cutOff way i d (keptAfter d.eaten (grow q e l nil)) ≡ []) ↔ (d.eaten ≡ 0)
+  pub no-cut-before : (cut_off way i d (kept_after d.eaten (grow q e l nil)) ≡ []) ↔ (d.eaten ≡ 0)
   no-cut-before = (some-eaten (ℕ_discrete d.eaten 0), not-before)
 
 -- ---- where nothing was eaten
 
 -- a row and what is below it without its free pieces of area 0
-abbrev pub leftOut : Tree → Tree
-leftOut nil = nil
-leftOut (grow p d k r) = cond (is_empty d) (leftOut r) (grow p d (leftOut k) (leftOut r))
+abbrev pub left_out : Tree → Tree
+left_out nil = nil
+left_out (grow p d k r) = cond (is_empty d) (left_out r) (grow p d (left_out k) (left_out r))
 
 abbrev pub NothingEaten : Tree → Type 0
 NothingEaten t = (i : ℕ) (d : Datum) → At i d t → d.eaten ≡ 0
 
-pub all-left-out : (t : Tree) → NothingEaten t → withoutEmpty t ≡ leftOut t
+pub all-left-out : (t : Tree) → NothingEaten t → without_empty t ≡ left_out t
 all-left-out nil f = refl
 all-left-out (grow p d k r) f =
     let below = all-left-out k (λ j c y. f j c (inr (inl y))) in
     let rest = all-left-out r (λ j c y. f j c (inr (inr y))) in
-    let behind = ap (λ (n : ℕ). keptAfter n r) (f p d (inl (refl, refl))) ∙ rest in
-    rw (below, rest, behind) (ap (λ (b : Bool). cond b (leftOut r) (grow p d (leftOut k) (leftOut r))) (and-true (is_empty d)))
+    let behind = ap (λ (n : ℕ). kept_after n r) (f p d (inl (refl, refl))) ∙ rest in
+    rw (below, rest, behind) (ap (λ (b : Bool). cond b (left_out r) (grow p d (left_out k) (left_out r))) (and-true (is_empty d)))
 
-none_stays : (t : Tree) → empties (leftOut t) ≡ 0
+none_stays : (t : Tree) → empties (left_out t) ≡ 0
 none_stays nil = refl
 none_stays (grow p d k r) =
     ⊎_elim

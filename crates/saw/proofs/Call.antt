@@ -12,36 +12,36 @@ use Rattle.layout.specs.declared.layout.Layout.{Layout}
 use Rattle.layout.specs.Check.{limit, tree}
 use Rattle.layout.specs.SoundLayout.{SoundLayout}
 use Rattle.walks.specs.declared.columns.Columns.{Columns}
-use Rattle.walks.specs.Columns.{columnsOf}
+use Rattle.walks.specs.Columns.{columns_of}
 use Rattle.saw.specs.declared.cut.Cut.{Cut}
 use Rattle.saw.specs.Cuts.{cuts}
-use Rattle.saw.specs.Listed.{listedIn, pilesIn, entriesOfCuts, ninesOf, tenthsOf}
-use Rattle.saw.specs.Written.{sawBytes, amountBytes}
+use Rattle.saw.specs.Listed.{listed_in, piles_in, entries_of_cuts, nines_of, tenths_of}
+use Rattle.saw.specs.Written.{saw_bytes, amount_bytes}
 use Rattle.saw.proofs.Meaning.{listed-tree, piled-tree}
 use Rattle.saw.proofs.Sawn.{boards-most}
 use Rattle.saw.proofs.CutBytes.{length-entries, nines-are, tenths-are}
 use Rattle.saw.proofs.Layouts.{few-cuts}
 
 -- what is listed from the top's first child on, and how many pieces of the pile that is
-abbrev pub cutsIn : Layout → Columns → List Cut
-cutsIn l c = listedIn limit c (at l.nodes 0).datum.cut l.held 0 (at l.nodes 0).first
+abbrev pub cuts_in : Layout → Columns → List Cut
+cuts_in l c = listed_in limit c (at l.nodes 0).datum.cut l.held 0 (at l.nodes 0).first
 
-abbrev pub piecesIn : Layout → Columns → ℕ
-piecesIn l c = pilesIn limit c (at l.nodes 0).datum.cut l.held (at l.nodes 0).first
+abbrev pub pieces_in : Layout → Columns → ℕ
+pieces_in l c = piles_in limit c (at l.nodes 0).datum.cut l.held (at l.nodes 0).first
 
-module _ (l : Layout) (s : SoundLayout l) {c : Columns} (e : c ≡ columnsOf l.nodes) where
-  pub cuts_are : cutsIn l c ≡ cuts (tree l)
+module _ (l : Layout) (s : SoundLayout l) {c : Columns} (e : c ≡ columns_of l.nodes) where
+  pub cuts_are : cuts_in l c ≡ cuts (tree l)
   cuts_are =
-      ap (cutsIn l) e ∙ listed-tree limit l.settings l.nodes (tree l) l.held s.sound s.holds (omega (arith, s.held))
+      ap (cuts_in l) e ∙ listed-tree limit l.settings l.nodes (tree l) l.held s.sound s.holds (omega (arith, s.held))
 
-  pub cuts-room : length (cutsIn l c) ≤ limit
+  pub cuts-room : length (cuts_in l c) ≤ limit
   cuts-room = omega (arith, ap length cuts_are, few-cuts l s)
 
-  pub pieces_room : piecesIn l c ≤ limit
+  pub pieces_room : pieces_in l c ≤ limit
   pieces_room =
       omega (
         arith,
-        ap (piecesIn l) e ∙ piled-tree limit l.settings l.nodes (tree l) l.held s.sound s.holds (omega (arith, s.held)),
+        ap (pieces_in l) e ∙ piled-tree limit l.settings l.nodes (tree l) l.held s.sound s.holds (omega (arith, s.held)),
         boards-most (tree l),
         s.sound.room,
       )
@@ -50,20 +50,20 @@ module _ (l : Layout) (s : SoundLayout l) {c : Columns} (e : c ≡ columnsOf l.n
 pub record ListMade (l : Layout) (list : List ℕ) (n : ℕ) : Type 0 where
   pub few : n ≤ limit
   pub long : length list ≡ 10 * limit
-  pub nines : ninesOf n list ≡ sawBytes l
-  pub tenths : tenthsOf n list ≡ amountBytes l
+  pub nines : nines_of n list ≡ saw_bytes l
+  pub tenths : tenths_of n list ≡ amount_bytes l
 
-pub list-made : (l : Layout) → SoundLayout l → {list : List ℕ} {n : ℕ} → list ≡ sets (zeros (10 * limit)) 0 (entriesOfCuts (cuts (tree l)))
+pub list-made : (l : Layout) → SoundLayout l → {list : List ℕ} {n : ℕ} → list ≡ sets (zeros (10 * limit)) 0 (entries_of_cuts (cuts (tree l)))
     → n ≡ length (cuts (tree l)) → ListMade l list n
-unfolding sawBytes amountBytes
+unfolding saw_bytes amount_bytes
 list-made l s wrote counted =
     let cs = cuts (tree l) in
     let room = length-replicate {A = ℕ} (10 * limit) 0 in
     -- the entries stand first
-    let first = wrote ∙ sets-eq (entriesOfCuts cs) (zeros (10 * limit)) 0 (omega (arith, room, length-entries cs, few-cuts l s)) in
+    let first = wrote ∙ sets-eq (entries_of_cuts cs) (zeros (10 * limit)) 0 (omega (arith, room, length-entries cs, few-cuts l s)) in
     record {
       few = omega (arith, counted, few-cuts l s);
-      long = ap length wrote ∙ length-sets (zeros (10 * limit)) 0 (entriesOfCuts cs) ∙ room;
+      long = ap length wrote ∙ length-sets (zeros (10 * limit)) 0 (entries_of_cuts cs) ∙ room;
       nines = rw (counted, first) (nines-are cs _);
       tenths = rw (counted, first) (tenths-are cs _);
     }

@@ -18,7 +18,7 @@ use Rattle.piece.specs.declared.node.Kind.TheVariants.{Free, Part, Structure}
 use Rattle.piece.specs.declared.settings.Settings.{Settings}
 use Rattle.piece.specs.Sides.{area, laid, other}
 use Rattle.piece.specs.Row.{nil, grow}
-use Rattle.piece.specs.Kinds.{isFree}
+use Rattle.piece.specs.Kinds.{is_free}
 use Rattle.tree.specs.Tree.{Tree, count}
 use Rattle.tree.specs.Sound.{Sided, extent, StructurePiece, Kinded, Child, Children}
 use Rattle.tree.proofs.Areas.{area-laid}
@@ -26,7 +26,7 @@ use Rattle.tree.proofs.Laying.{laid-sided}
 use Rattle.tree.proofs.Read.{Readable}
 use Rattle.lists.proofs.Scan.{test, clash, and_left}
 use Rattle.saw.specs.Saw.{side}
-use Rattle.saw.specs.Cuts.{is_empty, keptAfter, withoutEmpty, ownBoard, boards}
+use Rattle.saw.specs.Cuts.{is_empty, kept_after, without_empty, own_board, boards}
 use Rattle.saw.proofs.Slices.{slice-side, slice-height, is_slice, is_whole, sided-area, sided-side, flat-area, sides-sided, remnant, Off}
 
 -- a part or a free piece has no children, and a structure has what is said of them; a part has two sides
@@ -67,15 +67,15 @@ module _ {settings : Settings} {q d : Datum} (way : Orientation) (cut : way ≡ 
   some-side : Sided d.size → false ≡ eqb (side way d.size) 0
   some-side h = sym (ne_eqb (side way d.size) 0 (λ z. omega (arith, sided-side way h)))
 
-  pub empty-side : (c : Kind) (k r : Tree) → Kinded c d k r → (isFree c && eqb (area d.size) 0) ≡ eqb (side way d.size) 0
+  pub empty-side : (c : Kind) (k r : Tree) → Kinded c d k r → (is_free c && eqb (area d.size) 0) ≡ eqb (side way d.size) 0
   empty-side Free k r f =
       rw (← area-laid (other way) d.size) (nothing (side way d.size) (laid (other way) d.size).height across)
   empty-side Part k r f = some-side f.sided
   empty-side Structure k r f = some-side f.sided
 
 -- it has no board, nothing below it and nothing behind it
-pub empty-gone : (κ : Kind) (d : Datum) (k r : Tree) → Kinded κ d k r → (isFree κ && eqb (area d.size) 0) ≡ true
-    → (ownBoard κ d.size ≡ []) × (k ≡ nil) × (r ≡ nil)
+pub empty-gone : (κ : Kind) (d : Datum) (k r : Tree) → Kinded κ d k r → (is_free κ && eqb (area d.size) 0) ≡ true
+    → (own_board κ d.size ≡ []) × (k ≡ nil) × (r ≡ nil)
 empty-gone Free d k r f e = (rw e refl, f.childless, f.last)
 empty-gone Part d k r f e = absurd (clash e)
 empty-gone Structure d k r f e = absurd (clash e)
@@ -92,26 +92,26 @@ empty-extent {q = q} p d k r sided h e =
 
 -- a row that takes nothing of the side, with nothing eaten before it, is left out
 flat-gone : (κ : Kind) (p : ℕ) (d : Datum) (k r : Tree) → Kinded κ d k r → area d.size ≡ 0
-    → cond ((isFree κ && eqb (area d.size) 0) && eqb 0 0) (withoutEmpty r) (grow p d (withoutEmpty k) (keptAfter d.eaten r)) ≡ nil
+    → cond ((is_free κ && eqb (area d.size) 0) && eqb 0 0) (without_empty r) (grow p d (without_empty k) (kept_after d.eaten r)) ≡ nil
 flat-gone Free p d k r f e = rw (eq-eqb (area d.size) 0 e, f.last) refl
 flat-gone Part p d k r f e = absurd (sided-area f.sided e)
 flat-gone Structure p d k r f e = absurd (sided-area f.sided e)
 
-none_left : (settings : Settings) (q : Datum) (r : Tree) → Children settings q r → extent (other q.cut) r ≡ 0 → withoutEmpty r ≡ nil
+none_left : (settings : Settings) (q : Datum) (r : Tree) → Children settings q r → extent (other q.cut) r ≡ 0 → without_empty r ≡ nil
 none_left settings q nil h e = refl
 none_left settings q (grow p d k r) h e = flat-gone d.kind p d k r h.kinded (flat-area (other q.cut) d.size (omega arith))
 
-pub boards-kept : (settings : Settings) (q : Datum) (before : ℕ) (r : Tree) → Children settings q r → boards (keptAfter before r) ≡ boards r
+pub boards-kept : (settings : Settings) (q : Datum) (before : ℕ) (r : Tree) → Children settings q r → boards (kept_after before r) ≡ boards r
 boards-kept settings q before nil h = refl
 boards-kept settings q before (grow p d k r) h =
     let below = boards-kept settings d 0 k h.below in
     ⊎_elim
     (λ e. let gone = empty-gone d.kind d k r h.kinded (and_left (is_empty d) (eqb before 0) e) in rw (e, gone.0, gone.1)
     (boards-kept settings q 0 r h.beside))
-    (λ e. rw e (ap₂ (λ (u v : List Size). ownBoard d.kind d.size ++ (u ++ v)) below (boards-kept settings q d.eaten r h.beside)))
+    (λ e. rw e (ap₂ (λ (u v : List Size). own_board d.kind d.size ++ (u ++ v)) below (boards-kept settings q d.eaten r h.beside)))
     (test (is_empty d && eqb before 0))
 
-pub count_kept : (before : ℕ) (r : Tree) → count (keptAfter before r) ≤ count r
+pub count_kept : (before : ℕ) (r : Tree) → count (kept_after before r) ≤ count r
 count_kept before nil = omega arith
 count_kept before (grow p d k r) =
     let below = count_kept 0 k in
@@ -120,7 +120,7 @@ count_kept before (grow p d k r) =
     (λ e. rw e (omega (arith, count_kept d.eaten r)))
     (test (is_empty d && eqb before 0))
 
-pub readable-kept : (before l : ℕ) (r : Tree) → Readable l r → Readable l (keptAfter before r)
+pub readable-kept : (before l : ℕ) (r : Tree) → Readable l r → Readable l (kept_after before r)
 readable-kept before l nil h = tt
 readable-kept before l (grow p d k r) h =
     let below = readable-kept 0 (l + 1) k h.1 in
@@ -137,9 +137,9 @@ piece-sided Free d k r f alone = alone f.childless f.last
 piece-sided Part d k r f alone = f.sided
 piece-sided Structure d k r f alone = f.sided
 
-piece-below : (κ : Kind) (d : Datum) (k r : Tree) (F : Type 0) → Kinded κ d k r → (StructurePiece d k → F) → Below κ d.size (withoutEmpty k) F
-piece-below Free d k r F f below = ap withoutEmpty f.childless
-piece-below Part d k r F f below = (f.sided, ap withoutEmpty f.childless)
+piece-below : (κ : Kind) (d : Datum) (k r : Tree) (F : Type 0) → Kinded κ d k r → (StructurePiece d k → F) → Below κ d.size (without_empty k) F
+piece-below Free d k r F f below = ap without_empty f.childless
+piece-below Part d k r F f below = (f.sided, ap without_empty f.childless)
 piece-below Structure d k r F f below = below f
 
 share-more : (way : Orientation) (s : Size) (d : Datum) (r : Tree) → Off way s d → Fills way (remnant way s d) r
@@ -179,7 +179,7 @@ module _ (settings : Settings) (q : Datum) (before p : ℕ) (d : Datum) (k r : T
   empty-before : is_empty d ≡ true → 1 ≤ before
   empty-before e = omega (arith, a.length, a.some, empty-extent p d k r a.sided h e)
 
-  stays : keptAfter before (grow p d k r) ≡ grow p d (withoutEmpty k) (keptAfter d.eaten r)
+  stays : kept_after before (grow p d k r) ≡ grow p d (without_empty k) (kept_after d.eaten r)
   stays =
       ⊎_elim
       (λ e. rw (e, ne_eqb before 0 (λ z. omega (arith, empty-before e))) refl)
@@ -219,30 +219,30 @@ module _ (settings : Settings) (q : Datum) (before p : ℕ) (d : Datum) (k r : T
         ends = h.ends;
       }
 
-  module _ (below : StructurePiece d k → Fills d.cut d.size (withoutEmpty k))
-      (rest : (s' : Size) → Spans q d.eaten r s' → Fills q.cut s' (keptAfter d.eaten r)) where
-    under : Below d.kind d.size (withoutEmpty k) (Fills (other q.cut) d.size (withoutEmpty k))
+  module _ (below : StructurePiece d k → Fills d.cut d.size (without_empty k))
+      (rest : (s' : Size) → Spans q d.eaten r s' → Fills q.cut s' (kept_after d.eaten r)) where
+    under : Below d.kind d.size (without_empty k) (Fills (other q.cut) d.size (without_empty k))
     under =
-        piece-below d.kind d k r (Fills (other q.cut) d.size (withoutEmpty k)) h.kinded
-        (λ g. subst (λ (w : Orientation). Fills w d.size (withoutEmpty k)) h.child.cut (below g))
+        piece-below d.kind d k r (Fills (other q.cut) d.size (without_empty k)) h.kinded
+        (λ g. subst (λ (w : Orientation). Fills w d.size (without_empty k)) h.child.cut (below g))
 
-    last : d.eaten + extent (other q.cut) r ≡ 0 → keptAfter d.eaten r ≡ nil
+    last : d.eaten + extent (other q.cut) r ≡ 0 → kept_after d.eaten r ≡ nil
     last z =
         let e : d.eaten ≡ 0 = omega arith in
         rw e (none_left settings q r h.beside (omega arith))
 
-    shares : Share q.cut s d (keptAfter d.eaten r) (Fills q.cut (remnant q.cut s d) (keptAfter d.eaten r))
+    shares : Share q.cut s d (kept_after d.eaten r) (Fills q.cut (remnant q.cut s d) (kept_after d.eaten r))
     shares =
         ⊎_elim
-        (λ z. share-last q.cut s d (keptAfter d.eaten r) _ (last z) (whole z))
-        (λ z. share-more q.cut s d (keptAfter d.eaten r) (off z) (rest (remnant q.cut s d) (spans-rest z)))
+        (λ z. share-last q.cut s d (kept_after d.eaten r) _ (last z) (whole z))
+        (λ z. share-more q.cut s d (kept_after d.eaten r) (off z) (rest (remnant q.cut s d) (spans-rest z)))
         (eq-zero-or-pos (d.eaten + extent (other q.cut) r))
 
-    piece-fills : Fills q.cut s (keptAfter before (grow p d k r))
+    piece-fills : Fills q.cut s (kept_after before (grow p d k r))
     piece-fills = subst⁻¹ (λ (t : Tree). Fills q.cut s t) stays (under, shares)
 
 row-fills : (settings : Settings) (q : Datum) (before : ℕ) (r : Tree) (s : Size) → Children settings q r → Spans q before r s
-    → Fills q.cut s (keptAfter before r)
+    → Fills q.cut s (kept_after before r)
 row-fills settings q before nil s h a = spans-some q before s a
 row-fills settings q before (grow p d k r) s h a =
     piece-fills settings q before p d k r s h a
@@ -250,5 +250,5 @@ row-fills settings q before (grow p d k r) s h a =
     (λ s' z. row-fills settings q d.eaten r s' h.beside z)
 
 -- the children of a structure fill it
-pub structure-fills : (settings : Settings) (d : Datum) (k : Tree) → StructurePiece d k → Children settings d k → Fills d.cut d.size (withoutEmpty k)
+pub structure-fills : (settings : Settings) (d : Datum) (k : Tree) → StructurePiece d k → Children settings d k → Fills d.cut d.size (without_empty k)
 structure-fills settings d k g h = row-fills settings d 0 k d.size h (spans-own d k g)

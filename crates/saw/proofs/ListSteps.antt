@@ -10,7 +10,7 @@ use lib.Seq.{sets, length-sets}
 use Rattle.piece.specs.declared.orientation.Orientation.{Orientation}
 use Rattle.piece.specs.Sides.{other}
 use Rattle.saw.specs.declared.cut.Cut.{Cut}
-use Rattle.saw.specs.Listed.{sidesIn, rest_of, leftAlong, cutBefore, ownListed, pilesListed, cutsListed, entryBytes, entriesOfCuts}
+use Rattle.saw.specs.Listed.{sides_in, rest_of, left_along, cut_before, own_listed, piles_listed, cuts_listed, entry_bytes, entries_of_cuts}
 use Rattle.saw.proofs.CutBytes.{entries-written}
 
 -- ---- what a routine asks, and what it does
@@ -21,21 +21,21 @@ Room limit cs piles place n out = (place + piles ≤ limit) × (n + length cs �
 
 -- they are written there, and counted, and so are the pieces
 abbrev Done : List Cut → (piles place n : ℕ) → (out after : List ℕ) → (m p : ℕ) → Type 0
-Done cs piles place n out after m p = (after ≡ sets out (10 * n) (entriesOfCuts cs)) × ((m ≡ n + length cs) × (p ≡ place + piles))
+Done cs piles place n out after m p = (after ≡ sets out (10 * n) (entries_of_cuts cs)) × ((m ≡ n + length cs) × (p ≡ place + piles))
 
 none_done : {cs : List Cut} {piles : ℕ} (place n : ℕ) (out : List ℕ) → cs ≡ [] → piles ≡ 0 → Done cs piles place n out out n place
-unfolding entriesOfCuts
+unfolding entries_of_cuts
 none_done place n out e f = rw (e, f) (refl, (omega arith, omega arith))
 
 -- a cut, those below it, and those of the rest, one after the other
 all_done : (c : Cut) (ds es : List Cut) (i j u v w n : ℕ) (out : List ℕ) {out₁ out₂ after : List ℕ} {m p q o : ℕ}
-    → out₁ ≡ sets out (10 * n) (entryBytes c []) → Done ds u i (n + 1) out₁ out₂ m p → Done es v j m out₂ after q o → j + v ≡ i + w
+    → out₁ ≡ sets out (10 * n) (entry_bytes c []) → Done ds u i (n + 1) out₁ out₂ m p → Done es v j m out₂ after q o → j + v ≡ i + w
     → Done (c ∷ (ds ++ es)) w i n out after q o
-unfolding entriesOfCuts
+unfolding entries_of_cuts
 all_done c ds es i j u v w n out {m = m} cut lower rest same =
     let e : m ≡ n + length (c ∷ ds) = omega (arith, lower.1.0) in (
       rw (rest.0, lower.0, cut, e)
-          (ap (λ (l : List ℕ). sets l (10 * (n + length (c ∷ ds))) (entriesOfCuts es)) (entries-written (c ∷ []) ds out n)
+          (ap (λ (l : List ℕ). sets l (10 * (n + length (c ∷ ds))) (entries_of_cuts es)) (entries-written (c ∷ []) ds out n)
           ∙ entries-written (c ∷ ds) es out n),
       (omega (arith, length-append ds es, lower.1.0, rest.1.0), omega (arith, rest.1.1)),
     )
@@ -54,10 +54,10 @@ pub record Lent : Type 0 where
 
 -- what a call of this way lists of them, and how many pieces of the pile that is
 abbrev listed_of : Lent → Orientation → (left i c : ℕ) → List Cut
-listed_of l way left i c = cutsListed l.limit l.first l.next l.kind l.width l.height l.eaten way left i c
+listed_of l way left i c = cuts_listed l.limit l.first l.next l.kind l.width l.height l.eaten way left i c
 
-abbrev piledOf : Lent → Orientation → (left c : ℕ) → ℕ
-piledOf l way left c = pilesListed l.limit l.first l.next l.kind l.width l.height l.eaten way left c
+abbrev piled_of : Lent → Orientation → (left c : ℕ) → ℕ
+piled_of l way left c = piles_listed l.limit l.first l.next l.kind l.width l.height l.eaten way left c
 
 -- a call: its way, its arguments, and what it asked. The calls in it have less than t left.
 pub record Call : Type 0 where
@@ -69,28 +69,28 @@ pub record Call : Type 0 where
   pub n : ℕ
   pub out : List ℕ
   pub t : ℕ
-  pub asked : (left ≡ t) × Room lent.limit (listed_of lent way left place c) (piledOf lent way left c) place n out
+  pub asked : (left ≡ t) × Room lent.limit (listed_of lent way left place c) (piled_of lent way left c) place n out
 
 -- the sides that its cuts divide
 abbrev sides : Call → List ℕ
-sides s = sidesIn s.way s.lent.width s.lent.height
+sides s = sides_in s.way s.lent.width s.lent.height
 
 -- the piece behind the one at c that a cut comes before
-abbrev behindIt : Call → ℕ
-behindIt s = rest_of s.lent.limit s.lent.next (sides s) s.lent.eaten s.c
+abbrev behind_it : Call → ℕ
+behind_it s = rest_of s.lent.limit s.lent.next (sides s) s.lent.eaten s.c
 
 -- all its cuts, and those of the call for the piece at c; and the pieces
 abbrev all : Call → List Cut
 all s = listed_of s.lent s.way s.left s.place s.c
 
 abbrev piles : Call → ℕ
-piles s = piledOf s.lent s.way s.left s.c
+piles s = piled_of s.lent s.way s.left s.c
 
 abbrev inner : Call → List Cut
 inner s = listed_of s.lent (other s.way) (s.left - 1) s.place (get_or s.lent.first s.c 0)
 
-abbrev innerPiles : Call → ℕ
-innerPiles s = piledOf s.lent (other s.way) (s.left - 1) (get_or s.lent.first s.c 0)
+abbrev inner_piles : Call → ℕ
+inner_piles s = piled_of s.lent (other s.way) (s.left - 1) (get_or s.lent.first s.c 0)
 
 -- it is at the piece at c, which itself is so many pieces of the pile, and r is the place of what is left
 pub record Here : Type 0 where
@@ -98,19 +98,19 @@ pub record Here : Type 0 where
   pub some : call.left ≡ 0 → ⊥
   pub held : call.c < call.lent.limit
   pub own : ℕ
-  pub owns : own ≡ ownListed call.lent.kind (sides call) call.c
+  pub owns : own ≡ own_listed call.lent.kind (sides call) call.c
   pub r : ℕ
-  pub rest : r ≡ behindIt call
+  pub rest : r ≡ behind_it call
 
 -- the cuts of the call for the rest, whose board is at the place p of the pile, its pieces, and the place where it is
 abbrev later : Here → ℕ → List Cut
 later s p = listed_of s.call.lent s.call.way (s.call.left - 1) p s.r
 
-abbrev laterPiles : Here → ℕ
-laterPiles s = piledOf s.call.lent s.call.way (s.call.left - 1) s.r
+abbrev later_piles : Here → ℕ
+later_piles s = piled_of s.call.lent s.call.way (s.call.left - 1) s.r
 
 abbrev behind : Here → ℕ
-behind s = s.call.place + (s.own + innerPiles s.call)
+behind s = s.call.place + (s.own + inner_piles s.call)
 
 -- the cut that takes the piece off, where k is the kind of what is left
 abbrev one : Call → ℕ → Cut
@@ -130,9 +130,9 @@ pub record Off : Type 0 where
   pub more : here.r < here.call.lent.limit
   pub k : ℕ
   pub kinds : k
-      ≡ leftAlong here.call.lent.limit here.call.lent.next here.call.lent.kind (sides here.call) here.call.lent.eaten here.r
+      ≡ left_along here.call.lent.limit here.call.lent.next here.call.lent.kind (sides here.call) here.call.lent.eaten here.r
   pub out : List ℕ
-  pub cut : out ≡ sets here.call.out (10 * here.call.n) (entryBytes (one here.call k) [])
+  pub cut : out ≡ sets here.call.out (10 * here.call.n) (entry_bytes (one here.call k) [])
 
 -- and the cuts of the piece
 pub record Under : Type 0 where
@@ -140,23 +140,23 @@ pub record Under : Type 0 where
   pub out : List ℕ
   pub m : ℕ
   pub p : ℕ
-  pub lower : Done (inner off.here.call) (innerPiles off.here.call) off.here.call.place (off.here.call.n + 1) off.out out m p
+  pub lower : Done (inner off.here.call) (inner_piles off.here.call) off.here.call.place (off.here.call.n + 1) off.out out m p
 
 -- ---- the steps
 
 -- nothing is left, or there is no piece at c
 list-past : (l : Lent) (way : Orientation) (left i c : ℕ) → l.limit ≤ c → listed_of l way left i c ≡ []
-unfolding cutsListed
+unfolding cuts_listed
 list-past l way zero i c h = refl
 list-past l way (suc n) i c h = rw (le-leb l.limit c h) refl
 
-piles-past : (l : Lent) (way : Orientation) (left c : ℕ) → l.limit ≤ c → piledOf l way left c ≡ 0
-unfolding pilesListed
+piles-past : (l : Lent) (way : Orientation) (left c : ℕ) → l.limit ≤ c → piled_of l way left c ≡ 0
+unfolding piles_listed
 piles-past l way zero c h = refl
 piles-past l way (suc n) c h = rw (le-leb l.limit c h) refl
 
 pub none_left : (s : Call) → s.left ≡ 0 → Done (all s) (piles s) s.place s.n s.out s.out s.n s.place
-unfolding cutsListed pilesListed
+unfolding cuts_listed piles_listed
 none_left s e = none_done s.place s.n s.out (rw e refl) (rw e refl)
 
 pub none_here : (s : Call) → s.lent.limit ≤ s.c → Done (all s) (piles s) s.place s.n s.out s.out s.n s.place
@@ -169,17 +169,17 @@ less_one n = omega arith
 -- the list at the piece at c, which itself is so many pieces, with so much left for the calls in it; and the pieces
 abbrev row_of : Call → (left own r : ℕ) → List Cut
 row_of s left own r =
-    cutBefore s.lent.limit s.lent.next s.lent.kind (sides s) s.lent.eaten s.way s.place s.c r
+    cut_before s.lent.limit s.lent.next s.lent.kind (sides s) s.lent.eaten s.way s.place s.c r
     ++ (listed_of s.lent (other s.way) left s.place (get_or s.lent.first s.c 0)
-    ++ listed_of s.lent s.way left (s.place + (own + piledOf s.lent (other s.way) left (get_or s.lent.first s.c 0))) r)
+    ++ listed_of s.lent s.way left (s.place + (own + piled_of s.lent (other s.way) left (get_or s.lent.first s.c 0))) r)
 
-abbrev rowPiles : Call → (left own r : ℕ) → ℕ
-rowPiles s left own r = own + piledOf s.lent (other s.way) left (get_or s.lent.first s.c 0) + piledOf s.lent s.way left r
+abbrev row_piles : Call → (left own r : ℕ) → ℕ
+row_piles s left own r = own + piled_of s.lent (other s.way) left (get_or s.lent.first s.c 0) + piled_of s.lent s.way left r
 
-list-from : (s : Call) (left own r : ℕ) → (left ≡ 0 → ⊥) → s.c < s.lent.limit → own ≡ ownListed s.lent.kind (sides s) s.c → r ≡ behindIt s
+list-from : (s : Call) (left own r : ℕ) → (left ≡ 0 → ⊥) → s.c < s.lent.limit → own ≡ own_listed s.lent.kind (sides s) s.c → r ≡ behind_it s
     → (listed_of s.lent s.way left s.place s.c ≡ row_of s (left - 1) own r)
-    × (piledOf s.lent s.way left s.c ≡ rowPiles s (left - 1) own r)
-unfolding cutsListed pilesListed
+    × (piled_of s.lent s.way left s.c ≡ row_piles s (left - 1) own r)
+unfolding cuts_listed piles_listed
 list-from s zero own r f h d e = absurd (f refl)
 list-from s (suc l) own r f h d e = (rw (less_one l, d, e, lt-leb s.lent.limit s.c h) refl, rw (less_one l, d, e, lt-leb s.lent.limit s.c h) refl)
 
@@ -194,7 +194,7 @@ module _ (s : Here) where
   list-row : all a ≡ row_of a (a.left - 1) s.own s.r
   list-row = (list-from a a.left s.own s.r s.some s.held s.owns s.rest).0
 
-  piles-row : piles a ≡ s.own + innerPiles a + laterPiles s
+  piles-row : piles a ≡ s.own + inner_piles a + later_piles s
   piles-row = (list-from a a.left s.own s.r s.some s.held s.owns s.rest).1
 
   -- nothing is left behind the piece: no cut, and the piece is the board
@@ -202,15 +202,15 @@ module _ (s : Here) where
   list-last h =
       list-row ∙ rw (le-leb a.lent.limit s.r h, list-past a.lent a.way (a.left - 1) (behind s) s.r h) (append-nil (inner a))
 
-  piles-last : a.lent.limit ≤ s.r → piles a ≡ s.own + innerPiles a
+  piles-last : a.lent.limit ≤ s.r → piles a ≡ s.own + inner_piles a
   piles-last h = omega (arith, piles-row, piles-past a.lent a.way (a.left - 1) s.r h)
 
-  pub last-asks : a.lent.limit ≤ s.r → (a.left - 1 < a.t) × Room a.lent.limit (inner a) (innerPiles a) a.place a.n a.out
+  pub last-asks : a.lent.limit ≤ s.r → (a.left - 1 < a.t) × Room a.lent.limit (inner a) (inner_piles a) a.place a.n a.out
   last-asks h =
       let r = rw (list-last h) at a.asked.1 in
       (less, (omega (arith, piles-last h, r.0), r.1, r.2))
 
-  module _ (h : a.lent.limit ≤ s.r) {after : List ℕ} {m p : ℕ} (d : Done (inner a) (innerPiles a) a.place a.n a.out after m p) where
+  module _ (h : a.lent.limit ≤ s.r) {after : List ℕ} {m p : ℕ} (d : Done (inner a) (inner_piles a) a.place a.n a.out after m p) where
     pub last-placed : p + s.own ≤ a.lent.limit
     last-placed = omega (arith, piles-last h, a.asked.1.0, d.1.1)
 
@@ -219,7 +219,7 @@ module _ (s : Here) where
 
   -- the piece is cut off; then come the cuts below it, and those of the rest
   list-more : (k p : ℕ) → s.r < a.lent.limit
-      → k ≡ leftAlong a.lent.limit a.lent.next a.lent.kind (sides a) a.lent.eaten s.r → p ≡ behind s
+      → k ≡ left_along a.lent.limit a.lent.next a.lent.kind (sides a) a.lent.eaten s.r → p ≡ behind s
       → all a ≡ one a k ∷ (inner a ++ later s p)
   list-more k p h e f = list-row ∙ rw (lt-leb a.lent.limit s.r h, e, f) refl
 
@@ -236,7 +236,7 @@ module _ (s : Off) where
   off-long : length s.out ≡ length b.out
   off-long = ap length s.cut ∙ simp length-sets
 
-  pub below-asks : (b.left - 1 < b.t) × Room b.lent.limit (inner b) (innerPiles b) b.place (b.n + 1) s.out
+  pub below-asks : (b.left - 1 < b.t) × Room b.lent.limit (inner b) (inner_piles b) b.place (b.n + 1) s.out
   below-asks =
       let l = longer s.here (behind s.here) s.more refl in
       let r = b.asked.1 in
@@ -256,7 +256,7 @@ module _ (s : Under) where
   placed : p ≡ behind h
   placed = omega (arith, s.lower.1.1)
 
-  pub rest-asks : (d.left - 1 < d.t) × Room d.lent.limit (later h p) (laterPiles h) p s.m s.out
+  pub rest-asks : (d.left - 1 < d.t) × Room d.lent.limit (later h p) (later_piles h) p s.m s.out
   rest-asks =
       let l = longer h p s.off.more placed in
       let r = d.asked.1 in
@@ -269,9 +269,9 @@ module _ (s : Under) where
         ),
       )
 
-  pub rest-done : {after : List ℕ} {q j : ℕ} → Done (later h p) (laterPiles h) p s.m s.out after q j
+  pub rest-done : {after : List ℕ} {q j : ℕ} → Done (later h p) (later_piles h) p s.m s.out after q j
       → Done (all d) (piles d) d.place d.n d.out after q j
   rest-done rest =
       rw (list-more h s.off.k p s.off.more s.off.kinds placed)
-      (all_done (one d s.off.k) (inner d) (later h p) d.place p (innerPiles d) (laterPiles h) (piles d) d.n d.out s.off.cut s.lower rest
+      (all_done (one d s.off.k) (inner d) (later h p) d.place p (inner_piles d) (later_piles h) (piles d) d.n d.out s.off.cut s.lower rest
       (omega (arith, piles-row h, placed)))

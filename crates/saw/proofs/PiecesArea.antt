@@ -14,13 +14,13 @@ use Rattle.piece.specs.declared.node.Kind.TheVariants.{Free, Part, Structure}
 use Rattle.piece.specs.declared.settings.Settings.{Settings}
 use Rattle.piece.specs.Sides.{area}
 use Rattle.piece.specs.Row.{nil, grow}
-use Rattle.piece.specs.Kinds.{isFree, isPart}
+use Rattle.piece.specs.Kinds.{is_free, is_part}
 use Rattle.tree.specs.Tree.{Tree}
 use Rattle.tree.specs.Sound.{Sound}
-use Rattle.tree.specs.Figures.{partArea, freeArea, eatenArea}
+use Rattle.tree.specs.Figures.{part_area, free_area, eaten_area}
 use Rattle.tree.proofs.Laws.AreaConserved.{area-conserved}
 use Rattle.lists.proofs.Scan.{test}
-use Rattle.saw.specs.Cuts.{ownBoard, boards}
+use Rattle.saw.specs.Cuts.{own_board, boards}
 
 -- the areas of boards, added up
 abbrev pub areas : List Size → ℕ
@@ -31,15 +31,15 @@ areas-append : (a b : List Size) → areas (a ++ b) ≡ areas a + areas b
 areas-append [] b = omega arith
 areas-append (s ∷ a) b = omega (arith, areas-append a b)
 
-own-area : (κ : Kind) (s : Size) → areas (ownBoard κ s) ≡ cond (isPart κ) (area s) 0 + cond (isFree κ) (area s) 0
+own-area : (κ : Kind) (s : Size) → areas (own_board κ s) ≡ cond (is_part κ) (area s) 0 + cond (is_free κ) (area s) 0
 own-area Free s = ⊎_elim (λ e. rw e (omega (arith, eqb-true (area s) 0 e))) (λ e. rw e (omega arith)) (test (eqb (area s) 0))
 own-area Part s = omega arith
 own-area Structure s = refl
 
-boards-area : (t : Tree) → areas (boards t) ≡ partArea t + freeArea t
+boards-area : (t : Tree) → areas (boards t) ≡ part_area t + free_area t
 boards-area nil = refl
 boards-area (grow p d k r) =
-    let own = ownBoard d.kind d.size in
+    let own = own_board d.kind d.size in
     omega (
       arith,
       areas-append own (boards k ++ boards r),
@@ -49,5 +49,5 @@ boards-area (grow p d k r) =
       boards-area r,
     )
 
-pub pieces-area : {limit : ℕ} {settings : Settings} (t : Tree) → Sound limit settings t → areas (boards t) + eatenArea t ≡ area settings.sheet
+pub pieces-area : {limit : ℕ} {settings : Settings} (t : Tree) → Sound limit settings t → areas (boards t) + eaten_area t ≡ area settings.sheet
 pieces-area t h = omega (arith, boards-area t, area-conserved t h)

@@ -18,14 +18,14 @@ use Rattle.piece.specs.declared.node.Kind.TheVariants.{Free, Part, Structure}
 use Rattle.piece.specs.declared.settings.Settings.{Settings}
 use Rattle.piece.specs.Sides.{area, other}
 use Rattle.piece.specs.Row.{nil, grow}
-use Rattle.piece.specs.Kinds.{isFree}
+use Rattle.piece.specs.Kinds.{is_free}
 use Rattle.tree.specs.Tree.{Tree, count}
 use Rattle.tree.specs.Sound.{Sound}
 use Rattle.lists.proofs.Scan.{test}
 use Rattle.saw.specs.declared.cut.Cut.{Cut}
-use Rattle.saw.specs.Saw.{side, slice, with_area, halves, cutsB, and_then, sawAt, saw}
-use Rattle.saw.specs.Cuts.{is_empty, withoutEmpty, cutOff, pilesOf, rowCuts, cuts, ownBoard, boards}
-use Rattle.saw.specs.Sawyer.{Piece, named_by, sizes, mayCut, parted, sawyerAt, sawyer, nestedIn, uncut}
+use Rattle.saw.specs.Saw.{side, slice, with_area, halves, cuts_b, and_then, saw_at, saw}
+use Rattle.saw.specs.Cuts.{is_empty, without_empty, cut_off, piles_of, row_cuts, cuts, own_board, boards}
+use Rattle.saw.specs.Sawyer.{Piece, named_by, sizes, may_cut, parted, sawyer_at, sawyer, nested_in, uncut}
 use Rattle.saw.proofs.Slices.{remnant}
 use Rattle.saw.proofs.Fills.{Below, Share, Fills, boards-kept, count_kept, structure-fills}
 use Rattle.saw.proofs.Truly.{sizes-named, sawyer-believes}
@@ -51,20 +51,20 @@ does-cut true true p q e = ap (λ (l : List Size). some l) (sym e)
 does-cut true false p q e = tt
 does-cut false can p q e = tt
 
-does_at : (nested : Bool) (c : Cut) (i : ℕ) (pile : List Piece) → Does (sawyerAt nested c i pile) (sawAt c i (sizes pile))
+does_at : (nested : Bool) (c : Cut) (i : ℕ) (pile : List Piece) → Does (sawyer_at nested c i pile) (saw_at c i (sizes pile))
 does_at nested c i [] = tt
 does_at nested c zero (x ∷ pile) =
-    does-cut (mayCut nested c.way x) (cutsB c x.size) (parted c x.size ++ pile) (halves c x.size ++ sizes pile)
+    does-cut (may_cut nested c.way x) (cuts_b c x.size) (parted c x.size ++ pile) (halves c x.size ++ sizes pile)
     (sizes-two c.way c.piece c.remainder (with_area (slice c.way c.distance x.size))
     (with_area (slice c.way (side c.way x.size - (c.distance + c.eaten)) x.size)) pile)
 does_at nested c (suc i) (x ∷ pile) =
-    does-onward (sawyerAt nested c i pile) (sawAt c i (sizes pile)) (λ (p : List Piece). some (x ∷ p)) (λ (p : List Size). some (x.size ∷ p))
+    does-onward (sawyer_at nested c i pile) (saw_at c i (sizes pile)) (λ (p : List Piece). some (x ∷ p)) (λ (p : List Size). some (x.size ∷ p))
     (does_at nested c i pile) (λ p. refl)
 
 does : (nested : Bool) (cs : List Cut) (pile : List Piece) → Does (sawyer nested cs pile) (saw cs (sizes pile))
 does nested [] pile = refl
 does nested (c ∷ cs) pile =
-    does-onward (sawyerAt nested c c.place pile) (sawAt c c.place (sizes pile)) (sawyer nested cs) (saw cs)
+    does-onward (sawyer_at nested c c.place pile) (saw_at c c.place (sizes pile)) (sawyer nested cs) (saw cs)
     (does_at nested c c.place pile) (does nested cs)
 
 -- ---- the tree
@@ -73,7 +73,7 @@ does nested (c ∷ cs) pile =
 pub saw-gives : {limit : ℕ} {settings : Settings} (t : Tree) → Sound limit settings t → saw (cuts t) (settings.sheet ∷ []) ≡ some (boards t)
 saw-gives {settings} t h =
     let made = sawyer-believes t h in
-    subst (λ (p : Option (List Piece)). Does p (saw (cuts t) (settings.sheet ∷ []))) made.1 (does (nestedIn t) (cuts t) (uncut t settings.sheet ∷ []))
+    subst (λ (p : Option (List Piece)). Does p (saw (cuts t) (settings.sheet ∷ []))) made.1 (does (nested_in t) (cuts t) (uncut t settings.sheet ∷ []))
     ∙ ap (λ (l : List Size). some l) made.2
 
 -- ---- how many there are
@@ -88,51 +88,51 @@ own-count s = ⊎_elim (λ e. rw e refl) (λ e. rw e refl) (test (eqb (area s) 0
 
 -- the cuts below a piece
 piece-count : (κ : Kind) (way : Orientation) (i : ℕ) (s : Size) (k : Tree) → Below κ s k (Fills way s k)
-    → (Fills way s k → length (boards k) + empties k ≡ 1 + length (rowCuts way i k))
-    → length (ownBoard κ s) + length (boards k) + (cond (isFree κ && eqb (area s) 0) 1 0 + empties k) ≡ 1 + length (rowCuts way i k)
-unfolding rowCuts
+    → (Fills way s k → length (boards k) + empties k ≡ 1 + length (row_cuts way i k))
+    → length (own_board κ s) + length (boards k) + (cond (is_free κ && eqb (area s) 0) 1 0 + empties k) ≡ 1 + length (row_cuts way i k)
+unfolding row_cuts
 piece-count Free way i s k f below = rw f (omega (arith, own-count s))
 piece-count Part way i s k f below = rw f.1 (omega arith)
 piece-count Structure way i s k f below = omega (arith, below f)
 
 -- behind a piece are the cuts of the rest, and one more
 rest-count : (way : Orientation) (s : Size) (d : Datum) (r : Tree) (i j : ℕ) → Share way s d r (Fills way (remnant way s d) r)
-    → (Fills way (remnant way s d) r → length (boards r) + empties r ≡ 1 + length (rowCuts way j r))
-    → length (boards r) + empties r ≡ length (cutOff way i d r) + length (rowCuts way j r)
-unfolding rowCuts
+    → (Fills way (remnant way s d) r → length (boards r) + empties r ≡ 1 + length (row_cuts way j r))
+    → length (boards r) + empties r ≡ length (cut_off way i d r) + length (row_cuts way j r)
+unfolding row_cuts
 rest-count way s d nil i j f rest = refl
 rest-count way s d (grow p e k r) i j f rest = rest f.1
 
-row_count : (way : Orientation) (s : Size) (r : Tree) (i : ℕ) → Fills way s r → length (boards r) + empties r ≡ 1 + length (rowCuts way i r)
-unfolding rowCuts
+row_count : (way : Orientation) (s : Size) (r : Tree) (i : ℕ) → Fills way s r → length (boards r) + empties r ≡ 1 + length (row_cuts way i r)
+unfolding row_cuts
 row_count way s nil i f = absurd f
 row_count way s (grow p d k r) i f =
-    let own = ownBoard d.kind d.size in
-    let below = rowCuts (other way) i k in
-    let j = i + pilesOf d k in
+    let own = own_board d.kind d.size in
+    let below = row_cuts (other way) i k in
+    let j = i + piles_of d k in
     omega (
       arith,
       length-append own (boards k ++ boards r),
       length-append (boards k) (boards r),
-      length-append (cutOff way i d r) (below ++ rowCuts way j r),
-      length-append below (rowCuts way j r),
+      length-append (cut_off way i d r) (below ++ row_cuts way j r),
+      length-append below (row_cuts way j r),
       piece-count d.kind (other way) i d.size k f.0 (row_count (other way) d.size k i),
       rest-count way s d r i j f.1 (row_count way (remnant way s d) r j),
     )
 
 -- each cut makes one piece more, but one whose blade takes all that is left: what is left behind it is a free piece of area 0 that isn't left out
 pub cuts-count : {limit : ℕ} {settings : Settings} (t : Tree) → Sound limit settings t
-    → length (boards t) + empties (withoutEmpty t) ≡ 1 + length (cuts t)
+    → length (boards t) + empties (without_empty t) ≡ 1 + length (cuts t)
 cuts-count nil h = absurd h.topped
 cuts-count {settings} (grow p d k r) h =
     let top = h.topped.0 in
     let c = h.topped.1 in
     rw (top.kind, top.alone, append-nil (boards k), ← boards-kept settings d 0 k c)
-    (omega (arith, row_count d.cut d.size (withoutEmpty k) 0 (structure-fills settings d k top.piece c)))
+    (omega (arith, row_count d.cut d.size (without_empty k) 0 (structure-fills settings d k top.piece c)))
 
 -- ---- room for the list
 
-own-most : (κ : Kind) (s : Size) → length (ownBoard κ s) ≤ 1
+own-most : (κ : Kind) (s : Size) → length (own_board κ s) ≤ 1
 own-most Free s = omega (arith, own-count s)
 own-most Part s = omega arith
 own-most Structure s = omega arith
@@ -141,7 +141,7 @@ own-most Structure s = omega arith
 pub boards-most : (r : Tree) → length (boards r) ≤ count r
 boards-most nil = omega arith
 boards-most (grow p d k r) =
-    let own = ownBoard d.kind d.size in
+    let own = own_board d.kind d.size in
     omega (
       arith,
       length-append own (boards k ++ boards r),
@@ -151,24 +151,24 @@ boards-most (grow p d k r) =
       boards-most r,
     )
 
-pub piles-most : (d : Datum) (k : Tree) → pilesOf d k ≤ 1 + count k
-piles-most d k = omega (arith, length-append (ownBoard d.kind d.size) (boards k), own-most d.kind d.size, boards-most k)
+pub piles-most : (d : Datum) (k : Tree) → piles_of d k ≤ 1 + count k
+piles-most d k = omega (arith, length-append (own_board d.kind d.size) (boards k), own-most d.kind d.size, boards-most k)
 
-off-most : (way : Orientation) (i : ℕ) (d : Datum) (r : Tree) → length (cutOff way i d r) + (count r - 1) ≤ count r
+off-most : (way : Orientation) (i : ℕ) (d : Datum) (r : Tree) → length (cut_off way i d r) + (count r - 1) ≤ count r
 off-most way i d nil = omega arith
 off-most way i d (grow p e k r) = omega arith
 
-row-most : (way : Orientation) (i : ℕ) (r : Tree) → length (rowCuts way i r) ≤ count r - 1
-unfolding rowCuts
+row-most : (way : Orientation) (i : ℕ) (r : Tree) → length (row_cuts way i r) ≤ count r - 1
+unfolding row_cuts
 row-most way i nil = omega arith
 row-most way i (grow p d k r) =
-    let own = cutOff way i d r in
-    let below = rowCuts (other way) i k in
-    let j = i + pilesOf d k in
+    let own = cut_off way i d r in
+    let below = row_cuts (other way) i k in
+    let j = i + piles_of d k in
     omega (
       arith,
-      length-append own (below ++ rowCuts way j r),
-      length-append below (rowCuts way j r),
+      length-append own (below ++ row_cuts way j r),
+      length-append below (row_cuts way j r),
       off-most way i d r,
       row-most (other way) i k,
       row-most way j r,
@@ -177,4 +177,4 @@ row-most way i (grow p d k r) =
 -- fewer cuts than nodes
 pub cuts-most : {limit : ℕ} {settings : Settings} (t : Tree) → Sound limit settings t → length (cuts t) < count t
 cuts-most nil h = absurd h.topped
-cuts-most (grow p d k r) h = omega (arith, row-most d.cut 0 (withoutEmpty k), count_kept 0 k)
+cuts-most (grow p d k r) h = omega (arith, row-most d.cut 0 (without_empty k), count_kept 0 k)

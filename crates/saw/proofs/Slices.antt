@@ -12,7 +12,7 @@ use Rattle.piece.specs.declared.orientation.Orientation.TheVariants.{Horizontal,
 use Rattle.piece.specs.declared.size.Size.{Size}
 use Rattle.piece.specs.declared.node.Datum.{Datum}
 use Rattle.piece.specs.Sides.{area, laid, other, sized}
-use Rattle.tree.specs.Sound.{Sided, maxSide}
+use Rattle.tree.specs.Sound.{Sided, max_side}
 use Rattle.tree.proofs.Areas.{area-laid}
 use Rattle.tree.proofs.Laying.{laid-sided}
 use Rattle.tree.proofs.Pieces.{sided}
@@ -33,7 +33,7 @@ pub slice-height : (way : Orientation) (n : ℕ) (s : Size) → (laid (other way
 slice-height Horizontal n s = refl
 slice-height Vertical n s = refl
 
-pub side-small : (way : Orientation) {s : Size} → Small s → side way s ≤ maxSide
+pub side-small : (way : Orientation) {s : Size} → Small s → side way s ≤ max_side
 side-small Horizontal h = h.height
 side-small Vertical h = h.width
 

@@ -14,32 +14,32 @@ use Rattle.piece.specs.declared.node.Datum.{Datum}
 use Rattle.piece.specs.declared.settings.Settings.{Settings}
 use Rattle.piece.specs.Sides.{other}
 use Rattle.piece.specs.Row.{nil, grow}
-use Rattle.piece.specs.Numbers.{cutNo}
+use Rattle.piece.specs.Numbers.{cut_no}
 use Rattle.tree.specs.Tree.{Tree, count}
-use Rattle.tree.specs.Sound.{maxSide, Children, Sound}
+use Rattle.tree.specs.Sound.{max_side, Children, Sound}
 use Rattle.tree.proofs.Read.{Readable, sound-readable}
 use Rattle.lists.proofs.Scan.{test}
 use Rattle.saw.specs.declared.cut.Cut.{Cut}
 use Rattle.saw.specs.Saw.{side, saw}
-use Rattle.saw.specs.Cuts.{is_empty, keptAfter, withoutEmpty, cutOff, pilesOf, rowCuts, cuts, boards, cutBytes, bytesOfCuts, amounts}
-use Rattle.saw.specs.Read.{way_of, ofTwo, of_four, readCuts, losing, Fits, EachOf}
+use Rattle.saw.specs.Cuts.{is_empty, kept_after, without_empty, cut_off, piles_of, row_cuts, cuts, boards, cut_bytes, bytes_of_cuts, amounts}
+use Rattle.saw.specs.Read.{way_of, of_two, of_four, read_cuts, losing, Fits, EachOf}
 use Rattle.saw.proofs.Slices.{side-small}
 use Rattle.saw.proofs.Fills.{count_kept, readable-kept}
 use Rattle.saw.proofs.Sawn.{saw-gives, piles-most}
 
 -- ---- what bytes say
 
-way_back : (w : Orientation) → way_of (cutNo w) ≡ w
+way_back : (w : Orientation) → way_of (cut_no w) ≡ w
 way_back Horizontal = refl
 way_back Vertical = refl
 
-two_back : (n : ℕ) → n < 65536 → ofTwo (n / 256 % 256) (n % 256) ≡ n
+two_back : (n : ℕ) → n < 65536 → of_two (n / 256 % 256) (n % 256) ≡ n
 two_back n h = omega arith
 
-upper-back : (n : ℕ) → n < 4294967296 → ofTwo (n / 16777216 % 256) (n / 65536 % 256) ≡ n / 65536
+upper-back : (n : ℕ) → n < 4294967296 → of_two (n / 16777216 % 256) (n / 65536 % 256) ≡ n / 65536
 upper-back n h = omega arith
 
-lower-back : (n : ℕ) → ofTwo (n / 256 % 256) (n % 256) ≡ n % 65536
+lower-back : (n : ℕ) → of_two (n / 256 % 256) (n % 256) ≡ n % 65536
 lower-back n = omega arith
 
 four-back : (n : ℕ) → n < 4294967296
@@ -47,8 +47,8 @@ four-back : (n : ℕ) → n < 4294967296
 four-back n h = rw (upper-back n h, lower-back n) (omega arith)
 
 -- the bytes of cuts that fit tell them, with the amounts
-pub told : (cs : List Cut) → EachOf Fits cs → losing (readCuts (bytesOfCuts cs)) (amounts cs) ≡ cs
-unfolding readCuts bytesOfCuts cutBytes
+pub told : (cs : List Cut) → EachOf Fits cs → losing (read_cuts (bytes_of_cuts cs)) (amounts cs) ≡ cs
+unfolding read_cuts bytes_of_cuts cut_bytes
 told [] h = refl
 told (c ∷ cs) h =
     let place = two_back c.place h.0.place in
@@ -70,22 +70,22 @@ each-less f (x ∷ l) h = (f x h.0, each-less f l h.1)
 -- a cut of one of the first m places, at a distance within a sheet
 pub record Within (m : ℕ) (c : Cut) : Type 0 where
   pub place : c.place < m
-  pub distance : c.distance ≤ maxSide
+  pub distance : c.distance ≤ max_side
 
-off-within : (m : ℕ) (way : Orientation) (i : ℕ) (d : Datum) (r : Tree) → i < m → side way d.size ≤ maxSide
-    → EachOf (Within m) (cutOff way i d r)
+off-within : (m : ℕ) (way : Orientation) (i : ℕ) (d : Datum) (r : Tree) → i < m → side way d.size ≤ max_side
+    → EachOf (Within m) (cut_off way i d r)
 off-within m way i d nil a b = tt
 off-within m way i d (grow p e k r) a b = (record { place = a; distance = b }, tt)
 
-row_within : (l m : ℕ) (way : Orientation) (i : ℕ) (r : Tree) → Readable l r → i + count r ≤ m → EachOf (Within m) (rowCuts way i r)
-unfolding rowCuts
+row_within : (l m : ℕ) (way : Orientation) (i : ℕ) (r : Tree) → Readable l r → i + count r ≤ m → EachOf (Within m) (row_cuts way i r)
+unfolding row_cuts
 row_within l m way i nil f h = tt
 row_within l m way i (grow p d k r) f h =
-    let below = rowCuts (other way) i k in
-    let j = i + pilesOf d k in
-    each_append (Within m) (cutOff way i d r) (below ++ rowCuts way j r)
+    let below = row_cuts (other way) i k in
+    let j = i + piles_of d k in
+    each_append (Within m) (cut_off way i d r) (below ++ row_cuts way j r)
     (off-within m way i d r (omega arith) (side-small way f.0.small))
-    (each_append (Within m) below (rowCuts way j r)
+    (each_append (Within m) below (row_cuts way j r)
     (row_within (l + 1) m (other way) i k f.1 (omega arith))
     (row_within l m way j r f.2 (omega (arith, piles-most d k))))
 
@@ -93,7 +93,7 @@ row_within l m way i (grow p d k r) f h =
 pub cuts-within : {limit : ℕ} {settings : Settings} (t : Tree) → Sound limit settings t → EachOf (Within (count t)) (cuts t)
 cuts-within nil h = tt
 cuts-within (grow p d k r) h =
-    row_within 1 (count (grow p d k r)) d.cut 0 (withoutEmpty k) (readable-kept 0 1 k (sound-readable (grow p d k r) h).1)
+    row_within 1 (count (grow p d k r)) d.cut 0 (without_empty k) (readable-kept 0 1 k (sound-readable (grow p d k r) h).1)
     (omega (arith, count_kept 0 k))
 
 pub cuts_fit : {limit : ℕ} {settings : Settings} (t : Tree) → limit ≤ 65535 → Sound limit settings t → EachOf Fits (cuts t)
@@ -104,7 +104,7 @@ cuts_fit t a h =
 
 -- the saw that reads the bytes and loses the amounts gives the boards of the tree
 pub list_read : {limit : ℕ} {settings : Settings} (t : Tree) → limit ≤ 65535 → Sound limit settings t
-    → saw (losing (readCuts (bytesOfCuts (cuts t))) (amounts (cuts t))) (settings.sheet ∷ []) ≡ some (boards t)
+    → saw (losing (read_cuts (bytes_of_cuts (cuts t))) (amounts (cuts t))) (settings.sheet ∷ []) ≡ some (boards t)
 list_read {settings} t a h = ap (λ (l : List Cut). saw l (settings.sheet ∷ [])) (told (cuts t) (cuts_fit t a h)) ∙ saw-gives t h
 
 -- ---- what the cuts lose
@@ -112,25 +112,25 @@ list_read {settings} t a h = ap (λ (l : List Cut). saw l (settings.sheet ∷ []
 abbrev Lesser : ℕ → Cut → Type 0
 Lesser blade c = c.eaten ≤ blade
 
-off-lesser : (blade : ℕ) (way : Orientation) (i : ℕ) (d : Datum) (r : Tree) → d.eaten ≤ blade → EachOf (Lesser blade) (cutOff way i d r)
+off-lesser : (blade : ℕ) (way : Orientation) (i : ℕ) (d : Datum) (r : Tree) → d.eaten ≤ blade → EachOf (Lesser blade) (cut_off way i d r)
 off-lesser blade way i d nil h = tt
 off-lesser blade way i d (grow p e k r) h = (h, tt)
 
 row-lesser : (settings : Settings) (q : Datum) (way : Orientation) (i before : ℕ) (r : Tree) → Children settings q r
-    → EachOf (Lesser settings.blade) (rowCuts way i (keptAfter before r))
-unfolding rowCuts
+    → EachOf (Lesser settings.blade) (row_cuts way i (kept_after before r))
+unfolding row_cuts
 row-lesser settings q way i before nil h = tt
 row-lesser settings q way i before (grow p d k r) h =
     let lesser = Lesser settings.blade in
-    let below = withoutEmpty k in
-    let rest = keptAfter d.eaten r in
-    let j = i + pilesOf d below in
+    let below = without_empty k in
+    let rest = kept_after d.eaten r in
+    let j = i + piles_of d below in
     ⊎_elim
     (λ e. rw e (row-lesser settings q way i 0 r h.beside))
     (λ e. rw e
-    (each_append lesser (cutOff way i d rest) (rowCuts (other way) i below ++ rowCuts way j rest)
+    (each_append lesser (cut_off way i d rest) (row_cuts (other way) i below ++ row_cuts way j rest)
     (off-lesser settings.blade way i d rest h.child.eaten)
-    (each_append lesser (rowCuts (other way) i below) (rowCuts way j rest)
+    (each_append lesser (row_cuts (other way) i below) (row_cuts way j rest)
     (row-lesser settings d (other way) i 0 k h.below)
     (row-lesser settings q way j d.eaten r h.beside))))
     (test (is_empty d && eqb before 0))

@@ -6,12 +6,12 @@ use Rattle.piece.specs.declared.orientation.Orientation.TheVariants.{Horizontal,
 use Rattle.piece.specs.Sides.{other}
 use Rattle.walks.specs.declared.columns.Columns.{Columns}
 use Rattle.saw.specs.declared.cut.Cut.{Cut}
-use Rattle.saw.specs.Cuts.{cutBytes}
+use Rattle.saw.specs.Cuts.{cut_bytes}
 
 -- the sides that a cut of this way divides
-abbrev pub sidesIn : Orientation → (width height : List ℕ) → List ℕ
-sidesIn Horizontal width height = height
-sidesIn Vertical width height = width
+abbrev pub sides_in : Orientation → (width height : List ℕ) → List ℕ
+sides_in Horizontal width height = height
+sides_in Vertical width height = width
 
 -- the later sibling of c that a cut comes before: a last one that has nothing of the side has none, but where something was eaten behind c
 abbrev pub rest_of : ℕ → (next side eaten : List ℕ) → ℕ → ℕ
@@ -20,69 +20,69 @@ rest_of limit next side eaten c =
     (cond (eqb (get_or side (get_or next c 0) 0) 0 && eqb (get_or eaten c 0) 0) limit (get_or next c 0))
 
 -- the kind of what is left from the place r on
-abbrev pub leftAlong : ℕ → (next kind side eaten : List ℕ) → ℕ → ℕ
-leftAlong limit next kind side eaten r = cond (leb limit (rest_of limit next side eaten r)) (get_or kind r 0) 3
+abbrev pub left_along : ℕ → (next kind side eaten : List ℕ) → ℕ → ℕ
+left_along limit next kind side eaten r = cond (leb limit (rest_of limit next side eaten r)) (get_or kind r 0) 3
 
 -- the cut that takes the piece at c off the board, where there is more of its row, from r on
-abbrev pub cutBefore : ℕ → (next kind side eaten : List ℕ) → Orientation → ℕ → ℕ → ℕ → List Cut
-cutBefore limit next kind side eaten way i c r =
+abbrev pub cut_before : ℕ → (next kind side eaten : List ℕ) → Orientation → ℕ → ℕ → ℕ → List Cut
+cut_before limit next kind side eaten way i c r =
     cond (leb limit r) []
     (record {
       place = i;
       way = way;
       distance = get_or side c 0;
       piece = get_or kind c 0;
-      remainder = leftAlong limit next kind side eaten r;
+      remainder = left_along limit next kind side eaten r;
       eaten = get_or eaten c 0;
     }
     ∷ [])
 
 -- whether the piece at c itself comes to lie in the pile: a part does, and a free piece that has something of the side
-abbrev pub ownListed : (kind side : List ℕ) → ℕ → ℕ
-ownListed kind side c = cond (eqb (get_or kind c 0) 1 || (eqb (get_or kind c 0) 0 && not (eqb (get_or side c 0) 0))) 1 0
+abbrev pub own_listed : (kind side : List ℕ) → ℕ → ℕ
+own_listed kind side c = cond (eqb (get_or kind c 0) 1 || (eqb (get_or kind c 0) 0 && not (eqb (get_or side c 0) 0))) 1 0
 
 -- how many pieces of the pile the row from the place c on becomes, of at most so many nodes
-unfoldable pub pilesListed : ℕ → (first next kind width height eaten : List ℕ) → Orientation → ℕ → ℕ → ℕ
-pilesListed limit first next kind width height eaten way zero c = 0
-pilesListed limit first next kind width height eaten way (suc n) c =
-    let r = rest_of limit next (sidesIn way width height) eaten c in
-    let below = pilesListed limit first next kind width height eaten (other way) n (get_or first c 0) in
+unfoldable pub piles_listed : ℕ → (first next kind width height eaten : List ℕ) → Orientation → ℕ → ℕ → ℕ
+piles_listed limit first next kind width height eaten way zero c = 0
+piles_listed limit first next kind width height eaten way (suc n) c =
+    let r = rest_of limit next (sides_in way width height) eaten c in
+    let below = piles_listed limit first next kind width height eaten (other way) n (get_or first c 0) in
     let all =
-    ownListed kind (sidesIn way width height) c + below + pilesListed limit first next kind width height eaten way n r in
+    own_listed kind (sides_in way width height) c + below + piles_listed limit first next kind width height eaten way n r in
     cond (leb limit c) 0 all
 
 -- the cuts of the row from the place c on, at most so many nodes, whose board is at the place i of the pile
-unfoldable pub cutsListed : ℕ → (first next kind width height eaten : List ℕ) → Orientation → ℕ → ℕ → ℕ → List Cut
-cutsListed limit first next kind width height eaten way zero i c = []
-cutsListed limit first next kind width height eaten way (suc n) i c =
-    let side = sidesIn way width height in
+unfoldable pub cuts_listed : ℕ → (first next kind width height eaten : List ℕ) → Orientation → ℕ → ℕ → ℕ → List Cut
+cuts_listed limit first next kind width height eaten way zero i c = []
+cuts_listed limit first next kind width height eaten way (suc n) i c =
+    let side = sides_in way width height in
     let r = rest_of limit next side eaten c in
-    let below = cutsListed limit first next kind width height eaten (other way) n i (get_or first c 0) in
-    let piles = ownListed kind side c + pilesListed limit first next kind width height eaten (other way) n (get_or first c 0) in
+    let below = cuts_listed limit first next kind width height eaten (other way) n i (get_or first c 0) in
+    let piles = own_listed kind side c + piles_listed limit first next kind width height eaten (other way) n (get_or first c 0) in
     let all =
-    cutBefore limit next kind side eaten way i c r
-    ++ (below ++ cutsListed limit first next kind width height eaten way n (i + piles) r) in
+    cut_before limit next kind side eaten way i c r
+    ++ (below ++ cuts_listed limit first next kind width height eaten way n (i + piles) r) in
     cond (leb limit c) [] all
 
-abbrev pub listedIn : ℕ → Columns → Orientation → ℕ → ℕ → ℕ → List Cut
-listedIn limit s way n i c = cutsListed limit s.first s.next s.kind s.width s.height s.eaten way n i c
+abbrev pub listed_in : ℕ → Columns → Orientation → ℕ → ℕ → ℕ → List Cut
+listed_in limit s way n i c = cuts_listed limit s.first s.next s.kind s.width s.height s.eaten way n i c
 
-abbrev pub pilesIn : ℕ → Columns → Orientation → ℕ → ℕ → ℕ
-pilesIn limit s way n c = pilesListed limit s.first s.next s.kind s.width s.height s.eaten way n c
+abbrev pub piles_in : ℕ → Columns → Orientation → ℕ → ℕ → ℕ
+piles_in limit s way n c = piles_listed limit s.first s.next s.kind s.width s.height s.eaten way n c
 
 -- the list as the routines leave it: each entry with what its cut loses, 10 bytes
-unfoldable pub entryBytes : Cut → List ℕ → List ℕ
-entryBytes c r = cutBytes c (c.eaten ∷ r)
+unfoldable pub entry_bytes : Cut → List ℕ → List ℕ
+entry_bytes c r = cut_bytes c (c.eaten ∷ r)
 
-unfoldable pub entriesOfCuts : List Cut → List ℕ
-entriesOfCuts [] = []
-entriesOfCuts (c ∷ cs) = entryBytes c (entriesOfCuts cs)
+unfoldable pub entries_of_cuts : List Cut → List ℕ
+entries_of_cuts [] = []
+entries_of_cuts (c ∷ cs) = entry_bytes c (entries_of_cuts cs)
 
 -- the first nine bytes of each of n entries, and the tenth of each
-unfoldable pub ninesOf : ℕ → List ℕ → List ℕ
-ninesOf zero l = []
-ninesOf (suc n) l = take 9 l ++ ninesOf n (drop 10 l)
+unfoldable pub nines_of : ℕ → List ℕ → List ℕ
+nines_of zero l = []
+nines_of (suc n) l = take 9 l ++ nines_of n (drop 10 l)
 
-unfoldable pub tenthsOf : ℕ → List ℕ → List ℕ
-tenthsOf zero l = []
-tenthsOf (suc n) l = get_or l 9 0 ∷ tenthsOf n (drop 10 l)
+unfoldable pub tenths_of : ℕ → List ℕ → List ℕ
+tenths_of zero l = []
+tenths_of (suc n) l = get_or l 9 0 ∷ tenths_of n (drop 10 l)

@@ -11,24 +11,24 @@ way_of zero = Horizontal
 way_of (suc n) = Vertical
 
 -- two and four bytes, highest first
-abbrev pub ofTwo : (a b : ℕ) → ℕ
-ofTwo a b = a * 256 + b
+abbrev pub of_two : (a b : ℕ) → ℕ
+of_two a b = a * 256 + b
 
 abbrev pub of_four : (a b c d : ℕ) → ℕ
-of_four a b c d = ofTwo a b * 65536 + ofTwo c d
+of_four a b c d = of_two a b * 65536 + of_two c d
 
-unfoldable pub readCuts : List ℕ → List Cut
-readCuts [] = []
-readCuts (a ∷ []) = []
-readCuts (a ∷ b ∷ []) = []
-readCuts (a ∷ b ∷ w ∷ []) = []
-readCuts (a ∷ b ∷ w ∷ c ∷ []) = []
-readCuts (a ∷ b ∷ w ∷ c ∷ d ∷ []) = []
-readCuts (a ∷ b ∷ w ∷ c ∷ d ∷ e ∷ []) = []
-readCuts (a ∷ b ∷ w ∷ c ∷ d ∷ e ∷ f ∷ []) = []
-readCuts (a ∷ b ∷ w ∷ c ∷ d ∷ e ∷ f ∷ p ∷ []) = []
-readCuts (a ∷ b ∷ w ∷ c ∷ d ∷ e ∷ f ∷ p ∷ l ∷ r) =
-    record { place = ofTwo a b; way = way_of w; distance = of_four c d e f; piece = p; remainder = l; eaten = 0 } ∷ readCuts r
+unfoldable pub read_cuts : List ℕ → List Cut
+read_cuts [] = []
+read_cuts (a ∷ []) = []
+read_cuts (a ∷ b ∷ []) = []
+read_cuts (a ∷ b ∷ w ∷ []) = []
+read_cuts (a ∷ b ∷ w ∷ c ∷ []) = []
+read_cuts (a ∷ b ∷ w ∷ c ∷ d ∷ []) = []
+read_cuts (a ∷ b ∷ w ∷ c ∷ d ∷ e ∷ []) = []
+read_cuts (a ∷ b ∷ w ∷ c ∷ d ∷ e ∷ f ∷ []) = []
+read_cuts (a ∷ b ∷ w ∷ c ∷ d ∷ e ∷ f ∷ p ∷ []) = []
+read_cuts (a ∷ b ∷ w ∷ c ∷ d ∷ e ∷ f ∷ p ∷ l ∷ r) =
+    record { place = of_two a b; way = way_of w; distance = of_four c d e f; piece = p; remainder = l; eaten = 0 } ∷ read_cuts r
 
 -- the cuts with the amounts that were recorded beside them, as far as there are some
 abbrev pub losing : List Cut → List ℕ → List Cut

@@ -27,8 +27,8 @@ halves c s =
     with_area (slice c.way c.distance s) ++ with_area (slice c.way (side c.way s - (c.distance + c.eaten)) s)
 
 -- the cut can be made in a piece of this size
-abbrev pub cutsB : Cut → Size → Bool
-cutsB c s = ltb 0 c.distance && leb (c.distance + c.eaten) (side c.way s)
+abbrev pub cuts_b : Cut → Size → Bool
+cuts_b c s = ltb 0 c.distance && leb (c.distance + c.eaten) (side c.way s)
 
 -- with what there is, if there is something
 abbrev pub and_then : {A : Type 0} → Option A → (A → Option A) → Option A
@@ -36,12 +36,12 @@ and_then none f = none
 and_then (some pile) f = f pile
 
 -- the pile after a cut of its piece at this place
-abbrev pub sawAt : Cut → ℕ → List Size → Option (List Size)
-sawAt c i [] = none
-sawAt c zero (s ∷ pile) = cond (cutsB c s) (some (halves c s ++ pile)) none
-sawAt c (suc i) (s ∷ pile) = and_then (sawAt c i pile) (λ (p : List Size). some (s ∷ p))
+abbrev pub saw_at : Cut → ℕ → List Size → Option (List Size)
+saw_at c i [] = none
+saw_at c zero (s ∷ pile) = cond (cuts_b c s) (some (halves c s ++ pile)) none
+saw_at c (suc i) (s ∷ pile) = and_then (saw_at c i pile) (λ (p : List Size). some (s ∷ p))
 
 -- and after a list of cuts
 abbrev pub saw : List Cut → List Size → Option (List Size)
 saw [] pile = some pile
-saw (c ∷ cs) pile = and_then (sawAt c c.place pile) (saw cs)
+saw (c ∷ cs) pile = and_then (saw_at c c.place pile) (saw cs)

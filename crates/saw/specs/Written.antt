@@ -3,10 +3,10 @@
 use Rattle.std.specs.Prelude.{List, ℕ}
 use Rattle.layout.specs.declared.layout.Layout.{Layout}
 use Rattle.layout.specs.Check.{tree}
-use Rattle.saw.specs.Cuts.{cuts, bytesOfCuts, amounts}
+use Rattle.saw.specs.Cuts.{cuts, bytes_of_cuts, amounts}
 
-unfoldable pub sawBytes : Layout → List ℕ
-sawBytes l = bytesOfCuts (cuts (tree l))
+unfoldable pub saw_bytes : Layout → List ℕ
+saw_bytes l = bytes_of_cuts (cuts (tree l))
 
-unfoldable pub amountBytes : Layout → List ℕ
-amountBytes l = amounts (cuts (tree l))
+unfoldable pub amount_bytes : Layout → List ℕ
+amount_bytes l = amounts (cuts (tree l))

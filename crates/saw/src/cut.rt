@@ -1,7 +1,7 @@
 // One cut of the list, and its bytes.
 ghost use Rattle.std.specs.Prelude.{◌≡◌, [], ◌+◌, ◌≤◌, length};
 ghost use Rattle.std.proofs.lemmas.List.Edits.{sets};
-ghost use Rattle.saw.specs.Listed.{entryBytes};
+ghost use Rattle.saw.specs.Listed.{entry_bytes};
 
 use piece::orientation::Orientation;
 use walks::snapshot::{put_four, put_two};
@@ -26,7 +26,7 @@ pub struct Cut {
 
 pub fn put_cut(cut: Cut, out: &mut [u8], at: usize)
     requires { at + 10 ≤ length out.old }
-    ensures { out.new ≡ sets out.old at (entryBytes cut []) }
+    ensures { out.new ≡ sets out.old at (entry_bytes cut []) }
 {
     let way = cut.way;
     put_two(cut.place, out, at);

@@ -4,10 +4,10 @@ ghost use Rattle.std.proofs.lemmas.List.Edits.{sets};
 ghost use Rattle.lists.specs.Lists.{limit};
 ghost use Rattle.layout.specs.Check.{tree};
 ghost use Rattle.layout.specs.SoundLayout.{SoundLayout};
-ghost use Rattle.questions.specs.Written.{answerTo, leftInBuffer};
+ghost use Rattle.questions.specs.Written.{answer_to, left_in_buffer};
 ghost use Rattle.saw.specs.Cuts as spec;
-ghost use Rattle.saw.specs.Listed.{cutsListed, entriesOfCuts, ninesOf, pilesListed, tenthsOf};
-ghost use Rattle.saw.specs.Written.{amountBytes, sawBytes};
+ghost use Rattle.saw.specs.Listed.{cuts_listed, entries_of_cuts, nines_of, piles_listed, tenths_of};
+ghost use Rattle.saw.specs.Written.{amount_bytes, saw_bytes};
 
 use crate::cut::{BYTES, ENTRY};
 use crate::routines::{list_horizontal, list_vertical};
@@ -39,13 +39,13 @@ fn list_cuts<'a>(
     left: usize,
     out: &mut [u8],
 ) -> usize
-    requires { (pilesListed limit first.now next.now kind.now width.now height.now eaten.now way left c ≤ limit)
-        × (length (cutsListed limit first.now next.now kind.now width.now height.now eaten.now way left 0 c) ≤ limit)
-        × (10 * length (cutsListed limit first.now next.now kind.now width.now height.now eaten.now way left 0 c) ≤ length out.old) }
+    requires { (piles_listed limit first.now next.now kind.now width.now height.now eaten.now way left c ≤ limit)
+        × (length (cuts_listed limit first.now next.now kind.now width.now height.now eaten.now way left 0 c) ≤ limit)
+        × (10 * length (cuts_listed limit first.now next.now kind.now width.now height.now eaten.now way left 0 c) ≤ length out.old) }
     ensures written { out.new
-        ≡ sets out.old 0 (entriesOfCuts (cutsListed limit first.now next.now kind.now
+        ≡ sets out.old 0 (entries_of_cuts (cuts_listed limit first.now next.now kind.now
         width.now height.now eaten.now way left 0 c)) }
-    ensures counted { result ≡ length (cutsListed limit first.now next.now kind.now
+    ensures counted { result ≡ length (cuts_listed limit first.now next.now kind.now
         width.now height.now eaten.now way left 0 c) }
 {
     match way {
@@ -63,7 +63,7 @@ fn list_cuts<'a>(
 // The list of a sound layout, each entry with what its cut loses, from the start of `list` on; gives how many cuts there are.
 fn list_of(layout: Layout, list: &mut [u8; LIST]) -> usize
     requires { SoundLayout layout }
-    ensures written { list.new ≡ sets list.old 0 (entriesOfCuts (spec.cuts (tree layout))) }
+    ensures written { list.new ≡ sets list.old 0 (entries_of_cuts (spec.cuts (tree layout))) }
     ensures counted { result ≡ length (spec.cuts (tree layout)) }
 {
     let held = layout.held as usize;
@@ -107,7 +107,7 @@ fn put_nine(list: &[u8], from: usize, out: &mut [u8], to: usize)
 // The cuts of n entries, over the bytes of `out`.
 fn put_nines(list: &[u8], n: usize, out: &mut [u8])
     requires { (10 * n ≤ length list.now) × (9 * n ≤ length out.old) }
-    ensures { out.new ≡ sets out.old 0 (ninesOf n list.now) }
+    ensures { out.new ≡ sets out.old 0 (nines_of n list.now) }
 {
     let mut k: usize = 0;
     while k < n {
@@ -119,7 +119,7 @@ fn put_nines(list: &[u8], n: usize, out: &mut [u8])
 // What the cuts of n entries lose, over the bytes of `out`.
 fn put_tenths(list: &[u8], n: usize, out: &mut [u8])
     requires { (10 * n ≤ length list.now) × (n ≤ length out.old) }
-    ensures { out.new ≡ sets out.old 0 (tenthsOf n list.now) }
+    ensures { out.new ≡ sets out.old 0 (tenths_of n list.now) }
 {
     let mut k: usize = 0;
     while k < n {
@@ -130,8 +130,8 @@ fn put_tenths(list: &[u8], n: usize, out: &mut [u8])
 
 // The cuts, 9 bytes each, and how many bytes they have.
 pub fn cuts(layout: Layout, out: &mut [u8]) -> CountAnswer
-    ensures answer { result ≡ answerTo layout (sawBytes layout) (length out.old) }
-    ensures written { out.new ≡ leftInBuffer layout (sawBytes layout) out.old }
+    ensures answer { result ≡ answer_to layout (saw_bytes layout) (length out.old) }
+    ensures written { out.new ≡ left_in_buffer layout (saw_bytes layout) out.old }
 {
     if layout.sound() {} else {
         return CountAnswer::Refused(Refusal::NotSound);
@@ -148,8 +148,8 @@ pub fn cuts(layout: Layout, out: &mut [u8]) -> CountAnswer
 
 // What the blade eats with each of these cuts, in their order, 1 byte each, and how many there are.
 pub fn amounts(layout: Layout, out: &mut [u8]) -> CountAnswer
-    ensures answer { result ≡ answerTo layout (amountBytes layout) (length out.old) }
-    ensures written { out.new ≡ leftInBuffer layout (amountBytes layout) out.old }
+    ensures answer { result ≡ answer_to layout (amount_bytes layout) (length out.old) }
+    ensures written { out.new ≡ left_in_buffer layout (amount_bytes layout) out.old }
 {
     if layout.sound() {} else {
         return CountAnswer::Refused(Refusal::NotSound);

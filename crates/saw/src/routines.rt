@@ -6,7 +6,7 @@ ghost use Rattle.std.specs.Prelude.{◌≡◌, ◌+◌, ◌*◌, ◌≤◌, ◌<
 ghost use Rattle.std.proofs.lemmas.List.Edits.{sets};
 ghost use Rattle.piece.specs.declared.orientation.Orientation.TheVariants.{Horizontal, Vertical};
 ghost use Rattle.lists.specs.Lists.{limit};
-ghost use Rattle.saw.specs.Listed.{leftAlong, cutsListed, entriesOfCuts, ownListed, pilesListed, rest_of};
+ghost use Rattle.saw.specs.Listed.{left_along, cuts_listed, entries_of_cuts, own_listed, piles_listed, rest_of};
 
 use crate::cut::{Cut, ENTRY, put_cut};
 use piece::orientation::Orientation;
@@ -54,7 +54,7 @@ fn kind_left<'a>(
     r: u16,
 ) -> u8
     requires { r < limit }
-    ensures { result ≡ leftAlong limit next.now kind.now side.now eaten.now r }
+    ensures { result ≡ left_along limit next.now kind.now side.now eaten.now r }
 {
     let at = r as usize;
     if NONE <= rest_of(next, side, eaten, r) {
@@ -67,7 +67,7 @@ fn kind_left<'a>(
 // 1 where the piece at c itself comes to lie in the pile: a part, or a free piece with something of the side.
 fn own_pile<'a>(kind: &'a [u8; LIMIT], side: &'a [u32; LIMIT], c: u16) -> usize
     requires { c < limit }
-    ensures { result ≡ ownListed kind.now side.now c }
+    ensures { result ≡ own_listed kind.now side.now c }
 {
     let at = c as usize;
     if kind[at] == 1 {
@@ -95,16 +95,16 @@ pub fn list_vertical<'a>(
     out: &mut [u8],
     n: usize,
 ) -> Listed
-    requires { (place + pilesListed limit first.now next.now kind.now width.now height.now eaten.now Vertical left c ≤ limit)
-        × (n + length (cutsListed limit first.now next.now kind.now width.now height.now eaten.now Vertical left place c) ≤ limit)
-        × (10 * (n + length (cutsListed limit first.now next.now kind.now width.now height.now eaten.now Vertical left place c))
+    requires { (place + piles_listed limit first.now next.now kind.now width.now height.now eaten.now Vertical left c ≤ limit)
+        × (n + length (cuts_listed limit first.now next.now kind.now width.now height.now eaten.now Vertical left place c) ≤ limit)
+        × (10 * (n + length (cuts_listed limit first.now next.now kind.now width.now height.now eaten.now Vertical left place c))
         ≤ length out.old) }
     ensures written { out.new
-        ≡ sets out.old (10 * n) (entriesOfCuts (cutsListed limit first.now next.now kind.now
+        ≡ sets out.old (10 * n) (entries_of_cuts (cuts_listed limit first.now next.now kind.now
         width.now height.now eaten.now Vertical left place c)) }
-    ensures counted { result.cuts ≡ n + length (cutsListed limit first.now next.now kind.now
+    ensures counted { result.cuts ≡ n + length (cuts_listed limit first.now next.now kind.now
         width.now height.now eaten.now Vertical left place c) }
-    ensures piled { result.place ≡ place + pilesListed limit first.now next.now kind.now
+    ensures piled { result.place ≡ place + piles_listed limit first.now next.now kind.now
         width.now height.now eaten.now Vertical left c }
 {
     if left == 0 {
@@ -188,16 +188,16 @@ pub fn list_horizontal<'a>(
     out: &mut [u8],
     n: usize,
 ) -> Listed
-    requires { (place + pilesListed limit first.now next.now kind.now width.now height.now eaten.now Horizontal left c ≤ limit)
-        × (n + length (cutsListed limit first.now next.now kind.now width.now height.now eaten.now Horizontal left place c) ≤ limit)
-        × (10 * (n + length (cutsListed limit first.now next.now kind.now width.now height.now eaten.now Horizontal left place c))
+    requires { (place + piles_listed limit first.now next.now kind.now width.now height.now eaten.now Horizontal left c ≤ limit)
+        × (n + length (cuts_listed limit first.now next.now kind.now width.now height.now eaten.now Horizontal left place c) ≤ limit)
+        × (10 * (n + length (cuts_listed limit first.now next.now kind.now width.now height.now eaten.now Horizontal left place c))
         ≤ length out.old) }
     ensures written { out.new
-        ≡ sets out.old (10 * n) (entriesOfCuts (cutsListed limit first.now next.now kind.now
+        ≡ sets out.old (10 * n) (entries_of_cuts (cuts_listed limit first.now next.now kind.now
         width.now height.now eaten.now Horizontal left place c)) }
-    ensures counted { result.cuts ≡ n + length (cutsListed limit first.now next.now kind.now
+    ensures counted { result.cuts ≡ n + length (cuts_listed limit first.now next.now kind.now
         width.now height.now eaten.now Horizontal left place c) }
-    ensures piled { result.place ≡ place + pilesListed limit first.now next.now kind.now
+    ensures piled { result.place ≡ place + piles_listed limit first.now next.now kind.now
         width.now height.now eaten.now Horizontal left c }
 {
     if left == 0 {

@@ -4,7 +4,7 @@ use mathlib.Core.Path.{◌≡◌, refl, sym, ap, ◌∙◌}
 use mathlib.Core.List.{List, ◌∷◌, ◌++◌}
 use Prim.Native.Nat.{ℕ}
 use lib.ListN.{length}
-use Rattle.lines.specs.Text.{Line, lines_of, joinedLines}
+use Rattle.lines.specs.Text.{Line, lines_of, joined_lines}
 use Rattle.layout.specs.declared.layout.Layout.{Layout}
 use Rattle.layout.specs.Check.{limit}
 use Rattle.layout.proofs.Determined.{insert-is-one, remove-is-one}
@@ -12,16 +12,16 @@ use Rattle.frames.specs.declared.Ask.{Ask}
 use Rattle.frames.specs.declared.Ask.TheVariants.{Open, Offers, Insert, Remove, Report}
 use Rattle.frames.specs.declared.Request.{Request}
 use Rattle.frames.specs.declared.Request.TheVariants.{OfLayout, Keep, Restore, Malformed}
-use Rattle.frames.specs.Answers.{Answer, answerLine}
+use Rattle.frames.specs.Answers.{Answer, answer_line}
 use Rattle.session.specs.declared.Session.{Session}
 use Rattle.session.specs.declared.replies.Said.{Said}
 use Rattle.session.specs.declared.replies.Response.{Response}
 use Rattle.session.specs.declared.replies.Keeping.{Keeping}
 use Rattle.session.specs.declared.listener.Listener.{Listener}
 use Rattle.session.specs.declared.listener.Turn.{Turn}
-use Rattle.session.specs.Session.{Reply, reply, afterInsert, afterRemove, Answers, paddedLine, Says}
+use Rattle.session.specs.Session.{Reply, reply, after_insert, after_remove, Answers, padded_line, Says}
 use Rattle.session.specs.Replies.{both, refusal, Replies, Keeps, Restores}
-use Rattle.session.specs.Listener.{askedIn, RunsBy, Runs, none, more, startListener, text_of, Ends, Served}
+use Rattle.session.specs.Listener.{asked_in, RunsBy, Runs, none, more, start_listener, text_of, Ends, Served}
 use Rattle.session.proofs.Laws.{input-run}
 
 -- a request
@@ -30,9 +30,9 @@ unfolding Answers
 answers-once s (OfLayout (Open o)) g h = g ∙ sym h
 answers-once s (OfLayout (Offers mark part)) g h = g ∙ sym h
 answers-once s (OfLayout (Insert m p r f)) g h =
-    g.2 ∙ ap (afterInsert s) (insert-is-one s.layout m p r f g.0 h.0 g.1 h.1) ∙ sym h.2
+    g.2 ∙ ap (after_insert s) (insert-is-one s.layout m p r f g.0 h.0 g.1 h.1) ∙ sym h.2
 answers-once s (OfLayout (Remove m)) g h =
-    g.2 ∙ ap (afterRemove s m) (remove-is-one s.layout m limit g.0 h.0 g.1 h.1) ∙ sym h.2
+    g.2 ∙ ap (after_remove s m) (remove-is-one s.layout m limit g.0 h.0 g.1 h.1) ∙ sym h.2
 answers-once s (OfLayout Report) g h = g ∙ sym h
 answers-once s Keep g h = g ∙ sym h
 answers-once s Restore g h = g ∙ sym h
@@ -42,8 +42,8 @@ answers-once s Malformed g h = g ∙ sym h
 pub same-said : {a b : Answer} {r p : Said} → a ≡ b → Says a r → Says b p → r ≡ p
 same-said e x y i =
     record {
-      line = (x.padded ∙ ap paddedLine e ∙ sym y.padded) i;
-      count = (x.count ∙ ap (λ (c : Answer). length (answerLine c)) e ∙ sym y.count) i;
+      line = (x.padded ∙ ap padded_line e ∙ sym y.padded) i;
+      count = (x.count ∙ ap (λ (c : Answer). length (answer_line c)) e ∙ sym y.count) i;
     }
 
 pub replies-once : (l : Layout) (ask : Ask) {r p : Response} → Replies l ask r → Replies l ask p → r ≡ p
@@ -80,12 +80,12 @@ module _ {Q A : Type 0} (asked : Line → Q) (Gives : Session → Q → Session 
 
 pub runs-once : {s u v : Session} {ls : List Line} {xs ys : List Answer} → Runs s ls xs u → Runs s ls ys v → (xs ≡ ys) × (u ≡ v)
 runs-once q r =
-    runs-by-once askedIn Answers
+    runs-by-once asked_in Answers
     (λ s q t u a b g h. let e = answers-once s q g h in (ap (λ (w : Reply). w.session) e, ap (λ (w : Reply). w.answer) e)) q r
 
 -- the output to an input, however it was cut into chunks
-pub output-once : {cs ds : List (List ℕ)} {xs ys : List Answer} {d e : Listener} {r q : Turn} → joinedLines cs ≡ joinedLines ds
-    → Served startListener cs xs d → (y : Ends d r) → Served startListener ds ys e → (z : Ends e q)
+pub output-once : {cs ds : List (List ℕ)} {xs ys : List Answer} {d e : Listener} {r q : Turn} → joined_lines cs ≡ joined_lines ds
+    → Served start_listener cs xs d → (y : Ends d r) → Served start_listener ds ys e → (z : Ends e q)
     → (text_of (xs ++ y.turned.answers) ≡ text_of (ys ++ z.turned.answers)) × (r.listener.session ≡ q.listener.session)
 output-once {cs} {ds} same a y b z =
     let once = runs-once (input-run a y) (rw (← ap lines_of same) at (input-run b z)) in

@@ -20,18 +20,18 @@ use Rattle.piece.specs.declared.node.Kind.TheVariants.{Free, Part, Structure}
 use Rattle.piece.specs.declared.settings.Opening.{Opening}
 use Rattle.piece.specs.declared.settings.Settings.{Settings}
 use Rattle.piece.specs.Row.{nil, grow}
-use Rattle.piece.specs.Kinds.{isFree, isPart}
+use Rattle.piece.specs.Kinds.{is_free, is_part}
 use Rattle.tree.specs.Tree.{Tree, At, after}
 use Rattle.tree.specs.Sound.{Kinded, Children, Topped}
 use Rattle.tree.specs.Booking.{block}
-use Rattle.tree.specs.Figures.{sheetUsage}
+use Rattle.tree.specs.Figures.{sheet_usage}
 use Rattle.tree.specs.Removal.{subtree, numbers}
 use Rattle.tree.proofs.BookPieces.{book-new}
 use Rattle.marks.specs.declared.Mark.{Mark}
 use Rattle.marks.specs.declared.Refusal.TheVariants.{OpeningOutside}
-use Rattle.marks.specs.Marks.{zeroMark}
-use Rattle.booking.specs.Marks.{headMark, marksIn, blockMarks}
-use Rattle.removal.specs.Remove.{newFree}
+use Rattle.marks.specs.Marks.{zero_mark}
+use Rattle.booking.specs.Marks.{head_mark, marks_in, block_marks}
+use Rattle.removal.specs.Remove.{new_free}
 use Rattle.removal.proofs.Pieces.{new-there}
 use Rattle.layout.specs.declared.layout.Layout.{Layout}
 use Rattle.layout.specs.declared.open.OpenOutcome.TheVariants as openings
@@ -39,30 +39,30 @@ use Rattle.layout.specs.declared.replies.Outcome.{Outcome}
 use Rattle.layout.specs.declared.replies.Outcome.TheVariants as outcomes
 use Rattle.layout.specs.declared.insert.Inserted.{Inserted}
 use Rattle.layout.specs.declared.remove.Removed.{Removed}
-use Rattle.layout.specs.Check.{limit, tree, soundB, domainB}
-use Rattle.layout.specs.Zero.{zeroLayout}
+use Rattle.layout.specs.Check.{limit, tree, sound_b, domain_b}
+use Rattle.layout.specs.Zero.{zero_layout}
 use Rattle.layout.specs.SoundLayout.{SoundLayout, Sized}
-use Rattle.layout.specs.Open.{freshLayout, openOf}
-use Rattle.layout.specs.Insert.{InsertSays, bookingFor, piece_at}
-use Rattle.layout.specs.Remove.{RemoveSays, placeFor, numbersOut}
-use Rattle.layout.specs.Restore.{restoreOf}
+use Rattle.layout.specs.Open.{fresh_layout, open_of}
+use Rattle.layout.specs.Insert.{InsertSays, booking_for, piece_at}
+use Rattle.layout.specs.Remove.{RemoveSays, place_for, numbers_out}
+use Rattle.layout.specs.Restore.{restore_of}
 use Rattle.layout.proofs.Admitted.{insertable}
 use Rattle.layout.proofs.Inserted.{insert-accepted, insert-says}
 use Rattle.layout.proofs.Gone.{may-take, remove-accepted, remove-says}
 use Rattle.layout.proofs.Areas.{used-small}
 use Rattle.layout.proofs.Exactly.{sound-says}
 use Rattle.layout.proofs.Listed.{piece-low}
-use Rattle.questions.specs.Answers.{offersCall}
+use Rattle.questions.specs.Answers.{offers_call}
 use Rattle.frames.specs.declared.Ask.TheVariants.{Open, Offers, Insert, Remove, Report}
 use Rattle.frames.specs.declared.Request.{Request}
 use Rattle.frames.specs.declared.Request.TheVariants.{OfLayout, Keep, Restore, Malformed}
-use Rattle.frames.specs.Bytes.{pairs, charsOf}
-use Rattle.frames.specs.Answers.{Answer, done, answerBytes}
+use Rattle.frames.specs.Bytes.{pairs, chars_of}
+use Rattle.frames.specs.Answers.{Answer, done, answer_bytes}
 use Rattle.frames.specs.Ranges.{MarkFits, RequestFits, Each, none, more, AnswerFits}
 use Rattle.frames.proofs.AnswerLaws.{answer_back}
 use Rattle.session.specs.declared.Session.{Session}
-use Rattle.session.specs.Session.{Reply, answerBy, offersSaid, marksSaid, numbersSaid, keptBy, reportBy, Answers}
-use Rattle.session.specs.Session.{afterOpen, afterOffers, afterInsert, afterRemove, afterKeep, afterRestore, afterReport}
+use Rattle.session.specs.Session.{Reply, answer_by, offers_said, marks_said, numbers_said, kept_by, report_by, Answers}
+use Rattle.session.specs.Session.{after_open, after_offers, after_insert, after_remove, after_keep, after_restore, after_report}
 use Rattle.session.proofs.Ways.{offers-four}
 
 -- ---- lists
@@ -83,9 +83,9 @@ clash t = let z : ◌≡◌ {A = ℕ} 0 1 = cc in omega arith
 -- every part of the row, and below it, has a number of two bytes
 abbrev Numbered : Tree → Type 0
 Numbered nil = Unit {0}
-Numbered (grow p d k r) = (isPart d.kind ≡ true → d.number < 2 ^ 16) × Numbered k × Numbered r
+Numbered (grow p d k r) = (is_part d.kind ≡ true → d.number < 2 ^ 16) × Numbered k × Numbered r
 
-piece-numbered : (κ : Kind) (d : Datum) (k r : Tree) → Kinded κ d k r → isPart κ ≡ true → d.number < 2 ^ 16
+piece-numbered : (κ : Kind) (d : Datum) (k r : Tree) → Kinded κ d k r → is_part κ ≡ true → d.number < 2 ^ 16
 piece-numbered Free d k r h e = absurd (clash e)
 piece-numbered Part d k r h e = omega (arith, h.numbered)
 piece-numbered Structure d k r h e = absurd (clash e)
@@ -99,7 +99,7 @@ tree-numbered : (settings : Settings) (w : Tree) → Topped settings w → Numbe
 tree-numbered settings nil h = absurd h
 tree-numbered settings (grow p d k r) h =
     let top = h.0 in
-    ((λ e. absurd (clash (sym (ap isPart top.kind) ∙ e))), row-numbered settings d k h.1, rw top.alone tt)
+    ((λ e. absurd (clash (sym (ap is_part top.kind) ∙ e))), row-numbered settings d k h.1, rw top.alone tt)
 
 after-numbered : (v w : Tree) → Numbered v → Numbered w → Numbered (after v w)
 after-numbered nil w h j = j
@@ -117,7 +117,7 @@ subtree-numbered x (grow y d k r) h =
 
 numbers-small : (w : Tree) → Numbered w → Each (λ n. n < 2 ^ 16) (numbers w)
 numbers-small nil h = none
-numbers-small (grow p d k r) h = go (isPart d.kind) h.0 (each-join (numbers-small k h.1) (numbers-small r h.2))
+numbers-small (grow p d k r) h = go (is_part d.kind) h.0 (each-join (numbers-small k h.1) (numbers-small r h.2))
   where
     go : (b : Bool) → (b ≡ true → d.number < 2 ^ 16) → Each (λ n. n < 2 ^ 16) (numbers k ++ numbers r)
         → Each (λ n. n < 2 ^ 16) (cond b (d.number ∷ (numbers k ++ numbers r)) (numbers k ++ numbers r))
@@ -134,11 +134,11 @@ layout-placed : (l : Layout) → SoundLayout l → Placed (tree l)
 layout-placed l s p d y =
     (omega (arith, piece-low l.nodes (tree l) s.holds p d y), omega (arith, s.serials.most p d y, s.serials.spent))
 
-zero-fits : MarkFits zeroMark
+zero-fits : MarkFits zero_mark
 zero-fits = record { layout = omega arith; place = omega arith; serial = omega arith }
 
 module _ (number : ℕ) (small : number < 2 ^ 16) where
-  marks-fit : (test : Kind → Bool) (w : Tree) → Placed w → Each MarkFits (marksIn number test w)
+  marks-fit : (test : Kind → Bool) (w : Tree) → Placed w → Each MarkFits (marks_in number test w)
   marks-fit test nil h = none
   marks-fit test (grow p d k r) h =
       go (test d.kind) (each-join (marks-fit test k (λ i e y. h i e (inr (inl y)))) (marks-fit test r (λ i e y. h i e (inr (inr y)))))
@@ -146,43 +146,43 @@ module _ (number : ℕ) (small : number < 2 ^ 16) where
       own : MarkFits (record { layout = number; place = p; serial = d.serial })
       own = let z = h p d (inl (refl, refl)) in record { layout = small; place = z.0; serial = z.1 }
 
-      go : (b : Bool) → Each MarkFits (marksIn number test k ++ marksIn number test r)
+      go : (b : Bool) → Each MarkFits (marks_in number test k ++ marks_in number test r)
           → Each MarkFits
-          (cond b (record { layout = number; place = p; serial = d.serial } ∷ (marksIn number test k ++ marksIn number test r))
-          (marksIn number test k ++ marksIn number test r))
+          (cond b (record { layout = number; place = p; serial = d.serial } ∷ (marks_in number test k ++ marks_in number test r))
+          (marks_in number test k ++ marks_in number test r))
       go true e = more own e
       go false e = e
 
-  head-fits : {ms : List Mark} → Each MarkFits ms → MarkFits (headMark ms)
+  head-fits : {ms : List Mark} → Each MarkFits ms → MarkFits (head_mark ms)
   head-fits none = zero-fits
   head-fits (more p e) = p
 
   -- the marks of a block
   block-fits : (w : Tree) → Placed w
-      → MarkFits (blockMarks number w).first × MarkFits (blockMarks number w).part
-      × Each MarkFits (take (blockMarks number w).count (blockMarks number w).frees)
-  unfolding blockMarks
+      → MarkFits (block_marks number w).first × MarkFits (block_marks number w).part
+      × Each MarkFits (take (block_marks number w).count (block_marks number w).frees)
+  unfolding block_marks
   block-fits w h = (
     head-fits (marks-fit (λ (k : Kind). true) w h),
-    head-fits (marks-fit isPart w h),
-    each_take (blockMarks number w).count (each_take 2 (each-join (marks-fit isFree w h) (more zero-fits (more zero-fits none)))),
+    head-fits (marks-fit is_part w h),
+    each_take (block_marks number w).count (each_take 2 (each-join (marks-fit is_free w h) (more zero-fits (more zero-fits none)))),
   )
 
 -- ---- the answer of each call
 -- an answer, or a refusal of the same op
-by-outcome : (op : ℕ) (a : Answer) (v : Outcome) → op < 2 ^ 8 → (v ≡ outcomes.Done → AnswerFits a) → AnswerFits (answerBy op a v)
+by-outcome : (op : ℕ) (a : Answer) (v : Outcome) → op < 2 ^ 8 → (v ≡ outcomes.Done → AnswerFits a) → AnswerFits (answer_by op a v)
 by-outcome op a outcomes.Done h f = f refl
 by-outcome op a (outcomes.Refused e) h f = h
 
 by-opening : (s : Session) (o : Opening) → o.number < 2 ^ 16
-    → AnswerFits (afterOpen s (openOf o)).answer
-unfolding afterOpen openOf
-by-opening s o h = go (domainB o.settings)
+    → AnswerFits (after_open s (open_of o)).answer
+unfolding after_open open_of
+by-opening s o h = go (domain_b o.settings)
   where
     go : (b : Bool)
-        → AnswerFits (afterOpen s
-        (cond b (record { outcome = openings.Free (record { layout = o.number; place = 1; serial = 2 }); layout = freshLayout o })
-        (record { outcome = openings.Refused OpeningOutside; layout = zeroLayout }))).answer
+        → AnswerFits (after_open s
+        (cond b (record { outcome = openings.Free (record { layout = o.number; place = 1; serial = 2 }); layout = fresh_layout o })
+        (record { outcome = openings.Refused OpeningOutside; layout = zero_layout }))).answer
     go true = record { layout = h; place = omega arith; serial = omega arith }
     go false = omega arith
 
@@ -191,11 +191,11 @@ module _ (s : Session) (sized : Sized s.layout) (number : s.layout.number < 2 ^ 
   l = s.layout
 
   insert-fits : (m : Mark) (p : PartType) (r : Rotation) (f : InsertionShape) (i : Inserted) → InsertSays l m p r f i
-      → i.outcome ≡ outcomes.Done → AnswerFits (marksSaid i.marks)
+      → i.outcome ≡ outcomes.Done → AnswerFits (marks_said i.marks)
   insert-fits m p r f i says accepted =
       let z = insert-accepted l m p r f i says accepted in
       let can = insertable l m p r f sized z.0 in
-      let b = bookingFor l m.place p r f in
+      let b = booking_for l m.place p r f in
       let d = piece_at l m.place in
       let new : Placed (block b d) =
       λ q e y. layout-placed i.layout z.1.next.sound q e
@@ -209,13 +209,13 @@ module _ (s : Session) (sized : Sized s.layout) (number : s.layout.number < 2 ^ 
         rw e fits.2,
       )
 
-  remove-fits : (m : Mark) (r : Removed) → RemoveSays l m limit r → r.outcome ≡ outcomes.Done → AnswerFits (numbersSaid s m r)
-  unfolding numbersOut
+  remove-fits : (m : Mark) (r : Removed) → RemoveSays l m limit r → r.outcome ≡ outcomes.Done → AnswerFits (numbers_said s m r)
+  unfolding numbers_out
   remove-fits m r says accepted =
       let z = remove-accepted l m limit r says accepted in
       let can = may-take l m limit sized z.0 in
-      let n = placeFor l m.place in
-      let there : At n (newFree l.nodes m.place l.serial) (tree r.layout) =
+      let n = place_for l m.place in
+      let there : At n (new_free l.nodes m.place l.serial) (tree r.layout) =
       rw z.1.next.tree
       (new-there limit l.settings l.nodes (tree l) can.sound.sound can.sound.holds m.place can.removable n l.serial) in
       let place = (layout-placed r.layout z.1.next.sound n _ there).0 in (
@@ -225,8 +225,8 @@ module _ (s : Session) (sized : Sized s.layout) (number : s.layout.number < 2 ^ 
             (subtree-numbered m.place (tree l) (tree-numbered l.settings (tree l) can.sound.sound.topped)),
       )
 
-  report-fits : (b : Bool) → soundB s.layout ≡ b → AnswerFits (reportBy s.layout b)
-  unfolding sheetUsage
+  report-fits : (b : Bool) → sound_b s.layout ≡ b → AnswerFits (report_by s.layout b)
+  unfolding sheet_usage
   report-fits true e =
       let t = sound-says s.layout sized e in (
         omega (arith, (used-small s.layout t).0, t.used),
@@ -235,33 +235,33 @@ module _ (s : Session) (sized : Sized s.layout) (number : s.layout.number < 2 ^ 
       )
   report-fits false e = omega arith
 
-  keep-fits : (b : Bool) → AnswerFits (keptBy s b).answer
+  keep-fits : (b : Bool) → AnswerFits (kept_by s b).answer
   keep-fits true = omega arith
   keep-fits false = omega arith
 
   -- THE LAW: a request that fits, at a layout that is as its type says, gets an answer that fits
   pub answer-fits : (q : Request) (t : Session) (a : Answer) → RequestFits q → Answers s q t a → AnswerFits a
-  unfolding Answers afterOpen afterOffers afterInsert afterRemove afterKeep afterRestore afterReport
+  unfolding Answers after_open after_offers after_insert after_remove after_keep after_restore after_report
   answer-fits (OfLayout (Open o)) t a f h =
       rw (ap (λ (r : Reply). r.answer) h) (by-opening s o f.number)
   answer-fits (OfLayout (Offers m p)) t a f h =
-      let o = offersCall s.layout m p in
+      let o = offers_call s.layout m p in
       rw (ap (λ (r : Reply). r.answer) h)
-      (by-outcome 2 (offersSaid o.offers) o.outcome (omega arith)
+      (by-outcome 2 (offers_said o.offers) o.outcome (omega arith)
       (λ e. omega (arith, length-take o.offers.count o.offers.list, offers-four s.layout m p)))
   answer-fits (OfLayout (Insert m p r g)) t a f h =
       rw (ap (λ (r : Reply). r.answer) h.2)
-      (by-outcome 3 (marksSaid h.0.marks) h.0.outcome (omega arith) (insert-fits m p r g h.0 h.1))
+      (by-outcome 3 (marks_said h.0.marks) h.0.outcome (omega arith) (insert-fits m p r g h.0 h.1))
   answer-fits (OfLayout (Remove m)) t a f h =
       rw (ap (λ (r : Reply). r.answer) h.2)
-      (by-outcome 4 (numbersSaid s m h.0) h.0.outcome (omega arith) (remove-fits m h.0 h.1))
-  answer-fits (OfLayout Report) t a f h = rw (ap (λ (r : Reply). r.answer) h) (report-fits (soundB s.layout) refl)
-  answer-fits Keep t a f h = rw (ap (λ (r : Reply). r.answer) h) (keep-fits (soundB s.layout))
+      (by-outcome 4 (numbers_said s m h.0) h.0.outcome (omega arith) (remove-fits m h.0 h.1))
+  answer-fits (OfLayout Report) t a f h = rw (ap (λ (r : Reply). r.answer) h) (report-fits (sound_b s.layout) refl)
+  answer-fits Keep t a f h = rw (ap (λ (r : Reply). r.answer) h) (keep-fits (sound_b s.layout))
   answer-fits Restore t a f h =
       rw (ap (λ (r : Reply). r.answer) h)
-      (by-outcome 6 (done 6) (restoreOf s.layout s.kept).outcome (omega arith) (λ e. omega arith))
+      (by-outcome 6 (done 6) (restore_of s.layout s.kept).outcome (omega arith) (λ e. omega arith))
   answer-fits Malformed t a f h = rw (ap (λ (r : Reply). r.answer) h) tt
 
   -- so what is written reads back
-  pub answer-read : (q : Request) (t : Session) (a : Answer) → RequestFits q → Answers s q t a → pairs (charsOf (answerBytes a)) ≡ answerBytes a
+  pub answer-read : (q : Request) (t : Session) (a : Answer) → RequestFits q → Answers s q t a → pairs (chars_of (answer_bytes a)) ≡ answer_bytes a
   answer-read q t a f h = answer_back a (answer-fits q t a f h)

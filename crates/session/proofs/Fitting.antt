@@ -20,14 +20,14 @@ use Rattle.layout.specs.declared.replies.Outcome.{Outcome}
 use Rattle.layout.specs.declared.replies.Outcome.TheVariants as outcomes
 use Rattle.layout.specs.declared.insert.Inserted.{Inserted}
 use Rattle.layout.specs.declared.remove.Removed.{Removed}
-use Rattle.layout.specs.Check.{limit, soundB, domainB}
+use Rattle.layout.specs.Check.{limit, sound_b, domain_b}
 use Rattle.layout.specs.SoundLayout.{Sized}
-use Rattle.layout.specs.Zero.{zeroLayout}
+use Rattle.layout.specs.Zero.{zero_layout}
 use Rattle.layout.specs.Next.{Next}
-use Rattle.layout.specs.Open.{freshLayout, openOf}
+use Rattle.layout.specs.Open.{fresh_layout, open_of}
 use Rattle.layout.specs.Insert.{InsertSays}
 use Rattle.layout.specs.Remove.{RemoveSays}
-use Rattle.layout.specs.Restore.{greater, withSerial, refusedRestore, restoreOf}
+use Rattle.layout.specs.Restore.{greater, with_serial, refused_restore, restore_of}
 use Rattle.layout.proofs.Exactly.{zero-sized}
 use Rattle.layout.proofs.Opened.{fresh-sized}
 use Rattle.layout.proofs.Inserted.{insert-accepted, refused-as-it-came}
@@ -41,10 +41,10 @@ use Rattle.frames.proofs.Heard.{request-fits}
 use Rattle.session.specs.declared.Session.{Session}
 use Rattle.session.specs.declared.listener.Listener.{Listener}
 use Rattle.session.specs.declared.listener.Turn.{Turn}
-use Rattle.session.specs.Session.{started, Reply, keptBy, Answers}
-use Rattle.session.specs.Session.{afterOpen, afterOffers, afterInsert, afterRemove, afterKeep, afterRestore, afterReport}
-use Rattle.session.specs.Replies.{keptIn}
-use Rattle.session.specs.Listener.{askedIn, Runs, none, more, startListener, Ends, Served}
+use Rattle.session.specs.Session.{started, Reply, kept_by, Answers}
+use Rattle.session.specs.Session.{after_open, after_offers, after_insert, after_remove, after_keep, after_restore, after_report}
+use Rattle.session.specs.Replies.{kept_in}
+use Rattle.session.specs.Listener.{asked_in, Runs, none, more, start_listener, Ends, Served}
 use Rattle.session.proofs.Kept.{kept-after}
 use Rattle.session.proofs.Laws.{input-run}
 use Rattle.session.proofs.Fits.{answer-fits}
@@ -59,14 +59,14 @@ typed-next : {l n : Layout} {w : Tree} {list : List ℕ} {last : ℕ} → Typed 
 typed-next t x = record { sized = x.sized; number = omega (arith, x.number, t.number) }
 
 opened : (s : Session) (o : Opening) → o.number < 2 ^ 16 → Typed s.layout
-    → Typed (afterOpen s (openOf o)).session.layout
-unfolding afterOpen openOf freshLayout
-opened s o f t = go (domainB o.settings)
+    → Typed (after_open s (open_of o)).session.layout
+unfolding after_open open_of fresh_layout
+opened s o f t = go (domain_b o.settings)
   where
     go : (b : Bool)
-        → Typed (afterOpen s
-        (cond b (record { outcome = openings.Free (record { layout = o.number; place = 1; serial = 2 }); layout = freshLayout o })
-        (record { outcome = openings.Refused OpeningOutside; layout = zeroLayout }))).session.layout
+        → Typed (after_open s
+        (cond b (record { outcome = openings.Free (record { layout = o.number; place = 1; serial = 2 }); layout = fresh_layout o })
+        (record { outcome = openings.Refused OpeningOutside; layout = zero_layout }))).session.layout
     go true = record { sized = fresh-sized o; number = f }
     go false = t
 
@@ -85,14 +85,14 @@ module _ (l : Layout) (t : Typed l) where
       go outcomes.Done e = typed-next t (remove-accepted l m limit r says e).1.next
       go (outcomes.Refused x) e = rw (ap (λ (a : Removed). a.layout) (remove-refused l m limit r says x e).1) t
 
-  restored : (k : Layout) → Typed k → Typed (restoreOf l k).layout
-  unfolding restoreOf
-  restored k u = go (soundB l) (soundB k) (eqb l.number k.number)
+  restored : (k : Layout) → Typed k → Typed (restore_of l k).layout
+  unfolding restore_of
+  restored k u = go (sound_b l) (sound_b k) (eqb l.number k.number)
     where
       go : (a b c : Bool)
           → Typed (cond a
-          (cond b (cond c (record { outcome = outcomes.Done; layout = withSerial k (greater l.serial k.serial) }) (refusedRestore l OtherLayout))
-          (refusedRestore l NotSound)) (refusedRestore l NotSound)).layout
+          (cond b (cond c (record { outcome = outcomes.Done; layout = with_serial k (greater l.serial k.serial) }) (refused_restore l OtherLayout))
+          (refused_restore l NotSound)) (refused_restore l NotSound)).layout
       go true true true = record { sized = record { nodes = u.sized.nodes; free = u.sized.free; removable = u.sized.removable }; number = u.number }
       go true true false = t
       go true false c = t
@@ -104,7 +104,7 @@ pub record Held (s : Session) : Type 0 where
   pub kept : Typed s.kept
 
 layout-after : (s : Session) → Held s → (q : Request) (t : Session) (a : Answer) → RequestFits q → Answers s q t a → Typed t.layout
-unfolding Answers afterOpen afterOffers afterInsert afterRemove afterKeep afterRestore afterReport
+unfolding Answers after_open after_offers after_insert after_remove after_keep after_restore after_report
 layout-after s x (OfLayout (Open o)) t a f h =
     rw (ap (λ (r : Reply). r.session.layout) h) (opened s o f.number x.layout)
 layout-after s x (OfLayout (Offers m p)) t a f h = rw (ap (λ (r : Reply). r.session.layout) h) x.layout
@@ -112,17 +112,17 @@ layout-after s x (OfLayout (Insert m p r g)) t a f h =
     rw (ap (λ (r : Reply). r.session.layout) h.2) (inserted s.layout x.layout m p r g h.0 h.1)
 layout-after s x (OfLayout (Remove m)) t a f h = rw (ap (λ (r : Reply). r.session.layout) h.2) (removed s.layout x.layout m h.0 h.1)
 layout-after s x (OfLayout Report) t a f h = rw (ap (λ (r : Reply). r.session.layout) h) x.layout
-layout-after s x Keep t a f h = rw (ap (λ (r : Reply). r.session.layout) h) (go (soundB s.layout))
+layout-after s x Keep t a f h = rw (ap (λ (r : Reply). r.session.layout) h) (go (sound_b s.layout))
   where
-    go : (b : Bool) → Typed (keptBy s b).session.layout
+    go : (b : Bool) → Typed (kept_by s b).session.layout
     go true = x.layout
     go false = x.layout
 layout-after s x Restore t a f h = rw (ap (λ (r : Reply). r.session.layout) h) (restored s.layout x.layout s.kept x.kept)
 layout-after s x Malformed t a f h = rw (ap (λ (r : Reply). r.session.layout) h) x.layout
 
-kept-typed : (s : Session) → Held s → (q : Request) → Typed (keptIn s q)
+kept-typed : (s : Session) → Held s → (q : Request) → Typed (kept_in s q)
 kept-typed s x (OfLayout ask) = x.kept
-kept-typed s x Keep = go (soundB s.layout)
+kept-typed s x Keep = go (sound_b s.layout)
   where
     go : (b : Bool) → Typed (cond b s.layout s.kept)
     go true = x.layout
@@ -135,7 +135,7 @@ held_after s x q t a f h =
     record { layout = layout-after s x q t a f h; kept = rw (kept-after s q t a h) (kept-typed s x q) }
 
 -- ---- runs
-asked-fits : (line : Line) → RequestFits (askedIn line)
+asked-fits : (line : Line) → RequestFits (asked_in line)
 asked-fits (whole chars) = request-fits chars
 asked-fits long = tt
 asked-fits cut = tt
@@ -144,14 +144,14 @@ runs_fit : {s u : Session} {ls : List Line} {xs : List Answer} → Held s → Ru
 runs_fit x none = none_left
 runs_fit x (more {s} {t} {line = line} {a = a} h r) =
     let f = asked-fits line in
-    and_then (answer-fits s x.layout.sized x.layout.number (askedIn line) t a f h) (runs_fit (held_after s x (askedIn line) t a f h) r)
+    and_then (answer-fits s x.layout.sized x.layout.number (asked_in line) t a f h) (runs_fit (held_after s x (asked_in line) t a f h) r)
 
 pub started-held : Held started
-unfolding zeroLayout
+unfolding zero_layout
 started-held =
-    let zero : Typed zeroLayout = record { sized = zero-sized; number = omega arith } in record { layout = zero; kept = zero }
+    let zero : Typed zero_layout = record { sized = zero-sized; number = omega arith } in record { layout = zero; kept = zero }
 
 -- THE LAW: all answers to an input, however it is cut into chunks
-pub counter-fits : {cs : List (List ℕ)} {xs : List Answer} {e : Listener} {r : Turn} → Served startListener cs xs e → (z : Ends e r)
+pub counter-fits : {cs : List (List ℕ)} {xs : List Answer} {e : Listener} {r : Turn} → Served start_listener cs xs e → (z : Ends e r)
     → Each AnswerFits (xs ++ z.turned.answers)
 counter-fits q z = runs_fit started-held (input-run q z)

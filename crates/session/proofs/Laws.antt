@@ -11,16 +11,16 @@ use borrow.Author.Tests.{ltb-false}
 use Rattle.lines.specs.declared.stream.Pending.{Pending}
 use Rattle.lines.specs.declared.stream.Event.{Event}
 use Rattle.lines.specs.declared.stream.Event.TheVariants.{Whole, Long, More}
-use Rattle.lines.specs.Lines.{newlineFrom, charsAt}
-use Rattle.lines.specs.Text.{Line, lines_of, joinedLines}
-use Rattle.lines.specs.Stream.{empty, adds, take_of, Fed, still, followed, fedWith, feed, feeds, linesGiven}
+use Rattle.lines.specs.Lines.{newline_from, chars_at}
+use Rattle.lines.specs.Text.{Line, lines_of, joined_lines}
+use Rattle.lines.specs.Stream.{empty, adds, take_of, Fed, still, followed, fed_with, feed, feeds, lines_given}
 use Rattle.lines.proofs.Cuts.{feed-step, feed-none, lines-given, cut-anyhow}
 use Rattle.frames.specs.Answers.{Answer}
 use Rattle.session.specs.declared.Session.{Session}
 use Rattle.session.specs.declared.listener.Listener.{Listener}
 use Rattle.session.specs.declared.listener.Turn.{Turn}
 use Rattle.session.specs.Session.{started}
-use Rattle.session.specs.Listener.{RunsBy, Runs, none, more, startListener, oneStep, Ends, Turns, Served}
+use Rattle.session.specs.Listener.{RunsBy, Runs, none, more, start_listener, one_step, Ends, Turns, Served}
 use Rattle.session.specs.Listener as listener
 
 -- ---- runs, whatever a line asks and what is asked gives
@@ -41,20 +41,20 @@ module _ {Q A : Type 0} {asked : Line → Q} {Gives : Session → Q → Session 
 -- with no newline the step ends at the chunk's end
 to_the_end : (p : Pending) (chunk : List ℕ) (at : ℕ) → (take_of p chunk at).event ≡ More → length chunk ≤ (take_of p chunk at).next
 unfolding take_of
-to_the_end p chunk at h = go (ltb n (length chunk)) (adds p (charsAt chunk at)).over refl h
+to_the_end p chunk at h = go (ltb n (length chunk)) (adds p (chars_at chunk at)).over refl h
   where
     n : ℕ
-    n = newlineFrom chunk at
+    n = newline_from chunk at
 
-    go : (b o : Bool) → ltb (newlineFrom chunk at) (length chunk) ≡ b → cond b (cond o Long Whole) More ≡ More
-        → length chunk ≤ cond b (newlineFrom chunk at + 1) (newlineFrom chunk at)
+    go : (b o : Bool) → ltb (newline_from chunk at) (length chunk) ≡ b → cond b (cond o Long Whole) More ≡ More
+        → length chunk ≤ cond b (newline_from chunk at + 1) (newline_from chunk at)
     go true true e h = let z : ◌≡◌ {A = ℕ} 0 1 = cc in absurd (omega arith)
     go true false e h = let z : ◌≡◌ {A = ℕ} 0 1 = cc in absurd (omega arith)
-    go false o e h = ltb-false (newlineFrom chunk at) (length chunk) e
+    go false o e h = ltb-false (newline_from chunk at) (length chunk) e
 
 step_then : (v : Event) (q : Pending) (rest : List ℕ) → (v ≡ More → feed q rest ≡ still q)
-    → fedWith v q (feed empty rest) ≡ followed (fedWith v q (still empty)) (feed (fedWith v q (still empty)).left rest)
-unfolding fedWith
+    → fed_with v q (feed empty rest) ≡ followed (fed_with v q (still empty)) (feed (fed_with v q (still empty)).left rest)
+unfolding fed_with
 step_then Whole q rest h = refl
 step_then Long q rest h = refl
 step_then More q rest h = sym (h refl)
@@ -62,7 +62,7 @@ step_then More q rest h = sym (h refl)
 -- what is left of a chunk gives what one step gives, and then what is left after it
 turn-feed : (p : Pending) (chunk : List ℕ) (at : ℕ)
     → feed p (drop at chunk)
-    ≡ followed (oneStep p chunk at) (feed (oneStep p chunk at).left (drop (take_of p chunk at).next chunk))
+    ≡ followed (one_step p chunk at) (feed (one_step p chunk at).left (drop (take_of p chunk at).next chunk))
 turn-feed p chunk at =
     let t = take_of p chunk at in
     feed-step p chunk at
@@ -96,19 +96,19 @@ served-run (listener.Served.go t q) =
 -- ---- the whole input
 
 -- THE LAW: the chunks of an input, whatever they are, and then its end give one answer to each line of the text that they make
-pub input-run : {cs : List (List ℕ)} {xs : List Answer} {e : Listener} {r : Turn} → Served startListener cs xs e → (z : Ends e r)
-    → Runs started (lines_of (joinedLines cs)) (xs ++ z.turned.answers) r.listener.session
-unfolding linesGiven
+pub input-run : {cs : List (List ℕ)} {xs : List Answer} {e : Listener} {r : Turn} → Served start_listener cs xs e → (z : Ends e r)
+    → Runs started (lines_of (joined_lines cs)) (xs ++ z.turned.answers) r.listener.session
+unfolding lines_given
 input-run {cs} q z =
     let a = served-run q in
     rw (← lines-given cs, ← a.pending) (runs_on a.runs z.turned.runs)
 
 -- and those of two ways to cut a text agree
-pub cut-any-way : {s u : Session} {xs : List Answer} (cs ds : List (List ℕ)) → joinedLines cs ≡ joinedLines ds → Runs s (linesGiven cs) xs u
-    → Runs s (linesGiven ds) xs u
+pub cut-any-way : {s u : Session} {xs : List Answer} (cs ds : List (List ℕ)) → joined_lines cs ≡ joined_lines ds → Runs s (lines_given cs) xs u
+    → Runs s (lines_given ds) xs u
 cut-any-way cs ds e r = rw (← cut-anyhow cs ds e) r
 
 -- as many answers as lines
-pub answers-given : {cs : List (List ℕ)} {xs : List Answer} {e : Listener} {r : Turn} → Served startListener cs xs e → (z : Ends e r)
-    → length (xs ++ z.turned.answers) ≡ length (lines_of (joinedLines cs))
+pub answers-given : {cs : List (List ℕ)} {xs : List Answer} {e : Listener} {r : Turn} → Served start_listener cs xs e → (z : Ends e r)
+    → length (xs ++ z.turned.answers) ≡ length (lines_of (joined_lines cs))
 answers-given q z = one_each (input-run q z)

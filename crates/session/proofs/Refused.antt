@@ -13,21 +13,21 @@ use Rattle.layout.specs.declared.open.OpenOutcome.TheVariants as openings
 use Rattle.layout.specs.declared.replies.Outcome.{Outcome}
 use Rattle.layout.specs.declared.replies.Outcome.TheVariants as outcomes
 use Rattle.layout.specs.declared.remove.Removed.{Removed}
-use Rattle.layout.specs.Check.{limit, soundB}
-use Rattle.layout.specs.Asked.{freePieceOf}
-use Rattle.layout.specs.Open.{openOf}
-use Rattle.layout.specs.Restore.{restoreOf}
+use Rattle.layout.specs.Check.{limit, sound_b}
+use Rattle.layout.specs.Asked.{free_piece_of}
+use Rattle.layout.specs.Open.{open_of}
+use Rattle.layout.specs.Restore.{restore_of}
 use Rattle.layout.proofs.Inserted.{refused-as-it-came}
 use Rattle.layout.proofs.Gone.{remove-refused}
 use Rattle.layout.proofs.Refusals.{refused-restore, insert-unsound, remove-unsound, restore-unsound, snapshot-unsound}
-use Rattle.questions.specs.Answers.{offersCall}
+use Rattle.questions.specs.Answers.{offers_call}
 use Rattle.frames.specs.declared.Ask.TheVariants.{Open, Offers, Insert, Remove, Report}
 use Rattle.frames.specs.declared.Request.{Request}
 use Rattle.frames.specs.declared.Request.TheVariants.{OfLayout, Keep, Restore, Malformed}
 use Rattle.frames.specs.Answers.{Answer, refused}
 use Rattle.session.specs.declared.Session.{Session}
-use Rattle.session.specs.Session.{Reply, reply, answerBy, withLayout, openedBy, keptBy, op_of}
-use Rattle.session.specs.Session.{afterOpen, afterOffers, afterInsert, afterRemove, afterKeep, afterRestore, afterReport, Answers}
+use Rattle.session.specs.Session.{Reply, reply, answer_by, with_layout, opened_by, kept_by, op_of}
+use Rattle.session.specs.Session.{after_open, after_offers, after_insert, after_remove, after_keep, after_restore, after_report, Answers}
 use Rattle.session.specs.Replies.{refusal}
 
 -- ---- where the answer is a refusal, the state is as it was
@@ -40,24 +40,24 @@ not-accepted refuses accepts h =
 
 -- of an opening, of keep, and of a call that hands a layout back
 module _ {s t : Session} {a : Answer} (refuses : refusal a ≡ true) where
-  by-opening : (l : Layout) (o : OpenOutcome) → reply t a ≡ openedBy s l o → t ≡ s
+  by-opening : (l : Layout) (o : OpenOutcome) → reply t a ≡ opened_by s l o → t ≡ s
   by-opening l (openings.Free m) h = absurd (not-accepted refuses refl h)
   by-opening l (openings.Refused f) h = ap (λ (r : Reply). r.session) h
 
-  by-keeping : (b : Bool) → reply t a ≡ keptBy s b → t ≡ s
+  by-keeping : (b : Bool) → reply t a ≡ kept_by s b → t ≡ s
   by-keeping true h = absurd (not-accepted refuses refl h)
   by-keeping false h = ap (λ (r : Reply). r.session) h
 
   -- the answer to an acceptance is no refusal, and a call that refuses hands the layout back as it was
   by-outcome : (l : Layout) (k : ℕ) (b : Answer) (o : Outcome) → refusal b ≡ false → ((f : Refusal) → o ≡ outcomes.Refused f → l ≡ s.layout)
-      → reply t a ≡ reply (withLayout s l) (answerBy k b o) → t ≡ s
+      → reply t a ≡ reply (with_layout s l) (answer_by k b o) → t ≡ s
   by-outcome l k b outcomes.Done accepts same h = absurd (not-accepted refuses accepts h)
-  by-outcome l k b (outcomes.Refused f) accepts same h = ap (λ (r : Reply). r.session) h ∙ ap (withLayout s) (same f refl)
+  by-outcome l k b (outcomes.Refused f) accepts same h = ap (λ (r : Reply). r.session) h ∙ ap (with_layout s) (same f refl)
 
 pub refused-stays : (s : Session) (q : Request) {t : Session} (a : Answer) → refusal a ≡ true → Answers s q t a → t ≡ s
-unfolding Answers afterOpen afterOffers afterInsert afterRemove afterKeep afterRestore afterReport
+unfolding Answers after_open after_offers after_insert after_remove after_keep after_restore after_report
 refused-stays s (OfLayout (Open o)) a e h =
-    let d = openOf o in by-opening e d.layout d.outcome h
+    let d = open_of o in by-opening e d.layout d.outcome h
 refused-stays s (OfLayout (Offers mark part)) a e h = ap (λ (r : Reply). r.session) h
 refused-stays s (OfLayout (Insert m p r f)) a e h =
     by-outcome e h.0.layout 3 _ h.0.outcome refl (refused-as-it-came s.layout m p r f h.0 h.1) h.2
@@ -65,9 +65,9 @@ refused-stays s (OfLayout (Remove m)) a e h =
     by-outcome e h.0.layout 4 _ h.0.outcome refl
     (λ x o. ap (λ (r : Removed). r.layout) (remove-refused s.layout m limit h.0 h.1 x o).1) h.2
 refused-stays s (OfLayout Report) a e h = ap (λ (r : Reply). r.session) h
-refused-stays s Keep a e h = by-keeping e (soundB s.layout) h
+refused-stays s Keep a e h = by-keeping e (sound_b s.layout) h
 refused-stays s Restore a e h =
-    let d = restoreOf s.layout s.kept in by-outcome e d.layout 6 _ d.outcome refl (refused-restore s.layout s.kept) h
+    let d = restore_of s.layout s.kept in by-outcome e d.layout 6 _ d.outcome refl (refused-restore s.layout s.kept) h
 refused-stays s Malformed a e h = ap (λ (r : Reply). r.session) h
 
 -- ---- refusal 1, of a layout and of a snapshot
@@ -77,23 +77,23 @@ as-op : {r : Reply} {n op : ℕ} (s : Session) → some n ≡ some op → r ≡ 
 as-op {n = n} {op = op} s o e = let same : n ≡ op = cc in e ∙ ap (λ (x : ℕ). reply s (refused x NotSound)) same
 
 -- of a layout
-pub unsound-refused : (s : Session) (q : Request) (op : ℕ) → op_of q ≡ some op → soundB s.layout ≡ false → (t : Session) (a : Answer)
+pub unsound-refused : (s : Session) (q : Request) (op : ℕ) → op_of q ≡ some op → sound_b s.layout ≡ false → (t : Session) (a : Answer)
     → Answers s q t a → reply t a ≡ reply s (refused op NotSound)
-unfolding Answers offersCall freePieceOf afterOffers afterInsert afterRemove afterKeep afterRestore afterReport
+unfolding Answers offers_call free_piece_of after_offers after_insert after_remove after_keep after_restore after_report
 unsound-refused s (OfLayout (Open o)) op looks unsound t a h = let z : ◌≡◌ {A = ℕ} 0 1 = cc in absurd (omega arith)
 unsound-refused s (OfLayout (Offers m p)) op looks unsound t a h = as-op s looks (rw unsound at h)
 unsound-refused s (OfLayout (Insert m p r f)) op looks unsound t a h =
-    as-op s looks (h.2 ∙ ap (afterInsert s) (insert-unsound s.layout unsound m p r f h.0 h.1))
+    as-op s looks (h.2 ∙ ap (after_insert s) (insert-unsound s.layout unsound m p r f h.0 h.1))
 unsound-refused s (OfLayout (Remove m)) op looks unsound t a h =
-    as-op s looks (h.2 ∙ ap (afterRemove s m) (remove-unsound s.layout unsound m limit h.0 h.1))
+    as-op s looks (h.2 ∙ ap (after_remove s m) (remove-unsound s.layout unsound m limit h.0 h.1))
 unsound-refused s (OfLayout Report) op looks unsound t a h = as-op s looks (rw unsound at h)
 unsound-refused s Keep op looks unsound t a h = as-op s looks (rw unsound at h)
 unsound-refused s Restore op looks unsound t a h =
-    as-op s looks (h ∙ ap (afterRestore s) (restore-unsound s.layout unsound s.kept))
+    as-op s looks (h ∙ ap (after_restore s) (restore-unsound s.layout unsound s.kept))
 unsound-refused s Malformed op looks unsound t a h = let z : ◌≡◌ {A = ℕ} 0 1 = cc in absurd (omega arith)
 
 -- and of a snapshot, whatever the layout is
-pub unsound-kept-refused : (s : Session) → soundB s.kept ≡ false → (t : Session) (a : Answer) → Answers s Restore t a
+pub unsound-kept-refused : (s : Session) → sound_b s.kept ≡ false → (t : Session) (a : Answer) → Answers s Restore t a
     → reply t a ≡ reply s (refused 6 NotSound)
-unfolding Answers afterRestore
-unsound-kept-refused s unsound t a h = h ∙ ap (afterRestore s) (snapshot-unsound s.kept unsound s.layout)
+unfolding Answers after_restore
+unsound-kept-refused s unsound t a h = h ∙ ap (after_restore s) (snapshot-unsound s.kept unsound s.layout)

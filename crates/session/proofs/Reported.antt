@@ -7,16 +7,16 @@ use native.Mathlib.Omega.{arith}
 use lib.Dec.{T}
 use lib.Ieee.{Float, binary64, to_bits, is_nan}
 use Rattle.piece.specs.Sides.{area}
-use Rattle.tree.specs.Figures.{partArea, sheetUsage}
+use Rattle.tree.specs.Figures.{part_area, sheet_usage}
 use Rattle.marks.specs.declared.Refusal.{Refusal}
 use Rattle.marks.specs.declared.Refusal.TheVariants.{NotSound}
 use Rattle.layout.specs.declared.layout.Layout.{Layout}
-use Rattle.layout.specs.Check.{tree, soundB}
+use Rattle.layout.specs.Check.{tree, sound_b}
 use Rattle.layout.specs.SoundLayout.{Sized}
 use Rattle.layout.proofs.Exactly.{sound-says}
 use Rattle.questions.specs.declared.replies.UsageAnswer.{UsageAnswer}
 use Rattle.questions.specs.declared.replies.UsageAnswer.TheVariants.{Usage, Refused}
-use Rattle.questions.specs.Answers.{sheetUsageOf}
+use Rattle.questions.specs.Answers.{sheet_usage_of}
 use Rattle.questions.proofs.Usage.{sheet-usage-number}
 use Rattle.frames.specs.Answers.{refused, reported}
 use Rattle.frames.specs.declared.Ask.TheVariants.{Report}
@@ -26,20 +26,20 @@ use Rattle.session.specs.Replies.{Replies}
 use Rattle.session.proofs.Ways.{report-gives}
 
 abbrev usage : Layout → Float
-usage l = sheetUsage (partArea (tree l)) (area l.settings.sheet)
+usage l = sheet_usage (part_area (tree l)) (area l.settings.sheet)
 
-module _ (l : Layout) {u : UsageAnswer} (e : u ≡ sheetUsageOf l) where
-  answered : {x : Float} → u ≡ Usage x → (soundB l ≡ true) × (x ≡ usage l)
-  unfolding sheetUsageOf
-  answered {x} h = go (soundB l) (sym h ∙ e)
+module _ (l : Layout) {u : UsageAnswer} (e : u ≡ sheet_usage_of l) where
+  answered : {x : Float} → u ≡ Usage x → (sound_b l ≡ true) × (x ≡ usage l)
+  unfolding sheet_usage_of
+  answered {x} h = go (sound_b l) (sym h ∙ e)
     where
       go : (b : Bool) → Usage x ≡ cond b (Usage (usage l)) (Refused NotSound) → (b ≡ true) × (x ≡ usage l)
       go true f = (refl, cc)
       go false f = let z : ◌≡◌ {A = ℕ} 0 1 = cc in absurd (omega arith)
 
-  unsound : {y : Refusal} → u ≡ Refused y → (soundB l ≡ false) × (y ≡ NotSound)
-  unfolding sheetUsageOf
-  unsound {y} h = go (soundB l) (sym h ∙ e)
+  unsound : {y : Refusal} → u ≡ Refused y → (sound_b l ≡ false) × (y ≡ NotSound)
+  unfolding sheet_usage_of
+  unsound {y} h = go (sound_b l) (sym h ∙ e)
     where
       go : (b : Bool) → Refused y ≡ cond b (Usage (usage l)) (Refused NotSound) → (b ≡ false) × (y ≡ NotSound)
       go true f = let z : ◌≡◌ {A = ℕ} 0 1 = cc in absurd (omega arith)

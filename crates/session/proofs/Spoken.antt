@@ -6,8 +6,8 @@ use native.Mathlib.Nat.{mul-suc}
 use native.Mathlib.Omega.{arith}
 use lib.ListN.{length, take, drop, replicate, length-append, length-replicate}
 use lib.Seq.{sets, sets-eq, take_at}
-use Rattle.frames.specs.Bytes.{charsOf, checkOf, framed}
-use Rattle.frames.specs.Answers.{Answer, each, contentOf, answerLine}
+use Rattle.frames.specs.Bytes.{chars_of, check_of, framed}
+use Rattle.frames.specs.Answers.{Answer, each, content_of, answer_line}
 use Rattle.frames.specs.Writing.{AnswerPut}
 use Rattle.frames.proofs.Lists.{length-chars}
 use Rattle.session.specs.Session.{longest, Says}
@@ -18,11 +18,11 @@ take-sets vs l n e h =
     ap (take n) (sets-eq vs l 0 (omega arith)) ∙ take_at vs (drop (0 + length vs) l) n e
 
 -- two characters a byte, the check's among them, and a newline
-pub length-line : (a : Answer) → length (answerLine a) ≡ 2 * length (contentOf a) + 3
+pub length-line : (a : Answer) → length (answer_line a) ≡ 2 * length (content_of a) + 3
 length-line a =
-    let bs = contentOf a in
+    let bs = content_of a in
     let content = framed bs in
-    omega (arith, length-append (charsOf content) (10 ∷ []), length-chars content, length-append bs (checkOf bs ∷ []))
+    omega (arith, length-append (chars_of content) (10 ∷ []), length-chars content, length-append bs (check_of bs ∷ []))
 
 -- at most n entries of a list, k bytes each
 module _ {A : Type 0} (bytes : A → List ℕ) (k : ℕ) (same : (x : A) → length (bytes x) ≡ k) where
@@ -34,14 +34,14 @@ module _ {A : Type 0} (bytes : A → List ℕ) (k : ℕ) (same : (x : A) → len
       omega (arith, length-append (bytes x) (each bytes (take n xs)), same x, each-most xs n, mul-suc k n)
 
 -- what `write` left in a line of zeros
-pub said : {line : List ℕ} {n : ℕ} (a : Answer) → 2 * length (contentOf a) + 3 ≤ longest → AnswerPut (replicate longest 0) a line n
+pub said : {line : List ℕ} {n : ℕ} (a : Answer) → 2 * length (content_of a) + 3 ≤ longest → AnswerPut (replicate longest 0) a line n
     → Says a (record { line = line; count = n })
 said {line} {n} a room w =
     record {
       count = w.count;
       written =
           ap (take n) w.line
-          ∙ take-sets (answerLine a) (replicate longest 0) n (sym w.count)
+          ∙ take-sets (answer_line a) (replicate longest 0) n (sym w.count)
           (omega (arith, w.count, length-line a, length-replicate {A = ℕ} longest 0));
       padded = w.line;
     }

@@ -10,13 +10,13 @@ use Rattle.layout.proofs.Determined.{only}
 use Rattle.lines.specs.Stream.{Fed}
 use Rattle.frames.specs.declared.Request.{Request}
 use Rattle.frames.specs.declared.Request.TheVariants.{Malformed}
-use Rattle.frames.specs.Requests.{requestOf}
+use Rattle.frames.specs.Requests.{request_of}
 use Rattle.session.specs.declared.Session.{Session}
 use Rattle.session.specs.declared.Stepped.{Stepped}
 use Rattle.session.specs.declared.listener.Listener.{Listener}
 use Rattle.session.specs.declared.listener.Turn.{Turn}
 use Rattle.session.specs.Session.{Reply, Says, Steps, longest, started}
-use Rattle.session.specs.Listener.{Ends, Takes, Turned, startListener, text_of}
+use Rattle.session.specs.Listener.{Ends, Takes, Turned, start_listener, text_of}
 use Rattle.session.proofs.Decided.{answers-once, runs-once, same-said}
 
 -- ---- Session
@@ -34,15 +34,15 @@ asked-is-one s q r p x y =
     let same = same-said (ap (λ (w : Reply). w.answer) e) (said x) (said y) in
     λ i. record { session = (e i).session; line = (same i).line; count = (same i).count }
 
-pub step-is-one : (s : Session) (line : List ℕ) (r p : Stepped) → Steps s (requestOf line) r → Steps s (requestOf line) p → r ≡ p
-step-is-one s line = asked-is-one s (requestOf line)
+pub step-is-one : (s : Session) (line : List ℕ) (r p : Stepped) → Steps s (request_of line) r → Steps s (request_of line) p → r ≡ p
+step-is-one s line = asked-is-one s (request_of line)
 
 pub malformed-is-one : (s : Session) (r p : Stepped) → Steps s Malformed r → Steps s Malformed p → r ≡ p
 malformed-is-one s = asked-is-one s Malformed
 
 -- ---- Listener
 
-pub listener-start-is-one : (r p : Listener) → r ≡ startListener → p ≡ startListener → r ≡ p
+pub listener-start-is-one : (r p : Listener) → r ≡ start_listener → p ≡ start_listener → r ≡ p
 listener-start-is-one = only
 
 -- the same lines were answered, and the chunk goes on at the same position

@@ -5,11 +5,11 @@ use Rattle.std.specs.Prelude.{◌≡◌, List, [], ◌∷◌, ◌++◌, ℕ, ◌
 use Rattle.std.proofs.lemmas.List.Edits.{sets}
 use Rattle.lines.specs.declared.stream.Pending.{Pending}
 use Rattle.lines.specs.Text.{Line, whole, long, cut}
-use Rattle.lines.specs.Stream.{empty, take_of, Fed, still, fedWith, ended}
+use Rattle.lines.specs.Stream.{empty, take_of, Fed, still, fed_with, ended}
 use Rattle.frames.specs.declared.Request.{Request}
 use Rattle.frames.specs.declared.Request.TheVariants.{Malformed}
-use Rattle.frames.specs.Requests.{requestOf}
-use Rattle.frames.specs.Answers.{Answer, each, answerLine}
+use Rattle.frames.specs.Requests.{request_of}
+use Rattle.frames.specs.Answers.{Answer, each, answer_line}
 use Rattle.session.specs.declared.Session.{Session}
 use Rattle.session.specs.declared.Stepped.{Stepped}
 use Rattle.session.specs.declared.listener.Listener.{Listener}
@@ -17,10 +17,10 @@ use Rattle.session.specs.declared.listener.Turn.{Turn}
 use Rattle.session.specs.Session.{Answers, started, longest}
 
 -- what a line asks
-abbrev pub askedIn : Line → Request
-askedIn (whole chars) = requestOf chars
-askedIn long = Malformed
-askedIn cut = Malformed
+abbrev pub asked_in : Line → Request
+asked_in (whole chars) = request_of chars
+asked_in long = Malformed
+asked_in cut = Malformed
 
 -- the lines, one after another, each with its answer, take the state s to the state u: where a line asks as `asked` says, and what is asked gives a state and
 -- an answer as `Gives` says
@@ -31,14 +31,14 @@ pub data RunsBy {Q A : Type 0} (asked : Line → Q) (Gives : Session → Q → S
 
 -- at the counter
 abbrev pub Runs : Session → List Line → List Answer → Session → Type 0
-Runs s lines answers u = RunsBy askedIn Answers s lines answers u
+Runs s lines answers u = RunsBy asked_in Answers s lines answers u
 
 -- what answers look like on the output: their lines, one after another
 abbrev pub text_of : List Answer → List ℕ
-text_of xs = each answerLine xs
+text_of xs = each answer_line xs
 
-abbrev pub startListener : Listener
-startListener = record { session = started; pending = empty }
+abbrev pub start_listener : Listener
+start_listener = record { session = started; pending = empty }
 
 -- a turn with an answer, after which nothing is pending; and one without
 abbrev pub spoken : Stepped → ℕ → Turn
@@ -57,22 +57,22 @@ pub record Turned (d : Listener) (f : Fed) (r : Turn) : Type 0 where
   pub padded : r.line ≡ sets (replicate longest 0) 0 (text_of answers)
 
 -- the line, if one has become whole, of one step from a position of a chunk, and what is pending then: nothing after a line
-abbrev pub oneStep : Pending → List ℕ → ℕ → Fed
-oneStep p chunk at = fedWith (take_of p chunk at).event (take_of p chunk at).pending (still empty)
+abbrev pub one_step : Pending → List ℕ → ℕ → Fed
+one_step p chunk at = fed_with (take_of p chunk at).event (take_of p chunk at).pending (still empty)
 
 -- at the end of the input: a last line that lacks its newline, and nothing is pending
-abbrev pub lastStep : Pending → Fed
-lastStep p = record { lines = ended p; left = empty }
+abbrev pub last_step : Pending → Fed
+last_step p = record { lines = ended p; left = empty }
 
 -- what `turn` says
 pub record Takes (d : Listener) (chunk : List ℕ) (at : ℕ) (r : Turn) : Type 0 where
   pub next : r.next ≡ (take_of d.pending chunk at).next
-  pub turned : Turned d (oneStep d.pending chunk at) r
+  pub turned : Turned d (one_step d.pending chunk at) r
 
 -- what `end` says
 pub record Ends (d : Listener) (r : Turn) : Type 0 where
   pub next : r.next ≡ 0
-  pub turned : Turned d (lastStep d.pending) r
+  pub turned : Turned d (last_step d.pending) r
 
 -- turns over a chunk, from a position to its end, with their answers
 pub data Turns (chunk : List ℕ) : Listener → ℕ → List Answer → Listener → Type 0 where

@@ -2,7 +2,7 @@
 -- layout takes its place. Rests on specs/Session.
 use Rattle.std.specs.Prelude.{◌≡◌, Bool, true, false, cond}
 use Rattle.layout.specs.declared.layout.Layout.{Layout}
-use Rattle.layout.specs.Check.{soundB}
+use Rattle.layout.specs.Check.{sound_b}
 use Rattle.frames.specs.declared.Ask.{Ask}
 use Rattle.frames.specs.declared.Request.{Request}
 use Rattle.frames.specs.declared.Request.TheVariants.{OfLayout, Keep, Restore, Malformed}
@@ -15,18 +15,18 @@ use Rattle.session.specs.declared.replies.Keeping.{Keeping}
 use Rattle.session.specs.Session.{Answers, Says}
 
 -- what is kept afterwards: keep alone changes it, where the layout is sound
-abbrev pub keptIn : Session → Request → Layout
-keptIn s (OfLayout ask) = s.kept
-keptIn s Keep = cond (soundB s.layout) s.layout s.kept
-keptIn s Restore = s.kept
-keptIn s Malformed = s.kept
+abbrev pub kept_in : Session → Request → Layout
+kept_in s (OfLayout ask) = s.kept
+kept_in s Keep = cond (sound_b s.layout) s.layout s.kept
+kept_in s Restore = s.kept
+kept_in s Malformed = s.kept
 
 abbrev pub both : Layout → Layout → Session
 both l kept = record { layout = l; kept = kept }
 
 -- the state s, and what is said
-abbrev pub stepTo : Session → Said → Stepped
-stepTo s said = record { session = s; line = said.line; count = said.count }
+abbrev pub step_to : Session → Said → Stepped
+step_to s said = record { session = s; line = said.line; count = said.count }
 
 -- an answer that says no: a number, or malformed, which is 14
 abbrev pub refusal : Answer → Bool
@@ -48,9 +48,9 @@ pub record Replies (l : Layout) (ask : Ask) (r : Response) : Type 0 where
 
 -- keep, at the layout l: where that is sound it takes the place of whatever is kept
 pub record Keeps (l : Layout) (r : Keeping) : Type 0 where
-  pub sound : r.sound ≡ soundB l
+  pub sound : r.sound ≡ sound_b l
   pub answer : Answer
-  pub answers : (kept : Layout) → Answers (both l kept) Keep (both l (cond (soundB l) l kept)) answer
+  pub answers : (kept : Layout) → Answers (both l kept) Keep (both l (cond (sound_b l) l kept)) answer
   pub says : Says answer r.said
 
 -- restore, at the layout l

@@ -8,7 +8,7 @@ use Rattle.std.proofs.lemmas.List.Edits.{sets}
 use Rattle.piece.specs.declared.insertion_option.OfferList.{OfferList}
 use Rattle.piece.specs.Sides.{area}
 use Rattle.tree.specs.Tree.{count}
-use Rattle.tree.specs.Figures.{partArea, sheetUsage}
+use Rattle.tree.specs.Figures.{part_area, sheet_usage}
 use Rattle.marks.specs.declared.Mark.{Mark}
 use Rattle.marks.specs.declared.Refusal.TheVariants.{NotSound}
 use Rattle.booking.specs.declared.new_marks.NewMarks.{NewMarks}
@@ -21,27 +21,27 @@ use Rattle.layout.specs.declared.replies.Outcome.TheVariants as outcomes
 use Rattle.layout.specs.declared.insert.Inserted.{Inserted}
 use Rattle.layout.specs.declared.remove.Removed.{Removed}
 use Rattle.layout.specs.declared.restore.Restored.{Restored}
-use Rattle.layout.specs.Check.{limit, tree, soundB}
-use Rattle.layout.specs.Zero.{zeroLayout}
-use Rattle.layout.specs.Open.{openOf}
+use Rattle.layout.specs.Check.{limit, tree, sound_b}
+use Rattle.layout.specs.Zero.{zero_layout}
+use Rattle.layout.specs.Open.{open_of}
 use Rattle.layout.specs.Insert.{InsertSays}
-use Rattle.layout.specs.Remove.{RemoveSays, numbersOut}
-use Rattle.layout.specs.Restore.{restoreOf}
+use Rattle.layout.specs.Remove.{RemoveSays, numbers_out}
+use Rattle.layout.specs.Restore.{restore_of}
 use Rattle.questions.specs.declared.replies.OffersAnswer.{OffersAnswer}
-use Rattle.questions.specs.Answers.{offersCall}
+use Rattle.questions.specs.Answers.{offers_call}
 use Rattle.frames.specs.declared.Ask.TheVariants.{Open, Offers, Insert, Remove, Report}
 use Rattle.frames.specs.declared.Request.{Request}
 use Rattle.frames.specs.declared.Request.TheVariants.{OfLayout, Keep, Restore, Malformed}
-use Rattle.frames.specs.Answers.{Answer, refused, opened, offered, inserted, removed, done, reported, malformed, answerLine}
+use Rattle.frames.specs.Answers.{Answer, refused, opened, offered, inserted, removed, done, reported, malformed, answer_line}
 use Rattle.session.specs.declared.Session.{Session}
 use Rattle.session.specs.declared.Stepped.{Stepped}
 use Rattle.session.specs.declared.replies.Said.{Said}
 
 abbrev pub started : Session
-started = record { layout = zeroLayout; kept = zeroLayout }
+started = record { layout = zero_layout; kept = zero_layout }
 
-abbrev pub withLayout : Session → Layout → Session
-withLayout s l = record { layout = l; kept = s.kept }
+abbrev pub with_layout : Session → Layout → Session
+with_layout s l = record { layout = l; kept = s.kept }
 
 -- the state afterwards, and the answer
 pub record Reply : Type 0 where
@@ -52,71 +52,71 @@ abbrev pub reply : Session → Answer → Reply
 reply s a = record { session = s; answer = a }
 
 -- the op's answer where the call accepts, and its refusal where it does not
-abbrev pub answerBy : ℕ → Answer → Outcome → Answer
-answerBy op a outcomes.Done = a
-answerBy op a (outcomes.Refused e) = refused op e
+abbrev pub answer_by : ℕ → Answer → Outcome → Answer
+answer_by op a outcomes.Done = a
+answer_by op a (outcomes.Refused e) = refused op e
 
 -- a refused opening: "`counter` then keeps what it had"; the kept layout outlives openings
-abbrev pub openedBy : Session → Layout → OpenOutcome → Reply
-openedBy s l (openings.Free m) = reply (withLayout s l) (opened m)
-openedBy s l (openings.Refused e) = reply s (refused 1 e)
+abbrev pub opened_by : Session → Layout → OpenOutcome → Reply
+opened_by s l (openings.Free m) = reply (with_layout s l) (opened m)
+opened_by s l (openings.Refused e) = reply s (refused 1 e)
 
-unfoldable pub afterOpen : Session → Opened → Reply
-afterOpen s o = openedBy s o.layout o.outcome
+unfoldable pub after_open : Session → Opened → Reply
+after_open s o = opened_by s o.layout o.outcome
 
 -- "count; rotation and shape each"
-abbrev pub offersSaid : OfferList → Answer
-offersSaid o = offered (take o.count o.list)
+abbrev pub offers_said : OfferList → Answer
+offers_said o = offered (take o.count o.list)
 
-unfoldable pub afterOffers : Session → OffersAnswer → Reply
-afterOffers s o = reply s (answerBy 2 (offersSaid o.offers) o.outcome)
+unfoldable pub after_offers : Session → OffersAnswer → Reply
+after_offers s o = reply s (answer_by 2 (offers_said o.offers) o.outcome)
 
 -- "marks of first node and part; count; free marks in creation order"
-abbrev pub marksSaid : NewMarks → Answer
-marksSaid n = inserted n.first n.part (take n.count n.frees)
+abbrev pub marks_said : NewMarks → Answer
+marks_said n = inserted n.first n.part (take n.count n.frees)
 
-unfoldable pub afterInsert : Session → Inserted → Reply
-afterInsert s i = reply (withLayout s i.layout) (answerBy 3 (marksSaid i.marks) i.outcome)
+unfoldable pub after_insert : Session → Inserted → Reply
+after_insert s i = reply (with_layout s i.layout) (answer_by 3 (marks_said i.marks) i.outcome)
 
 -- "new free mark; count; part numbers"
-abbrev pub numbersSaid : Session → Mark → Removed → Answer
-numbersSaid s m r = removed r.free (numbersOut s.layout m.place)
+abbrev pub numbers_said : Session → Mark → Removed → Answer
+numbers_said s m r = removed r.free (numbers_out s.layout m.place)
 
-unfoldable pub afterRemove : Session → Mark → Removed → Reply
-afterRemove s m r = reply (withLayout s r.layout) (answerBy 4 (numbersSaid s m r) r.outcome)
+unfoldable pub after_remove : Session → Mark → Removed → Reply
+after_remove s m r = reply (with_layout s r.layout) (answer_by 4 (numbers_said s m r) r.outcome)
 
 -- "keep is refused with 1 on a layout that isn't sound"
-abbrev pub keptBy : Session → Bool → Reply
-keptBy s sound = cond sound (reply (record { layout = s.layout; kept = s.layout }) (done 5)) (reply s (refused 5 NotSound))
+abbrev pub kept_by : Session → Bool → Reply
+kept_by s sound = cond sound (reply (record { layout = s.layout; kept = s.layout }) (done 5)) (reply s (refused 5 NotSound))
 
-unfoldable pub afterKeep : Session → Reply
-afterKeep s = keptBy s (soundB s.layout)
+unfoldable pub after_keep : Session → Reply
+after_keep s = kept_by s (sound_b s.layout)
 
 -- the kept layout outlives restores
-unfoldable pub afterRestore : Session → Restored → Reply
-afterRestore s r = reply (withLayout s r.layout) (answerBy 6 (done 6) r.outcome)
+unfoldable pub after_restore : Session → Restored → Reply
+after_restore s r = reply (with_layout s r.layout) (answer_by 6 (done 6) r.outcome)
 
 -- "used area 8, nodes 1, sheet usage bits 8"
 abbrev pub figures : Layout → Answer
 figures l =
-    reported (partArea (tree l)) (count (tree l)) (to_bits binary64 (sheetUsage (partArea (tree l)) (area l.settings.sheet)))
+    reported (part_area (tree l)) (count (tree l)) (to_bits binary64 (sheet_usage (part_area (tree l)) (area l.settings.sheet)))
 
-abbrev pub reportBy : Layout → Bool → Answer
-reportBy l sound = cond sound (figures l) (refused 7 NotSound)
+abbrev pub report_by : Layout → Bool → Answer
+report_by l sound = cond sound (figures l) (refused 7 NotSound)
 
-unfoldable pub afterReport : Session → Reply
-afterReport s = reply s (reportBy s.layout (soundB s.layout))
+unfoldable pub after_report : Session → Reply
+after_report s = reply s (report_by s.layout (sound_b s.layout))
 
 -- THE RULE: the request q, in the state s, gives the state t and the answer a
 unfoldable pub Answers : Session → Request → Session → Answer → Type 0
-Answers s (OfLayout (Open o)) t a = reply t a ≡ afterOpen s (openOf o)
-Answers s (OfLayout (Offers mark part)) t a = reply t a ≡ afterOffers s (offersCall s.layout mark part)
+Answers s (OfLayout (Open o)) t a = reply t a ≡ after_open s (open_of o)
+Answers s (OfLayout (Offers mark part)) t a = reply t a ≡ after_offers s (offers_call s.layout mark part)
 Answers s (OfLayout (Insert mark part rotation shape)) t a =
-    (i : Inserted) × InsertSays s.layout mark part rotation shape i × (reply t a ≡ afterInsert s i)
-Answers s (OfLayout (Remove mark)) t a = (r : Removed) × RemoveSays s.layout mark limit r × (reply t a ≡ afterRemove s mark r)
-Answers s (OfLayout Report) t a = reply t a ≡ afterReport s
-Answers s Keep t a = reply t a ≡ afterKeep s
-Answers s Restore t a = reply t a ≡ afterRestore s (restoreOf s.layout s.kept)
+    (i : Inserted) × InsertSays s.layout mark part rotation shape i × (reply t a ≡ after_insert s i)
+Answers s (OfLayout (Remove mark)) t a = (r : Removed) × RemoveSays s.layout mark limit r × (reply t a ≡ after_remove s mark r)
+Answers s (OfLayout Report) t a = reply t a ≡ after_report s
+Answers s Keep t a = reply t a ≡ after_keep s
+Answers s Restore t a = reply t a ≡ after_restore s (restore_of s.layout s.kept)
 Answers s Malformed t a = reply t a ≡ reply s malformed
 
 -- the op of a request that looks at the layout: all but an opening, and what is malformed ("before all others")
@@ -135,19 +135,19 @@ abbrev pub longest : ℕ
 longest = 23 + 4 * (limit - 2)
 
 -- an answer's line as the code holds it: zero past its newline
-abbrev pub paddedLine : Answer → List ℕ
-paddedLine a = sets (replicate longest 0) 0 (answerLine a)
+abbrev pub padded_line : Answer → List ℕ
+padded_line a = sets (replicate longest 0) 0 (answer_line a)
 
 -- the answer a, as a line
 pub record Says (a : Answer) (r : Said) : Type 0 where
-  pub count : r.count ≡ length (answerLine a)
-  pub written : take r.count r.line ≡ answerLine a
-  pub padded : r.line ≡ paddedLine a
+  pub count : r.count ≡ length (answer_line a)
+  pub written : take r.count r.line ≡ answer_line a
+  pub padded : r.line ≡ padded_line a
 
 -- what the request q, in the state s, gives
 pub record Steps (s : Session) (q : Request) (r : Stepped) : Type 0 where
   pub answer : Answer
   pub answers : Answers s q r.session answer
-  pub count : r.count ≡ length (answerLine answer)
-  pub written : take r.count r.line ≡ answerLine answer
-  pub padded : r.line ≡ paddedLine answer
+  pub count : r.count ≡ length (answer_line answer)
+  pub written : take r.count r.line ≡ answer_line answer
+  pub padded : r.line ≡ padded_line answer

@@ -2,9 +2,9 @@
 // answers, and on `frames` for how requests are read.
 ghost use Rattle.std.specs.Prelude.{◌≡◌};
 ghost use Rattle.frames.specs.declared.Request.TheVariants as requests;
-ghost use Rattle.frames.specs.Requests.{requestOf};
-ghost use Rattle.session.specs.Session.{Steps, started, withLayout};
-ghost use Rattle.session.specs.Replies.{stepTo};
+ghost use Rattle.frames.specs.Requests.{request_of};
+ghost use Rattle.session.specs.Session.{Steps, started, with_layout};
+ghost use Rattle.session.specs.Replies.{step_to};
 
 use frames::Request;
 use layout::layout::Layout;
@@ -46,7 +46,7 @@ impl Session {
 
     // The state as it is, and what is said.
     fn says(self, said: Said) -> Stepped
-        ensures { result ≡ stepTo self said }
+        ensures { result ≡ step_to self said }
     {
         let line = said.line;
         Stepped {
@@ -58,7 +58,7 @@ impl Session {
 
     // The state with the layout of an answer, and what that says.
     fn told(mut self, answer: Response) -> Stepped
-        ensures { result ≡ stepTo (withLayout self answer.layout) answer.said }
+        ensures { result ≡ step_to (with_layout self answer.layout) answer.said }
     {
         let layout = answer.layout;
         let said = answer.said;
@@ -97,7 +97,7 @@ impl Session {
 
     // The characters of a line, without its newline.
     pub fn step(self, line: &[u8]) -> Stepped
-        ensures { Steps self (requestOf line.now) result }
+        ensures { Steps self (request_of line.now) result }
     {
         self.asked(frames::read::request(line))
     }

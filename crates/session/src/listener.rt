@@ -1,9 +1,9 @@
 // The counter's listener: the state and the line that has begun, taken through a text that arrives in chunks (document 01, "Counter frames").
 // Each line is answered when its newline arrives. Rests on `lines` for where lines end and on lib.rt for the answers.
 ghost use Rattle.std.specs.Prelude.{◌≡◌, take};
-ghost use Rattle.frames.specs.Requests.{requestOf};
+ghost use Rattle.frames.specs.Requests.{request_of};
 ghost use Rattle.session.specs.Session.{Steps};
-ghost use Rattle.session.specs.Listener.{startListener, spoken, silent, Takes, Ends};
+ghost use Rattle.session.specs.Listener.{start_listener, spoken, silent, Takes, Ends};
 
 use crate::{LONGEST_ANSWER, Session, Stepped};
 use lines::stream::{Event, MOST, Pending, none};
@@ -25,7 +25,7 @@ pub struct Turn {
 
 // The answer to the line that is pending.
 fn answer(session: Session, pending: Pending) -> Stepped
-    ensures { Steps session (requestOf (take pending.count pending.bytes)) result }
+    ensures { Steps session (request_of (take pending.count pending.bytes)) result }
 {
     let count = pending.count;
     let bytes = pending.bytes;
@@ -66,7 +66,7 @@ fn unanswered(listener: Listener, next: usize) -> Turn
 
 impl Listener {
     pub fn start() -> Listener
-        ensures { result ≡ startListener }
+        ensures { result ≡ start_listener }
     {
         Listener {
             session: Session::start(),

@@ -2,7 +2,7 @@
 ghost use Rattle.std.specs.Prelude.{◌+◌, ◌≤◌, length, take};
 ghost use Rattle.layout.specs.Check.{limit};
 ghost use Rattle.frames.specs.Answers.{Answer};
-ghost use Rattle.session.specs.Session.{Says, marksSaid, offersSaid};
+ghost use Rattle.session.specs.Session.{Says, marks_said, offers_said};
 
 use crate::LONGEST_ANSWER;
 use crate::replies::Said;
@@ -44,7 +44,7 @@ pub fn opened(mark: Mark) -> Said
 
 pub fn offered(offers: OfferList) -> Said
     requires { offers.count ≤ 4 }
-    ensures { Says (offersSaid offers) result }
+    ensures { Says (offers_said offers) result }
 {
     let mut line = [0u8; LONGEST_ANSWER];
     let count = frames::write::offered(&mut line, offers);
@@ -53,7 +53,7 @@ pub fn offered(offers: OfferList) -> Said
 
 pub fn inserted(marks: NewMarks) -> Said
     requires { marks.count ≤ 2 }
-    ensures { Says (marksSaid marks) result }
+    ensures { Says (marks_said marks) result }
 {
     let first = marks.first;
     let part = marks.part;

@@ -12,14 +12,14 @@ use Rattle.lists.specs.Search.{every}
 use Rattle.lists.proofs.Scan.{and_left, and_right, and-false}
 use Rattle.table.specs.declared.Node.{Node}
 use Rattle.table.specs.Table.{at}
-use Rattle.sound.specs.Columns.{areasOf, serialsOf, kindsOf}
-use Rattle.sound.specs.Places.{placeB, placesB}
-use Rattle.sound.specs.Hung.{markedAt, markedB}
-use Rattle.sound.specs.Listed.{areaListed, coversB, heldIn, noneAboveB}
-use Rattle.sound.proofs.Lists.{coveredAt}
+use Rattle.sound.specs.Columns.{areas_of, serials_of, kinds_of}
+use Rattle.sound.specs.Places.{place_b, places_b}
+use Rattle.sound.specs.Hung.{marked_at, marked_b}
+use Rattle.sound.specs.Listed.{area_listed, covers_b, held_in, none_above_b}
+use Rattle.sound.proofs.Lists.{covered_at}
 use Rattle.sound.proofs.Sums.{none_left}
 use Rattle.sound.proofs.Worth.{serial-at, kind_at, area-at}
-use Rattle.sound.specs.Census.{nodeB, heldOne, usedBy, censusB}
+use Rattle.sound.specs.Census.{node_b, held_one, used_by, census_b}
 
 -- ---- tests taken together
 
@@ -43,32 +43,32 @@ every-same e (suc n) = rw (every-same e n, e n) refl
 -- ---- the test of one place, at every place
 
 -- the place i passes
-abbrev pub passAt : ℕ → List Node → ℕ → (free removable hung : List ℕ) → ℕ → Bool
-passAt limit t last free removable hung i = nodeB limit last i (at t i) (get_or free i 0) (get_or removable i 0) (get_or hung i 0)
+abbrev pub pass_at : ℕ → List Node → ℕ → (free removable hung : List ℕ) → ℕ → Bool
+pass_at limit t last free removable hung i = node_b limit last i (at t i) (get_or free i 0) (get_or removable i 0) (get_or hung i 0)
 
 module _ (limit : ℕ) (t : List Node) (last : ℕ) (free removable hung : List ℕ) where
   placed : ℕ → Bool
-  placed i = placeB limit (at t i)
+  placed i = place_b limit (at t i)
 
   issued : ℕ → Bool
-  issued i = leb (get_or (serialsOf t) i 0) last
+  issued i = leb (get_or (serials_of t) i 0) last
 
   hanging : ℕ → Bool
-  hanging = markedAt (serialsOf t) hung
+  hanging = marked_at (serials_of t) hung
 
   listed : Bool → List ℕ → ℕ → Bool
-  listed b = coveredAt b (serialsOf t) (kindsOf t)
+  listed b = covered_at b (serials_of t) (kinds_of t)
 
   -- the tests of the columns at i
-  pass-is : (i : ℕ) → passAt limit t last free removable hung i
+  pass-is : (i : ℕ) → pass_at limit t last free removable hung i
       ≡ (placed i && (issued i && (hanging i && (listed true free i && listed false removable i))))
-  unfolding nodeB placed issued hanging listed
+  unfolding node_b placed issued hanging listed
   pass-is i = rw (serial-at t i, kind_at t i) refl
 
-  pub passes-are : every (passAt limit t last free removable hung) limit
-      ≡ (placesB limit t && (noneAboveB limit (serialsOf t) last && (markedB limit (serialsOf t) hung
-      && (coversB limit true (serialsOf t) (kindsOf t) free && coversB limit false (serialsOf t) (kindsOf t) removable))))
-  unfolding placed issued hanging listed placesB noneAboveB markedB coversB
+  pub passes-are : every (pass_at limit t last free removable hung) limit
+      ≡ (places_b limit t && (none_above_b limit (serials_of t) last && (marked_b limit (serials_of t) hung
+      && (covers_b limit true (serials_of t) (kinds_of t) free && covers_b limit false (serials_of t) (kinds_of t) removable))))
+  unfolding placed issued hanging listed places_b none_above_b marked_b covers_b
   passes-are =
       every-same pass-is limit
       ∙ every-and placed (λ i. issued i && (hanging i && (listed true free i && listed false removable i))) limit
@@ -86,12 +86,12 @@ unfolding every
 every-next f i = rw (add-one i) refl
 
 module _ (t : List Node) (i : ℕ) where
-  pub held_next : heldIn (serialsOf t) (i + 1) ≡ heldIn (serialsOf t) i + heldOne (at t i)
-  unfolding heldIn
+  pub held_next : held_in (serials_of t) (i + 1) ≡ held_in (serials_of t) i + held_one (at t i)
+  unfolding held_in
   held_next = rw (add-one i, serial-at t i) refl
 
-  pub area-next : areaListed 1 (kindsOf t) (areasOf t) (i + 1) ≡ areaListed 1 (kindsOf t) (areasOf t) i + usedBy (at t i)
-  unfolding areaListed
+  pub area-next : area_listed 1 (kinds_of t) (areas_of t) (i + 1) ≡ area_listed 1 (kinds_of t) (areas_of t) i + used_by (at t i)
+  unfolding area_listed
   area-next = rw (add-one i, kind_at t i, area-at t i) refl
 
 -- how the pass stands: all tests so far are passed and the sum is no more than `used`, or not; where the sum is no more, `left` is what it lacks
@@ -158,26 +158,26 @@ module _ {tests ok : Bool} {sum used left : ℕ} (g : Going tests sum used ok le
 
 -- the places before i are passed
 pub record Counting (limit : ℕ) (t : List Node) (last used : ℕ) (free removable hung : List ℕ) (ok : Bool) (count left i : ℕ) : Type 0 where
-  pub counted : count ≡ heldIn (serialsOf t) i
-  pub going : Going (every (passAt limit t last free removable hung) i) (areaListed 1 (kindsOf t) (areasOf t) i) used ok left
+  pub counted : count ≡ held_in (serials_of t) i
+  pub going : Going (every (pass_at limit t last free removable hung) i) (area_listed 1 (kinds_of t) (areas_of t) i) used ok left
 
 pub counting-none : (limit : ℕ) (t : List Node) (last used : ℕ) (free removable hung : List ℕ)
     → Counting limit t last used free removable hung true 0 used 0
-unfolding every heldIn areaListed
+unfolding every held_in area_listed
 counting-none limit t last used free removable hung = record { counted = refl; going = going-none used }
 
 module _ {limit : ℕ} {t : List Node} {last used : ℕ} {free removable hung : List ℕ} {ok : Bool} {count left : ℕ}
     (held : ℕ) (p : Counting limit t last used free removable hung ok count left limit) where
-  pub census-passed : ok ≡ true → eqb count held ≡ true → eqb left 0 ≡ censusB limit t last used held free removable hung
-  unfolding censusB
+  pub census-passed : ok ≡ true → eqb count held ≡ true → eqb left 0 ≡ census_b limit t last used held free removable hung
+  unfolding census_b
   census-passed o e =
       rw (← passes-are limit t last free removable hung, ← p.counted) (ends-passed p.going o e)
 
-  pub census-failed : ok ≡ false → false ≡ censusB limit t last used held free removable hung
-  unfolding censusB
-  census-failed o = rw (← passes-are limit t last free removable hung) (ends-failed p.going (eqb (heldIn (serialsOf t) limit) held) o)
+  pub census-failed : ok ≡ false → false ≡ census_b limit t last used held free removable hung
+  unfolding census_b
+  census-failed o = rw (← passes-are limit t last free removable hung) (ends-failed p.going (eqb (held_in (serials_of t) limit) held) o)
 
-  pub census-miscounted : eqb count held ≡ false → false ≡ censusB limit t last used held free removable hung
-  unfolding censusB
+  pub census-miscounted : eqb count held ≡ false → false ≡ census_b limit t last used held free removable hung
+  unfolding census_b
   census-miscounted e =
       rw (← passes-are limit t last free removable hung, ← p.counted) (ends-miscounted p.going e)

@@ -13,7 +13,7 @@ use lib.ListN.{get_or}
 use borrow.Author.Tests.{eq-eqb, lt-ltb, le-ltb, le-leb, lt-leb, leb-false, eqb-true, ltb-true}
 use Rattle.lists.specs.Search.{every}
 use Rattle.lists.proofs.Scan.{and_left, and_right, every-all, every-at, every_more, or_cases}
-use Rattle.sound.specs.Listed.{wantedIn, agree, coversB, before, sortedB}
+use Rattle.sound.specs.Listed.{wanted_in, agree, covers_b, before, sorted_b}
 
 -- two truth values agree exactly where they are equal
 pub agree-says : (a b : Bool) → agree a b ≡ true → a ≡ b
@@ -27,19 +27,19 @@ agree-shown false true e = e
 agree-shown false false e = refl
 
 -- the test at one place
-abbrev pub coveredAt : Bool → List ℕ → List ℕ → List ℕ → ℕ → Bool
-coveredAt free serial kind f i = agree (wantedIn free serial kind i) (eqb (get_or f i 0) 1)
+abbrev pub covered_at : Bool → List ℕ → List ℕ → List ℕ → ℕ → Bool
+covered_at free serial kind f i = agree (wanted_in free serial kind i) (eqb (get_or f i 0) 1)
 
 module _ (limit : ℕ) (free : Bool) (serial kind f : List ℕ) where
   -- a flag stands exactly where it is wanted
-  pub covers-says : coversB limit free serial kind f ≡ true → (i : ℕ) → i < limit → wantedIn free serial kind i ≡ eqb (get_or f i 0) 1
-  unfolding coversB
-  covers-says e i h = agree-says (wantedIn free serial kind i) (eqb (get_or f i 0) 1) (every-at (coveredAt free serial kind f) limit i e h)
+  pub covers-says : covers_b limit free serial kind f ≡ true → (i : ℕ) → i < limit → wanted_in free serial kind i ≡ eqb (get_or f i 0) 1
+  unfolding covers_b
+  covers-says e i h = agree-says (wanted_in free serial kind i) (eqb (get_or f i 0) 1) (every-at (covered_at free serial kind f) limit i e h)
 
-  pub covers-shown : ((i : ℕ) → i < limit → wantedIn free serial kind i ≡ eqb (get_or f i 0) 1) → coversB limit free serial kind f ≡ true
-  unfolding coversB
+  pub covers-shown : ((i : ℕ) → i < limit → wanted_in free serial kind i ≡ eqb (get_or f i 0) 1) → covers_b limit free serial kind f ≡ true
+  unfolding covers_b
   covers-shown h =
-      every-all (coveredAt free serial kind f) limit (λ i l. agree-shown (wantedIn free serial kind i) (eqb (get_or f i 0) 1) (h i l))
+      every-all (covered_at free serial kind f) limit (λ i l. agree-shown (wanted_in free serial kind i) (eqb (get_or f i 0) 1) (h i l))
 
 -- a piece of area a and serial s before one of area b and serial t: the test, and as a fact
 abbrev ahead : ℕ → ℕ → ℕ → ℕ → Bool
@@ -73,13 +73,13 @@ abbrev pub InOrder : List ℕ → List ℕ → List ℕ → ℕ → ℕ → Type
 InOrder area serial l j k = Before area serial (get_or l j 0) (get_or l k 0)
 
 -- the test at one entry
-abbrev pub orderedAt : List ℕ → List ℕ → List ℕ → ℕ → ℕ → Bool
-orderedAt area serial l n k = leb n (k + 1) || before area serial (get_or l k 0) (get_or l (k + 1) 0)
+abbrev pub ordered_at : List ℕ → List ℕ → List ℕ → ℕ → ℕ → Bool
+ordered_at area serial l n k = leb n (k + 1) || before area serial (get_or l k 0) (get_or l (k + 1) 0)
 
 module _ (area serial l : List ℕ) (n : ℕ) where
   -- a turn of the loop, and its end
   pub ordered-here : (k : ℕ) (r : Bool) → r ≡ before area serial (get_or l k 0) (get_or l (k + 1) 0) → r ≡ true
-      → orderedAt area serial l n k ≡ true
+      → ordered_at area serial l n k ≡ true
   ordered-here k r b e = rw (sym b ∙ e) (or-true (leb n (k + 1)))
     where
       or-true : (b : Bool) → (b || true) ≡ true
@@ -87,35 +87,35 @@ module _ (area serial l : List ℕ) (n : ℕ) where
       or-true false = refl
 
   pub ordered-bad : (k : ℕ) (r : Bool) → k + 1 < n → r ≡ before area serial (get_or l k 0) (get_or l (k + 1) 0) → r ≡ false
-      → orderedAt area serial l n k ≡ false
+      → ordered_at area serial l n k ≡ false
   ordered-bad k r h b e = rw (lt-leb n (k + 1) h, sym b ∙ e) refl
 
-  pub ordered_end : (k : ℕ) → k ≤ n → n ≤ k + 1 → every (orderedAt area serial l n) k ≡ true → sortedB area serial l n ≡ true
-  unfolding sortedB
+  pub ordered_end : (k : ℕ) → k ≤ n → n ≤ k + 1 → every (ordered_at area serial l n) k ≡ true → sorted_b area serial l n ≡ true
+  unfolding sorted_b
   ordered_end k h e all = go (ℕ_discrete k n)
     where
-      go : Dec (k ≡ n) → every (orderedAt area serial l n) n ≡ true
+      go : Dec (k ≡ n) → every (ordered_at area serial l n) n ≡ true
       go (yes z) = rw z at all
       go (no z) =
           let z' : n ≡ k + 1 = omega arith in
-          let here : orderedAt area serial l n k ≡ true = rw (le-leb n (k + 1) e) refl in
-          ap (every (orderedAt area serial l n)) z' ∙ every_more (orderedAt area serial l n) k all here
+          let here : ordered_at area serial l n k ≡ true = rw (le-leb n (k + 1) e) refl in
+          ap (every (ordered_at area serial l n)) z' ∙ every_more (ordered_at area serial l n) k all here
 
   -- each entry comes before the next
-  pub sorted-says : sortedB area serial l n ≡ true → (k : ℕ) → k + 1 < n → InOrder area serial l k (k + 1)
-  unfolding sortedB
-  sorted-says e k h = ahead-says _ _ _ _ (rw (lt-leb n (k + 1) h) at (every-at (orderedAt area serial l n) n k e (omega arith)))
+  pub sorted-says : sorted_b area serial l n ≡ true → (k : ℕ) → k + 1 < n → InOrder area serial l k (k + 1)
+  unfolding sorted_b
+  sorted-says e k h = ahead-says _ _ _ _ (rw (lt-leb n (k + 1) h) at (every-at (ordered_at area serial l n) n k e (omega arith)))
 
-  pub sorted-shown : ((k : ℕ) → k + 1 < n → InOrder area serial l k (k + 1)) → sortedB area serial l n ≡ true
-  unfolding sortedB
-  sorted-shown h = every-all (orderedAt area serial l n) n (λ k l. go k (leb n (k + 1)) refl)
+  pub sorted-shown : ((k : ℕ) → k + 1 < n → InOrder area serial l k (k + 1)) → sorted_b area serial l n ≡ true
+  unfolding sorted_b
+  sorted-shown h = every-all (ordered_at area serial l n) n (λ k l. go k (leb n (k + 1)) refl)
     where
-      go : (k : ℕ) (b : Bool) → leb n (k + 1) ≡ b → orderedAt area serial l n k ≡ true
+      go : (k : ℕ) (b : Bool) → leb n (k + 1) ≡ b → ordered_at area serial l n k ≡ true
       go k true z = rw z refl
       go k false z = ordered-here k _ refl (ahead-shown _ _ _ _ (h k (leb-false n (k + 1) z)))
 
   -- each entry comes before all later ones
-  pub sorted_all : sortedB area serial l n ≡ true → (m j : ℕ) → j < m → m < n → InOrder area serial l j m
+  pub sorted_all : sorted_b area serial l n ≡ true → (m j : ℕ) → j < m → m < n → InOrder area serial l j m
   sorted_all e zero j h k = absurd (not-suc-le-zero h)
   sorted_all e (suc m) j h k = go (ℕ_discrete j m) (sorted_all e m j)
     where

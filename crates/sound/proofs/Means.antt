@@ -26,8 +26,8 @@ use Rattle.table.proofs.Rep.{bound, no-child}
 use Rattle.table.proofs.Build.{linkage-holds, in_held}
 use Rattle.table.proofs.Unique.{holds-room}
 use Rattle.table.proofs.Links.{datum-is}
-use Rattle.sound.specs.Places.{placesB, topB}
-use Rattle.sound.specs.Rows.{step, room, rowsB}
+use Rattle.sound.specs.Places.{places_b, top_b}
+use Rattle.sound.specs.Rows.{step, room, rows_b}
 use Rattle.sound.proofs.PlacesSay.{Leaf, KindNode, Place, places-says, TopNode, top-says}
 use Rattle.sound.proofs.RowsSay.{ChildNode, Siblings, step_is, RowOf, rows-says}
 
@@ -38,9 +38,9 @@ Hung limit t =
 
 -- the tests of the tree say yes
 pub record Passes (limit : ℕ) (settings : Settings) (t : List Node) : Type 0 where
-  pub places : placesB limit t ≡ true
-  pub top : topB limit settings (at t 0) ≡ true
-  pub rows : rowsB limit settings t ≡ true
+  pub places : places_b limit t ≡ true
+  pub top : top_b limit settings (at t 0) ≡ true
+  pub rows : rows_b limit settings t ≡ true
   pub hung : Hung limit t
 
 leaf-or : (limit : ℕ) (n : Node) (κ : Kind) → KindNode limit κ n → Leaf limit n ⊎ (κ ≡ Structure)

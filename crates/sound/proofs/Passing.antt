@@ -15,7 +15,7 @@ use Rattle.tree.specs.Sound.{extent, StructurePiece, Kinded, Children, Topped}
 use Rattle.tree.proofs.Rows.{in?}
 use Rattle.tree.proofs.Spots.{children-deep}
 use Rattle.table.specs.declared.Node.{Node}
-use Rattle.table.specs.Table.{mk, zeroNode, at, Held, head, last, Rep, Holds}
+use Rattle.table.specs.Table.{mk, zero_node, at, Held, head, last, Rep, Holds}
 use Rattle.table.proofs.Linkage.{Linkage}
 use Rattle.table.proofs.Rep.{no-child}
 use Rattle.table.proofs.Build.{in_held}
@@ -101,7 +101,7 @@ module _ (limit : ℕ) (settings : Settings) (t : List Node) where
   row-shown q pv (grow p d k r) rep ch held c i (inr (inr y)) =
       row-shown q p r rep.3 ch.beside (λ j z. held j (inr (inr z))) (omega arith) i y
 
-  zero-shown : (i : ℕ) → at t i ≡ zeroNode → Shown i
+  zero-shown : (i : ℕ) → at t i ≡ zero_node → Shown i
   zero-shown i e =
       rw e (
         record { empty = λ z. refl; piece = λ l. let no-serial : ⊥ = omega arith in absurd no-serial },

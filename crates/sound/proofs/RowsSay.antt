@@ -14,11 +14,11 @@ use Rattle.tree.specs.Sound.{reach, Child}
 use Rattle.tree.proofs.Pieces.{child}
 use Rattle.table.specs.declared.Node.{Node}
 use Rattle.table.specs.Table.{at}
-use Rattle.sound.specs.Rows.{sameCut, hungUnderB, childDatumB, eatenB, childB, step, room, endB, chainB, rowB, rowsB}
+use Rattle.sound.specs.Rows.{same_cut, hung_under_b, child_datum_b, eaten_b, child_b, step, room, end_b, chain_b, row_b, rows_b}
 use Rattle.sound.proofs.Says.{Says, clash, worded, eq-says, le-says, some-says, true-says, false-says, and-says, guard-says, if-says, every-says}
 use Rattle.sound.proofs.PlacesSay.{structure-says}
 
-cut-says : (a b : Orientation) → Says (sameCut a b) (a ≡ b)
+cut-says : (a b : Orientation) → Says (same_cut a b) (a ≡ b)
 cut-says Horizontal Horizontal = true-says refl
 cut-says Horizontal Vertical = worded false-says absurd (λ e. clash (cc))
 cut-says Vertical Horizontal = worded false-says absurd (λ e. clash (cc))
@@ -26,8 +26,8 @@ cut-says Vertical Vertical = true-says refl
 
 -- nothing is eaten behind a last child, and no more than the blade's width behind another
 eaten-says : (limit : ℕ) (settings : Settings) (n : Node)
-    → Says (eatenB limit settings n) ((n.next ≡ limit → n.datum.eaten ≡ 0) × (n.datum.eaten ≤ settings.blade))
-unfolding eatenB
+    → Says (eaten_b limit settings n) ((n.next ≡ limit → n.datum.eaten ≡ 0) × (n.datum.eaten ≤ settings.blade))
+unfolding eaten_b
 eaten-says limit settings n =
     worded
     (if-says (eq-says n.next limit) (eq-says n.datum.eaten 0) (le-says n.datum.eaten settings.blade))
@@ -48,8 +48,8 @@ pub record ChildNode (limit : ℕ) (settings : Settings) (up : Node) (q pv : ℕ
   pub last : n.next ≡ limit → n.datum.eaten ≡ 0
 
 child-says : (limit : ℕ) (settings : Settings) (up : Node) (q pv : ℕ) (n : Node)
-    → Says (childB limit settings up q pv n) (ChildNode limit settings up q pv n)
-unfolding childB hungUnderB childDatumB
+    → Says (child_b limit settings up q pv n) (ChildNode limit settings up q pv n)
+unfolding child_b hung_under_b child_datum_b
 child-says limit settings up q pv n =
     let c = n.datum.cut in
     let hung = and-says (some-says n.datum.serial) (and-says (eq-says n.parent q) (eq-says n.prev pv)) in
@@ -81,8 +81,8 @@ pub record End (limit : ℕ) (up : Node) (pv p sum : ℕ) : Type 0 where
   pub last : up.last ≡ pv
   pub full : sum ≡ room up
 
-end-says : (limit : ℕ) (up : Node) (pv p sum : ℕ) → Says (endB limit up pv p sum) (End limit up pv p sum)
-unfolding endB
+end-says : (limit : ℕ) (up : Node) (pv p sum : ℕ) → Says (end_b limit up pv p sum) (End limit up pv p sum)
+unfolding end_b
 end-says limit up pv p sum =
     worded (and-says (eq-says p limit) (and-says (eq-says up.last pv) (eq-says sum (room up))))
     (λ h. record { none = h.0; last = h.1.0; full = h.1.1 })
@@ -97,8 +97,8 @@ Siblings limit settings t q (suc m) pv p sum =
     → ChildNode limit settings (at t q) q pv (at t p) × Siblings limit settings t q m p (at t p).next (sum + step (at t p)))
 
 module _ (limit : ℕ) (settings : Settings) (t : List Node) where
-  chain-says : (q m pv p sum : ℕ) → Says (chainB limit settings t q m pv p sum) (Siblings limit settings t q m pv p sum)
-  unfolding chainB
+  chain-says : (q m pv p sum : ℕ) → Says (chain_b limit settings t q m pv p sum) (Siblings limit settings t q m pv p sum)
+  unfolding chain_b
   chain-says q zero pv p sum = false-says
   chain-says q (suc m) pv p sum =
       worded
@@ -111,7 +111,7 @@ module _ (limit : ℕ) (settings : Settings) (t : List Node) where
   abbrev pub RowOf : ℕ → Type 0
   RowOf q = 0 < (at t q).datum.serial → (at t q).datum.kind ≡ Structure → Siblings limit settings t q limit limit (at t q).first 0
 
-  row-says : (q : ℕ) → Says (rowB limit settings t q) (RowOf q)
+  row-says : (q : ℕ) → Says (row_b limit settings t q) (RowOf q)
   row-says q =
       worded
       (if-says (and-says (some-says (at t q).datum.serial) (structure-says (at t q).datum.kind))
@@ -119,6 +119,6 @@ module _ (limit : ℕ) (settings : Settings) (t : List Node) where
       (λ h a b. h.0 (a, b))
       (λ h. ((λ a. h a.0 a.1), λ n. tt))
 
-  pub rows-says : Says (rowsB limit settings t) ((q : ℕ) → q < limit → RowOf q)
-  unfolding rowsB
+  pub rows-says : Says (rows_b limit settings t) ((q : ℕ) → q < limit → RowOf q)
+  unfolding rows_b
   rows-says = every-says row-says limit

@@ -13,13 +13,13 @@ use Rattle.table.specs.declared.Node.{Node}
 use Rattle.table.specs.Table.{at, Rep, Holds}
 use Rattle.table.proofs.Rep.{bound}
 use Rattle.table.proofs.Links.{datum-is}
-use Rattle.sound.specs.Columns.{serialsOf}
+use Rattle.sound.specs.Columns.{serials_of}
 use Rattle.sound.proofs.Worth.{serial-at}
 
 -- no two places have the same serial, but 0
 abbrev pub PlacesDiffer : ℕ → List Node → Type 0
 PlacesDiffer limit t =
-    (i j : ℕ) → i < limit → j < limit → get_or (serialsOf t) i 0 ≡ get_or (serialsOf t) j 0 → (get_or (serialsOf t) i 0 ≡ 0 → ⊥) → i ≡ j
+    (i j : ℕ) → i < limit → j < limit → get_or (serials_of t) i 0 ≡ get_or (serials_of t) j 0 → (get_or (serials_of t) i 0 ≡ 0 → ⊥) → i ≡ j
 
 -- no two pieces have the same serial
 abbrev pub PiecesDiffer : Tree → Type 0
@@ -37,7 +37,7 @@ module _ (limit : ℕ) (t : List Node) where
     low : (i : ℕ) (e : Datum) → At i e w → i < limit
     low i e y = bound limit t limit limit i w h.rep (at_in i e w y)
 
-    serial-is : (i : ℕ) (e : Datum) → At i e w → get_or (serialsOf t) i 0 ≡ e.serial
+    serial-is : (i : ℕ) (e : Datum) → At i e w → get_or (serials_of t) i 0 ≡ e.serial
     serial-is i e y = serial-at t i ∙ ap (λ (d : Datum). d.serial) (datum-is limit t limit limit i e w h.rep y)
 
     pub pieces-differ : ((i : ℕ) (e : Datum) → At i e w → 0 < e.serial) → PlacesDiffer limit t → PiecesDiffer w
@@ -48,7 +48,7 @@ module _ (limit : ℕ) (t : List Node) where
         apart i j (low i d y) (low j e z) (omega arith) (λ n. omega arith)
 
     -- a place whose serial is not 0 is a piece of the tree
-    live : (i : ℕ) → i < limit → (get_or (serialsOf t) i 0 ≡ 0 → ⊥) → At i (at t i).datum w
+    live : (i : ℕ) → i < limit → (get_or (serials_of t) i 0 ≡ 0 → ⊥) → At i (at t i).datum w
     live i b n =
         ⊎_elim (shown-at limit limit i w h.rep)
         (λ m. absurd (n (serial-at t i ∙ ap (λ (x : Node). x.datum.serial) (h.rest i b m)))) (in? i w)

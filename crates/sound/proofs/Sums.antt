@@ -9,7 +9,7 @@ use native.Mathlib.Decide.{ℕ_discrete}
 use lib.Dec.{eqb}
 use lib.ListN.{get_or}
 use borrow.Author.Tests.{eq-eqb, ne_eqb}
-use Rattle.sound.specs.Listed.{heldIn, areaListed}
+use Rattle.sound.specs.Listed.{held_in, area_listed}
 
 -- what falls at no step falls nowhere
 pub grows : (g : ℕ → ℕ) → ((n : ℕ) → g n ≤ g (suc n)) → (m n : ℕ) → n ≤ m → g n ≤ g m
@@ -21,32 +21,32 @@ grows g step (suc m) n h = go (ℕ_discrete n (suc m)) (grows g step m n)
     go (no e) ih = let l = ih (omega arith) in omega (arith, step m)
 
 module _ (serial : List ℕ) where
-  pub held-most : (n : ℕ) → heldIn serial n ≤ n
-  unfolding heldIn
+  pub held-most : (n : ℕ) → held_in serial n ≤ n
+  unfolding held_in
   held-most zero = omega arith
   held-most (suc n) = go (eqb (get_or serial n 0) 0) (held-most n)
     where
-      go : (b : Bool) → heldIn serial n ≤ n → heldIn serial n + cond b 0 1 ≤ suc n
+      go : (b : Bool) → held_in serial n ≤ n → held_in serial n + cond b 0 1 ≤ suc n
       go true h = omega arith
       go false h = omega arith
 
 module _ (k : ℕ) (kind area : List ℕ) where
-  pub area-none : areaListed k kind area 0 ≡ 0
-  unfolding areaListed
+  pub area-none : area_listed k kind area 0 ≡ 0
+  unfolding area_listed
   area-none = refl
 
-  pub area-here : (n : ℕ) → get_or kind n 0 ≡ k → areaListed k kind area (n + 1) ≡ areaListed k kind area n + get_or area n 0
-  unfolding areaListed
+  pub area-here : (n : ℕ) → get_or kind n 0 ≡ k → area_listed k kind area (n + 1) ≡ area_listed k kind area n + get_or area n 0
+  unfolding area_listed
   area-here n e = rw (add-one n, eq-eqb (get_or kind n 0) k e) refl
 
-  pub area-pass : (n : ℕ) → (get_or kind n 0 ≡ k → ⊥) → areaListed k kind area (n + 1) ≡ areaListed k kind area n
-  unfolding areaListed
+  pub area-pass : (n : ℕ) → (get_or kind n 0 ≡ k → ⊥) → area_listed k kind area (n + 1) ≡ area_listed k kind area n
+  unfolding area_listed
   area-pass n e = rw (add-one n, ne_eqb (get_or kind n 0) k e) (omega arith)
 
   -- the sum over more places is no smaller
-  pub area-grows : (m n : ℕ) → n ≤ m → areaListed k kind area n ≤ areaListed k kind area m
-  unfolding areaListed
-  area-grows = grows (areaListed k kind area) (λ n. omega arith)
+  pub area-grows : (m n : ℕ) → n ≤ m → area_listed k kind area n ≤ area_listed k kind area m
+  unfolding area_listed
+  area-grows = grows (area_listed k kind area) (λ n. omega arith)
 
 -- nothing is left exactly where the sum is `used`
 pub none_left : (left sum used : ℕ) → left + sum ≡ used → eqb left 0 ≡ eqb sum used

@@ -11,46 +11,46 @@ use borrow.Author.Tests.{le-leb, lt-leb}
 use Rattle.piece.specs.declared.settings.Settings.{Settings}
 use Rattle.table.specs.declared.Node.{Node}
 use Rattle.table.specs.Table.{at}
-use Rattle.sound.specs.Rows.{chainB, childB, endB, parentB, rowB, step}
+use Rattle.sound.specs.Rows.{chain_b, child_b, end_b, parent_b, row_b, step}
 
 less_one : (n : ℕ) → suc n - 1 ≡ n
 less_one n = omega arith
 
 module _ (limit : ℕ) (settings : Settings) (t : List Node) (q : ℕ) where
   -- a child is passed
-  pub chain-on : (m pv p sum : ℕ) {b : Bool} → 0 < m → p < limit → b ≡ childB limit settings (at t q) q pv (at t p) → b ≡ true
-      → chainB limit settings t q m pv p sum ≡ chainB limit settings t q (m - 1) p (at t p).next (sum + step (at t p))
-  unfolding chainB
+  pub chain-on : (m pv p sum : ℕ) {b : Bool} → 0 < m → p < limit → b ≡ child_b limit settings (at t q) q pv (at t p) → b ≡ true
+      → chain_b limit settings t q m pv p sum ≡ chain_b limit settings t q (m - 1) p (at t p).next (sum + step (at t p))
+  unfolding chain_b
   chain-on zero pv p sum h l e y = absurd (not-suc-le-zero h)
   chain-on (suc m) pv p sum h l e y = rw (lt-leb limit p l, ← e, y, less_one m) refl
 
   -- one is no child
-  pub chain-bad : (m pv p sum : ℕ) {b : Bool} → p < limit → b ≡ childB limit settings (at t q) q pv (at t p) → b ≡ false
-      → chainB limit settings t q m pv p sum ≡ false
-  unfolding chainB
+  pub chain-bad : (m pv p sum : ℕ) {b : Bool} → p < limit → b ≡ child_b limit settings (at t q) q pv (at t p) → b ≡ false
+      → chain_b limit settings t q m pv p sum ≡ false
+  unfolding chain_b
   chain-bad zero pv p sum l e n = refl
   chain-bad (suc m) pv p sum l e n = rw (lt-leb limit p l, ← e, n) refl
 
   -- the walk has stopped: at no place, or after as many steps as there are
-  pub chain-fails : (m pv p sum : ℕ) {b : Bool} → (limit ≤ p) ⊎ (m ≤ 0) → b ≡ endB limit (at t q) pv p sum → (b ≡ false) ⊎ (m ≤ 0)
-      → chainB limit settings t q m pv p sum ≡ false
-  unfolding chainB
+  pub chain-fails : (m pv p sum : ℕ) {b : Bool} → (limit ≤ p) ⊎ (m ≤ 0) → b ≡ end_b limit (at t q) pv p sum → (b ≡ false) ⊎ (m ≤ 0)
+      → chain_b limit settings t q m pv p sum ≡ false
+  unfolding chain_b
   chain-fails zero pv p sum l e n = refl
   chain-fails (suc m) pv p sum (inl l) e (inl n) = rw (le-leb limit p l) (sym e ∙ n)
   chain-fails (suc m) pv p sum (inl l) e (inr n) = absurd (not-suc-le-zero n)
   chain-fails (suc m) pv p sum (inr l) e n = absurd (not-suc-le-zero l)
 
-  pub chain-ends : (m pv p sum : ℕ) {b : Bool} → (limit ≤ p) ⊎ (m ≤ 0) → b ≡ endB limit (at t q) pv p sum → b ≡ true → 0 < m
-      → chainB limit settings t q m pv p sum ≡ true
-  unfolding chainB
+  pub chain-ends : (m pv p sum : ℕ) {b : Bool} → (limit ≤ p) ⊎ (m ≤ 0) → b ≡ end_b limit (at t q) pv p sum → b ≡ true → 0 < m
+      → chain_b limit settings t q m pv p sum ≡ true
+  unfolding chain_b
   chain-ends zero pv p sum l e y h = absurd (not-suc-le-zero h)
   chain-ends (suc m) pv p sum (inl l) e y h = rw (le-leb limit p l) (sym e ∙ y)
   chain-ends (suc m) pv p sum (inr l) e y h = absurd (not-suc-le-zero l)
 
   -- a held structure's row is walked, and another place has none
-  pub row_is : {a b : Bool} → a ≡ parentB (at t q) → a ≡ true → chainB limit settings t q limit limit (at t q).first 0 ≡ b
-      → rowB limit settings t q ≡ b
+  pub row_is : {a b : Bool} → a ≡ parent_b (at t q) → a ≡ true → chain_b limit settings t q limit limit (at t q).first 0 ≡ b
+      → row_b limit settings t q ≡ b
   row_is e y f = rw (sym e ∙ y) f
 
-  pub row-none : {a : Bool} → a ≡ parentB (at t q) → a ≡ false → rowB limit settings t q ≡ true
+  pub row-none : {a : Bool} → a ≡ parent_b (at t q) → a ≡ false → row_b limit settings t q ≡ true
   row-none e n = rw (sym e ∙ n) refl

@@ -1,7 +1,7 @@
 -- The columns of a table that the check speaks of, together.
 use Rattle.std.specs.Prelude.{List, ℕ}
 use Rattle.table.specs.declared.Node.{Node}
-pub use Rattle.table.specs.Columns.{areasOf, serialsOf, firstsOf, nextsOf, kindsOf}
+pub use Rattle.table.specs.Columns.{areas_of, serials_of, firsts_of, nexts_of, kinds_of}
 
 pub record Columns : Type 0 where
   pub area : List ℕ
@@ -10,6 +10,6 @@ pub record Columns : Type 0 where
   pub next : List ℕ
   pub kind : List ℕ
 
-abbrev pub checkedColumns : List Node → Columns
-checkedColumns t =
-    record { area = areasOf t; serial = serialsOf t; first = firstsOf t; next = nextsOf t; kind = kindsOf t }
+abbrev pub checked_columns : List Node → Columns
+checked_columns t =
+    record { area = areas_of t; serial = serials_of t; first = firsts_of t; next = nexts_of t; kind = kinds_of t }

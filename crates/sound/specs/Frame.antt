@@ -2,12 +2,12 @@
 -- width 0..100".
 use Rattle.std.specs.Prelude.{Bool, ◌&&◌, ℕ, leb}
 use Rattle.piece.specs.declared.settings.Settings.{Settings}
-use Rattle.tree.specs.Sound.{maxSide, maxStages, maxBlade}
+use Rattle.tree.specs.Sound.{max_side, max_stages, max_blade}
 
-abbrev pub sideB : ℕ → Bool
-sideB s = leb 1 s && leb s maxSide
+abbrev pub side_b : ℕ → Bool
+side_b s = leb 1 s && leb s max_side
 
-abbrev pub domainB : Settings → Bool
-domainB settings =
-    sideB settings.sheet.width && (sideB settings.sheet.height
-    && (leb 1 settings.stages && (leb settings.stages maxStages && leb settings.blade maxBlade)))
+abbrev pub domain_b : Settings → Bool
+domain_b settings =
+    side_b settings.sheet.width && (side_b settings.sheet.height
+    && (leb 1 settings.stages && (leb settings.stages max_stages && leb settings.blade max_blade)))

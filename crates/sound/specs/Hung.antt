@@ -4,32 +4,32 @@ use Rattle.std.specs.Prelude.{List, Bool, true, false, cond, ◌||◌, ℕ, zero
 use Rattle.lists.specs.Search.{every}
 use Rattle.table.specs.declared.Node.{Node}
 use Rattle.table.specs.Table.{at}
-use Rattle.sound.specs.Columns.{nextsOf}
-use Rattle.sound.specs.Rows.{parentB}
+use Rattle.sound.specs.Columns.{nexts_of}
+use Rattle.sound.specs.Rows.{parent_b}
 
 -- the siblings from p on, at most so many, are marked
-unfoldable pub markRow : ℕ → List ℕ → ℕ → ℕ → List ℕ → List ℕ
-markRow limit next zero p f = f
-markRow limit next (suc m) p f =
-    let r = markRow limit next m (get_or next p 0) (set f p 1) in cond (leb limit p) f r
+unfoldable pub mark_row : ℕ → List ℕ → ℕ → ℕ → List ℕ → List ℕ
+mark_row limit next zero p f = f
+mark_row limit next (suc m) p f =
+    let r = mark_row limit next m (get_or next p 0) (set f p 1) in cond (leb limit p) f r
 
 -- the rows of the first n places
-unfoldable pub markRows : ℕ → List ℕ → List ℕ → ℕ → List ℕ → List ℕ
-markRows limit first next zero f = f
-markRows limit first next (suc n) f = markRow limit next limit (get_or first n 0) (markRows limit first next n f)
+unfoldable pub mark_rows : ℕ → List ℕ → List ℕ → ℕ → List ℕ → List ℕ
+mark_rows limit first next zero f = f
+mark_rows limit first next (suc n) f = mark_row limit next limit (get_or first n 0) (mark_rows limit first next n f)
 
--- the rows of the held structures among the first n places; proofs/ByRows.antt says that this marks as much as `markRows`
-unfoldable pub hangRows : ℕ → List Node → ℕ → List ℕ → List ℕ
-hangRows limit t zero f = f
-hangRows limit t (suc n) f =
-    let r = hangRows limit t n f in cond (parentB (at t n)) (markRow limit (nextsOf t) limit (at t n).first r) r
+-- the rows of the held structures among the first n places; proofs/ByRows.antt says that this marks as much as `mark_rows`
+unfoldable pub hang_rows : ℕ → List Node → ℕ → List ℕ → List ℕ
+hang_rows limit t zero f = f
+hang_rows limit t (suc n) f =
+    let r = hang_rows limit t n f in cond (parent_b (at t n)) (mark_row limit (nexts_of t) limit (at t n).first r) r
 
 -- held places but the top are marked
-abbrev pub markedAt : List ℕ → List ℕ → ℕ → Bool
-markedAt serial f i = eqb i 0 || (eqb (get_or serial i 0) 0 || eqb (get_or f i 0) 1)
+abbrev pub marked_at : List ℕ → List ℕ → ℕ → Bool
+marked_at serial f i = eqb i 0 || (eqb (get_or serial i 0) 0 || eqb (get_or f i 0) 1)
 
-unfoldable pub markedB : ℕ → List ℕ → List ℕ → Bool
-markedB limit serial f = every (markedAt serial f) limit
+unfoldable pub marked_b : ℕ → List ℕ → List ℕ → Bool
+marked_b limit serial f = every (marked_at serial f) limit
 
-unfoldable pub hungB : ℕ → List ℕ → List ℕ → List ℕ → Bool
-hungB limit serial first next = markedB limit serial (markRows limit first next limit (replicate limit 0))
+unfoldable pub hung_b : ℕ → List ℕ → List ℕ → List ℕ → Bool
+hung_b limit serial first next = marked_b limit serial (mark_rows limit first next limit (replicate limit 0))

@@ -3,15 +3,15 @@
 ghost use Rattle.std.specs.Prelude.{◌≡◌};
 ghost use Rattle.std.proofs.lemmas.List.Edits.{sets};
 ghost use Rattle.lists.specs.Lists.{limit};
-ghost use Rattle.sound.specs.Columns.{areasOf, serialsOf};
-ghost use Rattle.sound.specs.Census.{censusB, flagsB, hangsB, heldOne, nodeB, usedBy};
+ghost use Rattle.sound.specs.Columns.{areas_of, serials_of};
+ghost use Rattle.sound.specs.Census.{census_b, flags_b, hangs_b, held_one, node_b, used_by};
 
 use crate::places::place_ok;
 use table::{LIMIT, Node};
 
 // Whether the place i is the top's, is unheld, or hangs in a row.
 fn hangs_ok(n: Node, i: usize, hung: u8) -> bool
-    ensures { result ≡ hangsB i n hung }
+    ensures { result ≡ hangs_b i n hung }
 {
     if i == 0 {
         return true;
@@ -25,7 +25,7 @@ fn hangs_ok(n: Node, i: usize, hung: u8) -> bool
 // Whether the flags of the two lists are those of the node: none where the place is unheld, the free list's at a free piece, the removable list's at
 // a part or a structure.
 fn flags_ok(n: Node, free: u8, removable: u8) -> bool
-    ensures { result ≡ flagsB n free removable }
+    ensures { result ≡ flags_b n free removable }
 {
     let d = n.datum;
     let kind = d.kind;
@@ -40,7 +40,7 @@ fn flags_ok(n: Node, free: u8, removable: u8) -> bool
 
 // Whether the place i, where n stands, is as it should be, by itself and by its flags.
 fn node_ok(n: Node, i: usize, last: u32, free: u8, removable: u8, hung: u8) -> bool
-    ensures { result ≡ nodeB limit last i n free removable hung }
+    ensures { result ≡ node_b limit last i n free removable hung }
 {
     if place_ok(n) {} else {
         return false;
@@ -57,14 +57,14 @@ fn node_ok(n: Node, i: usize, last: u32, free: u8, removable: u8, hung: u8) -> b
 
 // 1 where the place is held.
 fn held_one(n: Node) -> usize
-    ensures { result ≡ heldOne n }
+    ensures { result ≡ held_one n }
 {
     if n.datum.serial == 0 { 0 } else { 1 }
 }
 
 // The area of a part, and 0 of any other node.
 fn used_by(n: Node) -> u64
-    ensures { result ≡ usedBy n }
+    ensures { result ≡ used_by n }
 {
     let d = n.datum;
     let kind = d.kind;
@@ -84,9 +84,9 @@ pub fn census_ok<'a>(
     serial: &mut [u32; LIMIT],
     area: &mut [u64; LIMIT],
 ) -> bool
-    ensures says { result ≡ censusB limit nodes last used held free.now removable.now hung.now }
-    ensures serials { serial.new ≡ sets serial.old 0 (serialsOf nodes) }
-    ensures areas { area.new ≡ sets area.old 0 (areasOf nodes) }
+    ensures says { result ≡ census_b limit nodes last used held free.now removable.now hung.now }
+    ensures serials { serial.new ≡ sets serial.old 0 (serials_of nodes) }
+    ensures areas { area.new ≡ sets area.old 0 (areas_of nodes) }
 {
     let mut ok = true;
     let mut count: usize = 0;

@@ -2,13 +2,13 @@
 // of the free list is asked for where the list names places, and whether the serials differ where none is above MAX_SERIAL.
 ghost use Rattle.std.specs.Prelude.{◌≡◌, true, ◌&&◌, leb};
 ghost use Rattle.lists.specs.Lists.{limit};
-ghost use Rattle.lists.specs.Search.{differ, zeroTail};
+ghost use Rattle.lists.specs.Search.{differ, zero_tail};
 ghost use Rattle.lists.specs.Inner.{Low};
-ghost use Rattle.lists.specs.Flags.{okB};
-ghost use Rattle.tree.specs.Pieces.{maxSerial};
-ghost use Rattle.sound.specs.Places.{topB};
-ghost use Rattle.sound.specs.Listed.{sortedB};
-ghost use Rattle.sound.specs.Frame.{domainB, sideB};
+ghost use Rattle.lists.specs.Flags.{ok_b};
+ghost use Rattle.tree.specs.Pieces.{max_serial};
+ghost use Rattle.sound.specs.Places.{top_b};
+ghost use Rattle.sound.specs.Listed.{sorted_b};
+ghost use Rattle.sound.specs.Frame.{domain_b, side_b};
 
 use crate::listed::is_sorted;
 use crate::places::top_ok;
@@ -26,14 +26,14 @@ pub const MAX_BLADE: u8 = 100;
 pub const MAX_SERIAL: u32 = 1000000;
 
 pub fn side_ok(side: u32) -> bool
-    ensures { result ≡ sideB side }
+    ensures { result ≡ side_b side }
 {
     if 1 <= side { side <= MAX_SIDE } else { false }
 }
 
 // Sheet sides, stages and blade width are in the domain.
 pub fn domain_ok(settings: Settings) -> bool
-    ensures { result ≡ domainB settings }
+    ensures { result ≡ domain_b settings }
 {
     if side_ok(settings.sheet.width) {} else {
         return false;
@@ -52,7 +52,7 @@ pub fn domain_ok(settings: Settings) -> bool
 
 // What stands beside the lists: the settings, the top, and the last serial issued.
 pub fn frame_ok(settings: Settings, top: Node, last: u32) -> bool
-    ensures { result ≡ (domainB settings && (topB limit settings top && leb last maxSerial)) }
+    ensures { result ≡ (domain_b settings && (top_b limit settings top && leb last max_serial)) }
 {
     if domain_ok(settings) {} else {
         return false;
@@ -73,9 +73,9 @@ pub fn rest_ok<'a>(
     removable: &'a [u16; LIMIT],
     removables: usize,
 ) -> bool
-    requires { (okB limit free.now frees ≡ true) × Low serial.now }
-    ensures { result ≡ (differ limit serial.now && (sortedB area.now serial.now free.now frees
-        && (zeroTail limit free.now frees && zeroTail limit removable.now removables))) }
+    requires { (ok_b limit free.now frees ≡ true) × Low serial.now }
+    ensures { result ≡ (differ limit serial.now && (sorted_b area.now serial.now free.now frees
+        && (zero_tail limit free.now frees && zero_tail limit removable.now removables))) }
 {
     if all_differ(serial) {} else {
         return false;

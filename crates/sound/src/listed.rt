@@ -1,7 +1,7 @@
 // The clauses on the two lists and on the sums, over columns of the table.
 ghost use Rattle.std.specs.Prelude.{◌≡◌, ℕ, ◌<◌, ◌≤◌, ◌^◌, get_or};
 ghost use Rattle.lists.specs.Lists.{limit};
-ghost use Rattle.sound.specs.Listed.{areaListed, before, sortedB};
+ghost use Rattle.sound.specs.Listed.{area_listed, before, sorted_b};
 
 use table::LIMIT;
 
@@ -31,7 +31,7 @@ pub fn is_sorted<'a>(
     count: usize,
 ) -> bool
     requires { (count ≤ limit) × ((k : ℕ) → k < count → get_or list.now k 0 < limit) }
-    ensures { result ≡ sortedB area.now serial.now list.now count }
+    ensures { result ≡ sorted_b area.now serial.now list.now count }
 {
     let mut k: usize = 0;
     while k + 1 < count {
@@ -45,8 +45,8 @@ pub fn is_sorted<'a>(
 
 // The area of the free pieces, where it is known to be small.
 pub fn free_sum<'a>(kind: &'a [u8; LIMIT], area: &'a [u64; LIMIT]) -> u64
-    requires { areaListed 0 kind.now area.now limit < 2 ^ 52 }
-    ensures { result ≡ areaListed 0 kind.now area.now limit }
+    requires { area_listed 0 kind.now area.now limit < 2 ^ 52 }
+    ensures { result ≡ area_listed 0 kind.now area.now limit }
 {
     let mut sum: u64 = 0;
     let mut i: usize = 0;

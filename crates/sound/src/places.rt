@@ -1,7 +1,7 @@
 // The clauses that speak of one place at a time.
 ghost use Rattle.std.specs.Prelude.{◌≡◌};
 ghost use Rattle.lists.specs.Lists.{limit};
-ghost use Rattle.sound.specs.Places.{kindB, leafB, placeB, sidedB, topB, topDatumB, topLinksB, zeroB, zeroDatumB, zeroLinksB};
+ghost use Rattle.sound.specs.Places.{kind_b, leaf_b, place_b, sided_b, top_b, top_datum_b, top_links_b, zero_b, zero_datum_b, zero_links_b};
 
 use piece::node::{Datum, Kind};
 use piece::settings::Settings;
@@ -10,7 +10,7 @@ use table::{NONE, Node};
 
 // Whether both sides are at least 1.
 fn is_sided(size: Size) -> bool
-    ensures { result ≡ sidedB size }
+    ensures { result ≡ sided_b size }
 {
     if 1 <= size.width {
         1 <= size.height
@@ -21,7 +21,7 @@ fn is_sided(size: Size) -> bool
 
 // Whether there is no child.
 fn is_leaf(n: Node) -> bool
-    ensures { result ≡ leafB limit n }
+    ensures { result ≡ leaf_b limit n }
 {
     if n.first == NONE {
         n.last == NONE
@@ -31,7 +31,7 @@ fn is_leaf(n: Node) -> bool
 }
 
 fn zero_links(n: Node) -> bool
-    ensures { result ≡ zeroLinksB n }
+    ensures { result ≡ zero_links_b n }
 {
     if n.parent != 0 {
         return false;
@@ -49,7 +49,7 @@ fn zero_links(n: Node) -> bool
 }
 
 fn zero_datum(d: Datum) -> bool
-    ensures { result ≡ zeroDatumB d }
+    ensures { result ≡ zero_datum_b d }
 {
     if d.serial != 0 {
         return false;
@@ -79,7 +79,7 @@ fn zero_datum(d: Datum) -> bool
 }
 
 fn is_zero(n: Node) -> bool
-    ensures { result ≡ zeroB n }
+    ensures { result ≡ zero_b n }
 {
     let d = n.datum;
     if zero_datum(d) { zero_links(n) } else { false }
@@ -87,7 +87,7 @@ fn is_zero(n: Node) -> bool
 
 // Whether a held node's links, number and sides suit its kind.
 fn kind_ok(n: Node) -> bool
-    ensures { result ≡ kindB limit n.datum.kind n }
+    ensures { result ≡ kind_b limit n.datum.kind n }
 {
     let d = n.datum;
     let kind = d.kind;
@@ -123,7 +123,7 @@ fn kind_ok(n: Node) -> bool
 
 // A place is all zero where its serial is.
 pub fn place_ok(n: Node) -> bool
-    ensures { result ≡ placeB limit n }
+    ensures { result ≡ place_b limit n }
 {
     if n.datum.serial == 0 {
         is_zero(n)
@@ -134,7 +134,7 @@ pub fn place_ok(n: Node) -> bool
 
 // Whether it is a structure at level 0 with the sheet's size and nothing eaten behind it.
 fn top_datum(d: Datum, settings: Settings) -> bool
-    ensures { result ≡ topDatumB settings d }
+    ensures { result ≡ top_datum_b settings d }
 {
     if d.serial == 0 {
         return false;
@@ -157,7 +157,7 @@ fn top_datum(d: Datum, settings: Settings) -> bool
 
 // Whether it hangs under no node and beside none.
 fn top_links(n: Node) -> bool
-    ensures { result ≡ topLinksB limit n }
+    ensures { result ≡ top_links_b limit n }
 {
     if n.parent != NONE {
         return false;
@@ -170,7 +170,7 @@ fn top_links(n: Node) -> bool
 
 // Whether the node at place 0 is a top with the sheet's size.
 pub fn top_ok(n: Node, settings: Settings) -> bool
-    ensures { result ≡ topB limit settings n }
+    ensures { result ≡ top_b limit settings n }
 {
     let d = n.datum;
     if top_datum(d, settings) {

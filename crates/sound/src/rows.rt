@@ -1,8 +1,8 @@
 // The clauses that speak of a parent and its children: each row is walked by its links, within as many steps as there are places.
 ghost use Rattle.std.specs.Prelude.{◌≡◌, true, ◌<◌};
 ghost use Rattle.lists.specs.Lists.{limit};
-ghost use Rattle.sound.specs.Hung.{hangRows};
-ghost use Rattle.sound.specs.Rows.{childB, childDatumB, eatenB, endB, hungUnderB, parentB, room, rowsB, sameCut, step};
+ghost use Rattle.sound.specs.Hung.{hang_rows};
+ghost use Rattle.sound.specs.Rows.{child_b, child_datum_b, eaten_b, end_b, hung_under_b, parent_b, room, rows_b, same_cut, step};
 
 use piece::node::Datum;
 use piece::orientation::Orientation;
@@ -10,7 +10,7 @@ use piece::settings::Settings;
 use table::{LIMIT, NONE, Node};
 
 fn same_cut(a: Orientation, b: Orientation) -> bool
-    ensures { result ≡ sameCut a b }
+    ensures { result ≡ same_cut a b }
 {
     match a {
         Orientation::Horizontal => match b {
@@ -26,7 +26,7 @@ fn same_cut(a: Orientation, b: Orientation) -> bool
 
 // Whether n hangs under q, after the sibling pv.
 fn is_hung(q: u16, pv: u16, n: Node) -> bool
-    ensures { result ≡ hungUnderB q pv n }
+    ensures { result ≡ hung_under_b q pv n }
 {
     if n.datum.serial == 0 {
         return false;
@@ -39,7 +39,7 @@ fn is_hung(q: u16, pv: u16, n: Node) -> bool
 
 // Whether d has the level, the cut and the side of a child of the piece `parent`.
 fn child_datum(settings: Settings, parent: Datum, d: Datum) -> bool
-    ensures { result ≡ childDatumB settings parent d }
+    ensures { result ≡ child_datum_b settings parent d }
 {
     let level = d.level as u32;
     let above = parent.level as u32;
@@ -61,7 +61,7 @@ fn child_datum(settings: Settings, parent: Datum, d: Datum) -> bool
 
 // Whether the amount that was eaten behind it is within the blade's width, and 0 where it is the last child.
 fn eaten_ok(settings: Settings, n: Node) -> bool
-    ensures { result ≡ eatenB limit settings n }
+    ensures { result ≡ eaten_b limit settings n }
 {
     let eaten = n.datum.eaten;
     if n.next == NONE {
@@ -73,7 +73,7 @@ fn eaten_ok(settings: Settings, n: Node) -> bool
 
 // Whether n is a child of q, which is `up`, after the sibling pv.
 fn child_ok(settings: Settings, up: Node, q: u16, pv: u16, n: Node) -> bool
-    ensures { result ≡ childB limit settings up q pv n }
+    ensures { result ≡ child_b limit settings up q pv n }
 {
     if is_hung(q, pv, n) {} else {
         return false;
@@ -108,7 +108,7 @@ fn room_of(n: Node) -> u32
 
 // Whether the node is held and has children.
 fn is_parent(n: Node) -> bool
-    ensures { result ≡ parentB n }
+    ensures { result ≡ parent_b n }
 {
     let d = n.datum;
     let kind = d.kind;
@@ -121,7 +121,7 @@ fn is_parent(n: Node) -> bool
 
 // Whether a row ends as it should: at no place, at its parent's last child, with its parent's side filled.
 fn ends_ok(up: Node, pv: u16, p: u16, sum: u64) -> bool
-    ensures { result ≡ endB limit up pv p sum }
+    ensures { result ≡ end_b limit up pv p sum }
 {
     if p != NONE {
         return false;
@@ -134,8 +134,8 @@ fn ends_ok(up: Node, pv: u16, p: u16, sum: u64) -> bool
 
 // Every row of a held structure is linked and filled; where all are, their places are marked.
 pub fn rows_ok(nodes: [Node; LIMIT], settings: Settings, hung: &mut [u8; LIMIT]) -> bool
-    ensures says { result ≡ rowsB limit settings nodes }
-    ensures marked { result ≡ true → hung.new ≡ hangRows limit nodes limit hung.old }
+    ensures says { result ≡ rows_b limit settings nodes }
+    ensures marked { result ≡ true → hung.new ≡ hang_rows limit nodes limit hung.old }
 {
     let mut ok = true;
     let mut q: usize = 0;

@@ -7,11 +7,11 @@ use borrow.Author.Tests.{le-leb, lt-leb}
 use lib.ListN.{set}
 use Rattle.piece.specs.declared.node.Datum.{Datum}
 use Rattle.table.specs.declared.Node.{Node}
-use Rattle.table.specs.Table.{at, mk, withFirst, with_last, with_next, tie, append}
+use Rattle.table.specs.Table.{at, mk, with_first, with_last, with_next, tie, append}
 
 module _ (limit : ℕ) (t : List Node) (q a : ℕ) (d : Datum) {leaf : Node} (new : leaf ≡ mk d q (at t q).last limit limit limit) where
   -- the link is its parent's first one, if that has no child, or the next one of the last child
-  pub tied-first : limit ≤ (at t q).last → {n : Node} → n ≡ withFirst (at (set t a leaf) q) a
+  pub tied-first : limit ≤ (at t q).last → {n : Node} → n ≡ with_first (at (set t a leaf) q) a
       → set (set t a leaf) q n ≡ tie limit (set t a leaf) q (at t q).last a
   tied-first h e = rw (le-leb limit (at t q).last h, e) refl
 

@@ -42,7 +42,7 @@ module _ (limit : ℕ) (t : List Node) (q p : ℕ) (d : Datum) (k r w : Tree) (h
       ⊎_elim (λ z. ⊎_elim inl (λ v. ⊎_elim absurd absurd v) z) inr (hang-in q leaf own.0 w h.distinct own.1 j y)
 
   pub kids-new : (j : ℕ) → In j k → In j w₁ → ⊥
-  kids-new j y z = ⊎_elim (λ e. dis.notBelow (in-eq k e y)) (new j (inr (inl y))) (in-w₁ j z)
+  kids-new j y z = ⊎_elim (λ e. dis.not_below (in-eq k e y)) (new j (inr (inl y))) (in-w₁ j z)
 
   lower : (l : Tree) × Kids p l w₁
   lower = kids-of p w₁ first-in
@@ -53,7 +53,7 @@ module _ (limit : ℕ) (t : List Node) (q p : ℕ) (d : Datum) (k r w : Tree) (h
 
   pub rest-new : (j : ℕ) → In j r → In j (hang p k w₁) → ⊥
   rest-new j y z =
-      ⊎_elim (λ v. dis.apart j v y) (λ v. ⊎_elim (λ e. dis.notBeside (in-eq r e y)) (new j (inr (inr y))) (in-w₁ j v))
+      ⊎_elim (λ v. dis.apart j v y) (λ v. ⊎_elim (λ e. dis.not_beside (in-eq r e y)) (new j (inr (inr y))) (in-w₁ j v))
       (hang-in p k lower.0 w₁ first_holds.distinct lower.1 j z)
 
 module _ (limit : ℕ) where

@@ -129,8 +129,8 @@ module _ (limit : ℕ) (t : List Node) where
   distinct-rep q pv lv (grow p d k r) rep dp n =
       let one = once q pv p d k r rep n in
       let here : (at t p).datum.level ≡ lv = ap (λ (x : Node). x.datum.level) rep.1 ∙ dp.0 in record {
-        notBelow = λ h. let z : lv + 1 ≤ (at t p).datum.level = level_in p limit (lv + 1) p k rep.2 dp.1 h in omega arith;
-        notBeside = λ h. let z : (at t p).datum.level - lv ≡ 0 = omega arith in one (rw z at (up_in q p lv p r rep.3 dp.2 h));
+        not_below = λ h. let z : lv + 1 ≤ (at t p).datum.level = level_in p limit (lv + 1) p k rep.2 dp.1 h in omega arith;
+        not_beside = λ h. let z : (at t p).datum.level - lv ≡ 0 = omega arith in one (rw z at (up_in q p lv p r rep.3 dp.2 h));
         apart = λ i h g.
             let b : lv + 1 ≤ (at t i).datum.level = level_in p limit (lv + 1) i k rep.2 dp.1 h in
             let e = kid-up p lv i k rep.2 b (up_in p limit (lv + 1) i k rep.2 dp.1 h) in

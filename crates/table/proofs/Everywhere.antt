@@ -13,7 +13,7 @@ use Rattle.piece.specs.Row.{nil, grow}
 use Rattle.tree.specs.Tree.{Tree, In, Distinct}
 use Rattle.tree.proofs.Rows.{same?, in-eq, in?}
 use Rattle.table.specs.declared.Node.{Node}
-use Rattle.table.specs.Table.{zeroDatum, at, Rep, Holds}
+use Rattle.table.specs.Table.{zero_datum, at, Rep, Holds}
 use Rattle.table.proofs.Rep.{bound}
 
 -- ---- sums over the numbers below n
@@ -37,9 +37,9 @@ sum-add f g (suc n) = let ih = sum-add f g n in omega arith
 -- ---- and over the pieces of a row
 
 module _ (h : ℕ → ℕ) where
-  abbrev pub rowSum : Tree → ℕ
-  rowSum nil = 0
-  rowSum (grow p d k r) = h p + (rowSum k + rowSum r)
+  abbrev pub row_sum : Tree → ℕ
+  row_sum nil = 0
+  row_sum (grow p d k r) = h p + (row_sum k + row_sum r)
 
   -- what the place i gives to that sum
   abbrev only : ℕ → ℕ → ℕ
@@ -65,7 +65,7 @@ module _ (h : ℕ → ℕ) where
           omega (arith, this p n e, ap h e)
       go (inr m) ih = let z = ih (omega arith) in omega (arith, other p n m)
 
-  sum-share : (w : Tree) (n : ℕ) → ((i : ℕ) → In i w → i < n) → sum (share w) n ≡ rowSum w
+  sum-share : (w : Tree) (n : ℕ) → ((i : ℕ) → In i w → i < n) → sum (share w) n ≡ row_sum w
   sum-share nil n low = sum-none (share nil) n (λ i l. refl)
   sum-share (grow p d k r) n low =
       let a = sum-share k n (λ i y. low i (inr (inl y))) in
@@ -81,15 +81,15 @@ module _ (h : ℕ → ℕ) where
   share_in : (i : ℕ) (w : Tree) → Distinct w → In i w → share w i ≡ h i
   share_in i nil dis y = absurd y
   share_in i (grow p d k r) dis (inl e) =
-      omega (arith, this p i e, share-out i k (λ y. dis.notBelow (in-eq k e y)), share-out i r (λ y. dis.notBeside (in-eq r e y)))
+      omega (arith, this p i e, share-out i k (λ y. dis.not_below (in-eq k e y)), share-out i r (λ y. dis.not_beside (in-eq r e y)))
   share_in i (grow p d k r) dis (inr (inl y)) =
-      omega (arith, other p i (λ e. dis.notBelow (in-eq k e y)), share_in i k dis.below y, share-out i r (dis.apart i y))
+      omega (arith, other p i (λ e. dis.not_below (in-eq k e y)), share_in i k dis.below y, share-out i r (dis.apart i y))
   share_in i (grow p d k r) dis (inr (inr y)) =
-      omega (arith, other p i (λ e. dis.notBeside (in-eq r e y)), share-out i k (λ z. dis.apart i z y), share_in i r dis.beside y)
+      omega (arith, other p i (λ e. dis.not_beside (in-eq r e y)), share-out i k (λ z. dis.apart i z y), share_in i r dis.beside y)
 
   -- the row has all that counts: each of its places is one of the numbers, and none stands twice
   pub everywhere : (w : Tree) (n : ℕ) → Distinct w → ((i : ℕ) → In i w → i < n) → ((i : ℕ) → i < n → (In i w → ⊥) → h i ≡ 0)
-      → sum h n ≡ rowSum w
+      → sum h n ≡ row_sum w
   everywhere w n dis low rest =
       sum_same h (share w) n
       (λ i l. ⊎_elim (λ y. sym (share_in i w dis y)) (λ o. rest i l o ∙ sym (share-out i w o)) (in? i w))
@@ -104,12 +104,12 @@ module _ (f : Datum → ℕ) where
   worth (grow p d k r) = f d + (worth k + worth r)
 
   module _ (limit : ℕ) (t : List Node) where
-    row-worth : (q pv : ℕ) (w : Tree) → Rep limit t q pv w → rowSum (λ i. f (at t i).datum) w ≡ worth w
+    row-worth : (q pv : ℕ) (w : Tree) → Rep limit t q pv w → row_sum (λ i. f (at t i).datum) w ≡ worth w
     row-worth q pv nil rep = refl
     row-worth q pv (grow p d k r) rep = rw (rep.1, row-worth p limit k rep.2, row-worth q p r rep.3) refl
 
     -- the places of a table are worth what the tree is that it holds
-    pub holds-worth : (w : Tree) → f zeroDatum ≡ 0 → Holds limit t w → sum (λ i. f (at t i).datum) limit ≡ worth w
+    pub holds-worth : (w : Tree) → f zero_datum ≡ 0 → Holds limit t w → sum (λ i. f (at t i).datum) limit ≡ worth w
     holds-worth w z h =
         everywhere (λ i. f (at t i).datum) w limit h.distinct (λ i y. bound limit t limit limit i w h.rep y)
         (λ i b n. ap (λ (x : Node). f x.datum) (h.rest i b n) ∙ z)

@@ -6,7 +6,7 @@ use mathlib.Core.Logic.{◌⊎◌}
 use Prim.Native.Nat.{ℕ, zero, suc, ◌+◌, ◌<◌}
 use lib.ListN.{length}
 use Rattle.table.specs.declared.Node.{Node}
-use Rattle.table.specs.Table.{at, Held, zeroNode}
+use Rattle.table.specs.Table.{at, Held, zero_node}
 
 -- the siblings from p on are children of q, after pv, and end at the last child of q
 abbrev pub Linked : ℕ → ℕ → List Node → ℕ → ℕ → ℕ → Type 0
@@ -35,4 +35,4 @@ pub record Linkage (limit : ℕ) (t : List Node) : Type 0 where
   pub base : (at t 0).datum.level ≡ 0
   pub root : ((at t 0).parent ≡ limit) × ((at t 0).prev ≡ limit) × ((at t 0).next ≡ limit)
   pub each : (i : ℕ) → i < limit → Held t i → Local limit t i
-  pub rest : (i : ℕ) → i < limit → (at t i).datum.serial ≡ 0 → at t i ≡ zeroNode
+  pub rest : (i : ℕ) → i < limit → (at t i).datum.serial ≡ 0 → at t i ≡ zero_node

@@ -12,7 +12,7 @@ use Rattle.tree.specs.Steps.{Rooted, Kids, Deep, Marked}
 use Rattle.tree.proofs.Rows.{in?, count-after, in-at}
 use Rattle.tree.proofs.Kids.{kids-of, kids-in, kids_under, kids-count, spot_in}
 use Rattle.table.specs.declared.Node.{Node}
-use Rattle.table.specs.Table.{mk, zeroNode, at, Held, head, last, Rep, Holds}
+use Rattle.table.specs.Table.{mk, zero_node, at, Held, head, last, Rep, Holds}
 use Rattle.table.proofs.Linkage.{Linked, Among, Local, Linkage}
 use Rattle.table.proofs.Rep.{Shows, shows, piece-at}
 use Rattle.table.proofs.Unique.{holds-room}
@@ -133,5 +133,5 @@ module _ (limit : ℕ) (t : List Node) (w : Tree) (ro : Rooted w) (h : Holds lim
         rest = λ i b z. ⊎_elim (λ y. let s = held i y in let no-serial : ⊥ = omega arith in absurd no-serial) (h.rest i b) (in? i w);
       }
     where
-      gone : (i : ℕ) → Held t i → at t i ≡ zeroNode → ⊥
+      gone : (i : ℕ) → Held t i → at t i ≡ zero_node → ⊥
       gone i z e = let s : (at t i).datum.serial ≡ 0 = ap (λ (n : Node). n.datum.serial) e in omega arith

@@ -14,7 +14,7 @@ use Rattle.tree.specs.Steps.{Kids}
 use Rattle.tree.proofs.Rows.{in-eq}
 use Rattle.tree.proofs.Kids.{kids-in, kids_under, put, put-here, put-left, put_right}
 use Rattle.table.specs.declared.Node.{Node}
-use Rattle.table.specs.Table.{mk, with_next, withPrev, at, head, last, Rep}
+use Rattle.table.specs.Table.{mk, with_next, with_prev, at, head, last, Rep}
 
 -- the last of a row is what comes before it, or in it; the head is what comes after it, or in it
 pub last-cases : (pv : ℕ) (k : Tree) → (last pv k ≡ pv) ⊎ In (last pv k) k
@@ -143,12 +143,12 @@ module _ (limit : ℕ) where
     renext pv nx n (grow p d k nil) dis s same tied = (
       s.0,
       tied (inl refl) ∙ ap (λ (m : Node). with_next m n) s.1,
-      frame t u p limit k (λ i h. same i (inr (inl h)) (λ e. dis.notBelow (in-eq k e h))) s.2,
+      frame t u p limit k (λ i h. same i (inr (inl h)) (λ e. dis.not_below (in-eq k e h))) s.2,
       tt,
     )
     renext pv nx n (grow p d k (grow p₁ d₁ k₁ r₁)) dis s same tied = (
       s.0,
-      same p (inl refl) (λ e. dis.notBeside (in-eq r (sym e) end)) ∙ s.1,
+      same p (inl refl) (λ e. dis.not_beside (in-eq r (sym e) end)) ∙ s.1,
       frame t u p limit k (λ i h. same i (inr (inl h)) (λ e. dis.apart i h (in-eq r (sym e) end))) s.2,
       renext p nx n (grow p₁ d₁ k₁ r₁) dis.beside s.3 (λ i h m. same i (inr (inr h)) m) (λ h. tied (inr (inr h))),
     )
@@ -161,13 +161,13 @@ module _ (limit : ℕ) where
 
     -- something else comes before it
     pub reprev : (pv nx n : ℕ) (k : Tree) → Distinct k → Part t q pv nx k → ((i : ℕ) → In i k → (i ≡ head limit k → ⊥) → at u i ≡ at t i)
-        → (In (head limit k) k → at u (head limit k) ≡ withPrev (at t (head limit k)) n) → Part u q n nx k
+        → (In (head limit k) k → at u (head limit k) ≡ with_prev (at t (head limit k)) n) → Part u q n nx k
     reprev pv nx n nil dis s same tied = tt
     reprev pv nx n (grow p d k r) dis s same tied = (
       s.0,
-      tied (inl refl) ∙ ap (λ (m : Node). withPrev m n) s.1,
-      frame t u p limit k (λ i h. same i (inr (inl h)) (λ e. dis.notBelow (in-eq k e h))) s.2,
-      part-frame p nx r (λ i h. same i (inr (inr h)) (λ e. dis.notBeside (in-eq r e h))) s.3,
+      tied (inl refl) ∙ ap (λ (m : Node). with_prev m n) s.1,
+      frame t u p limit k (λ i h. same i (inr (inl h)) (λ e. dis.not_below (in-eq k e h))) s.2,
+      part-frame p nx r (λ i h. same i (inr (inr h)) (λ e. dis.not_beside (in-eq r e h))) s.3,
     )
 
   -- other children of q
@@ -183,14 +183,14 @@ module _ (limit : ℕ) where
           rw (e.0, rep.1) at entry,
           rw e.0 at new,
           frame t u v p r
-              (λ i y. same i (inr (inr y)) (λ z. dis.notBeside (in-eq r (z ∙ e.0) y)) (λ z. dis.apart i (rw e.1 at z) y)) rep.3,
+              (λ i y. same i (inr (inr y)) (λ z. dis.not_beside (in-eq r (z ∙ e.0) y)) (λ z. dis.apart i (rw e.1 at z) y)) rep.3,
         )
     rep-put v pv (grow p d l r) rep dis (inr (inl h)) same entry new =
         let j : In q l = kids-in q m l h in
         rw (put-left q k p d l r dis j) (
           rep.0,
           rw (head-put q k limit l, last-put q k limit l)
-              (same p (inl refl) (λ z. dis.notBelow (in-eq l (sym z) j)) (λ z. dis.notBelow (kids_under q m p l h z)) ∙ rep.1),
+              (same p (inl refl) (λ z. dis.not_below (in-eq l (sym z) j)) (λ z. dis.not_below (kids_under q m p l h z)) ∙ rep.1),
           rep-put p limit l rep.2 dis.below h (λ i y. same i (inr (inl y))) entry new,
           frame t u v p r
               (λ i y. same i (inr (inr y)) (λ z. dis.apart q j (in-eq r z y)) (λ z. dis.apart i (kids_under q m i l h z) y)) rep.3,
@@ -200,7 +200,7 @@ module _ (limit : ℕ) where
         rw (put_right q k p d l r dis j) (
           rep.0,
           rw (head-put q k limit r)
-              (same p (inl refl) (λ z. dis.notBeside (in-eq r (sym z) j)) (λ z. dis.notBeside (kids_under q m p r h z)) ∙ rep.1),
+              (same p (inl refl) (λ z. dis.not_beside (in-eq r (sym z) j)) (λ z. dis.not_beside (kids_under q m p r h z)) ∙ rep.1),
           frame t u p limit l
               (λ i y. same i (inr (inl y)) (λ z. dis.apart q (in-eq l z y) j) (λ z. dis.apart i y (kids_under q m i r h z))) rep.2,
           rep-put v p r rep.3 dis.beside h (λ i y. same i (inr (inr y))) entry new,

@@ -32,7 +32,7 @@ module _ {A : Type 0} where
     where
       go : (i ≡ p) ⊎ (i ≡ p → ⊥) → In i k ⊎ (In i k → ⊥) → times i k ≤ 1 → times i r ≤ 1 → times i (grow p d k r) ≤ 1
       go (inl e) c a b =
-          rw (eq-eqb i p e, never i k (λ h. dis.notBelow (in-eq k e h)), never i r (λ h. dis.notBeside (in-eq r e h))) (omega arith)
+          rw (eq-eqb i p e, never i k (λ h. dis.not_below (in-eq k e h)), never i r (λ h. dis.not_beside (in-eq r e h))) (omega arith)
       go (inr n) (inl h) a b = rw (ne_eqb i p n, never i r (dis.apart i h)) (omega arith)
       go (inr n) (inr m) a b = rw (ne_eqb i p n, never i k m) (omega arith)
 

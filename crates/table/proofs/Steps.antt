@@ -19,12 +19,12 @@ use Rattle.tree.proofs.Kept.{This, Alone, only, not_top, free-alone}
 use Rattle.tree.proofs.Blocks.{block_in, block-distinct}
 use Rattle.tree.proofs.Kids.{Spot, spot_in}
 use Rattle.tree.proofs.Goes.{subtree-is}
-use Rattle.tree.proofs.Spots.{freeEnd, FreeLeaves, topped-rooted, topped-deep, where-spot, topped-leaves, leaves-from}
+use Rattle.tree.proofs.Spots.{free_end, FreeLeaves, topped-rooted, topped-deep, where-spot, topped-leaves, leaves-from}
 use Rattle.tree.proofs.BookPieces.{block_apart}
 use Rattle.table.specs.declared.Node.{Node}
 use Rattle.table.specs.Table.{at, Holds, append, unlink}
 use Rattle.table.specs.Build.{tree_of}
-use Rattle.table.specs.Steps.{plant, freeLastDatum, going, unlinkAll}
+use Rattle.table.specs.Steps.{plant, free_last_datum, going, unlink_all}
 use Rattle.table.proofs.Rep.{shows, piece-at}
 use Rattle.table.proofs.Unlink.{unlink-holds}
 use Rattle.table.proofs.Unique.{tree_is}
@@ -92,7 +92,7 @@ module _ (limit : ℕ) (settings : Settings) (t : List Node) (w : Tree) (sound :
         (topped-leaves settings spot.parent (after spot.before (grow x z.piece spot.below spot.behind)) w sound.topped row)).1
 
     -- the places that go, by that row
-    pub going-row : going t x w ≡ leaving (grow x z.piece spot.below nil) ++ freeEnd spot.behind
+    pub going-row : going t x w ≡ leaving (grow x z.piece spot.below nil) ++ free_end spot.behind
     going-row =
         rw (
           subtree-is spot.parent x spot.before z.piece spot.below spot.behind w h.distinct row,
@@ -102,15 +102,15 @@ module _ (limit : ℕ) (settings : Settings) (t : List Node) (w : Tree) (sound :
         refl
 
     -- when all that goes has gone
-    pub clear-sound : Holds limit (unlinkAll limit t (going t x w)) (cleared x w)
+    pub clear-sound : Holds limit (unlink_all limit t (going t x w)) (cleared x w)
     clear-sound =
         rw going-row (clear-holds limit t spot.parent x spot.before z.piece spot.below spot.behind w h row leaves)
 
     -- and when the new piece is there
     pub remove-sound : (n m : ℕ) → n < limit → (In n (cleared x w) → ⊥)
         → Holds limit
-        (append limit (unlinkAll limit t (going t x w)) (at t x).parent n
-        (freed m z.piece (board z.piece (freeLastDatum t (at t x).parent))))
+        (append limit (unlink_all limit t (going t x w)) (at t x).parent n
+        (freed m z.piece (board z.piece (free_last_datum t (at t x).parent))))
         (remove x n m w)
     remove-sound n m hn new =
         rw (

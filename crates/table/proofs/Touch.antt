@@ -10,19 +10,19 @@ use lib.Seq.{get_or-set_same, get_or-set_other}
 use borrow.Author.Tests.{lt-leb}
 use Rattle.piece.specs.declared.node.Datum.{Datum}
 use Rattle.table.specs.declared.Node.{Node}
-use Rattle.table.specs.Table.{mk, zeroNode, withFirst, with_last, with_next, withPrev, at, enter, tie, append, joinBefore, joinAfter, unlink}
+use Rattle.table.specs.Table.{mk, zero_node, with_first, with_last, with_next, with_prev, at, enter, tie, append, join_before, join_after, unlink}
 
 at_set : (limit : ℕ) (t : List Node) (i : ℕ) (n : Node) → length t ≡ limit → i < limit → at (set t i n) i ≡ n
-at_set limit t i n len h = get_or-set_same t i n zeroNode (omega arith)
+at_set limit t i n len h = get_or-set_same t i n zero_node (omega arith)
 
 at_off : (t : List Node) (i j : ℕ) (n : Node) → (j ≡ i → ⊥) → at (set t i n) j ≡ at t j
-at_off t i j n h = get_or-set_other t i j n zeroNode h
+at_off t i j n h = get_or-set_other t i j n zero_node h
 
 -- The link that leads to a piece is the next link of the piece before it, pv, or its parent's first link: it is set to nx. Before an append it is
--- `tie`, and before an unlinking `joinBefore`, the same function.
+-- `tie`, and before an unlinking `join_before`, the same function.
 module _ (limit : ℕ) (t : List Node) (q pv nx : ℕ) where
   abbrev led : Bool → List Node
-  led b = cond b (set t q (withFirst (at t q) nx)) (set t pv (with_next (at t pv) nx))
+  led b = cond b (set t q (with_first (at t q) nx)) (set t pv (with_next (at t pv) nx))
 
   led-len : (b : Bool) → length (led b) ≡ length t
   led-len true = length-set t q _
@@ -42,7 +42,7 @@ module _ (limit : ℕ) (t : List Node) (q pv nx : ℕ) where
 
   -- and the link that leads to it from behind: the previous link of the piece after it, or its parent's last link
   abbrev trailed : Bool → List Node
-  trailed b = cond b (set t q (with_last (at t q) pv)) (set t nx (withPrev (at t nx) pv))
+  trailed b = cond b (set t q (with_last (at t q) pv)) (set t nx (with_prev (at t nx) pv))
 
   trailed-len : (b : Bool) → length (trailed b) ≡ length t
   trailed-len true = length-set t q _
@@ -57,7 +57,7 @@ module _ (limit : ℕ) (t : List Node) (q pv nx : ℕ) where
   trailed-parent true len h n = at_set limit t q _ len h
   trailed-parent false len h n = at_off t nx q _ (λ e. n (sym e))
 
-  trailed-after : length t ≡ limit → nx < limit → at (trailed (leb limit nx)) nx ≡ withPrev (at t nx) pv
+  trailed-after : length t ≡ limit → nx < limit → at (trailed (leb limit nx)) nx ≡ with_prev (at t nx) pv
   trailed-after len h = rw (lt-leb limit nx h) (at_set limit t nx _ len h)
 
 -- The table u is t with the new leaf a at the end of the children of q, after l.
@@ -106,17 +106,17 @@ module _ (limit : ℕ) (t : List Node) (q a : ℕ) (d : Datum) (len : length t �
 -- The table u is t without x, whose parent is q, between pv and nx.
 pub record Cut (limit : ℕ) (t u : List Node) (x q pv nx : ℕ) : Type 0 where
   pub len : length u ≡ limit
-  pub gone : at u x ≡ zeroNode
+  pub gone : at u x ≡ zero_node
   pub other : (i : ℕ) → (i ≡ x → ⊥) → (i ≡ q → ⊥) → (i ≡ pv → ⊥) → (i ≡ nx → ⊥) → at u i ≡ at t i
   pub before : pv < limit → at u pv ≡ with_next (at t pv) nx
-  pub behind : nx < limit → at u nx ≡ withPrev (at t nx) pv
+  pub behind : nx < limit → at u nx ≡ with_prev (at t nx) pv
   pub parent : at u q
       ≡ mk (at t q).datum (at t q).parent (at t q).prev (cond (leb limit pv) nx (at t q).first) (cond (leb limit nx) pv (at t q).last)
       (at t q).next
 
 module _ (limit : ℕ) (t : List Node) (x q pv nx : ℕ) (len : length t ≡ limit) (hx : x < limit) (hq : q < limit)
     (qx : q ≡ x → ⊥) (px : pv ≡ x → ⊥) (nxx : nx ≡ x → ⊥) (pq : pv ≡ q → ⊥) (nq : nx ≡ q → ⊥) (pn : pv < limit → pv ≡ nx → ⊥) where
-  cut_at : Cut limit t (set (joinAfter limit (joinBefore limit t q pv nx) q pv nx) x zeroNode) x q pv nx
+  cut_at : Cut limit t (set (join_after limit (join_before limit t q pv nx) q pv nx) x zero_node) x q pv nx
   cut_at =
       record {
         len = length-set v x _ ∙ len-v;
@@ -124,7 +124,7 @@ module _ (limit : ℕ) (t : List Node) (x q pv nx : ℕ) (len : length t ≡ lim
         other = λ i mx mq mp mn. at_off v x i _ mx ∙ trailed-other limit u q pv nx bn i mq mn ∙ led-other limit t q pv nx bp i mq mp;
         before = λ h. at_off v x pv _ px ∙ trailed-other limit u q pv nx bn pv pq (pn h) ∙ led-before limit t q pv nx len h;
         behind = λ h. at_off v x nx _ nxx ∙ trailed-after limit u q pv nx len-u h
-            ∙ ap (λ (n : Node). withPrev n pv) (led-other limit t q pv nx bp nx nq (λ e. pn (rw e at h) (sym e)));
+            ∙ ap (λ (n : Node). with_prev n pv) (led-other limit t q pv nx bp nx nq (λ e. pn (rw e at h) (sym e)));
         parent = at_off v x q _ qx ∙ trailed-parent limit u q pv nx bn len-u hq nq
             ∙ ap (λ (n : Node). mk n.datum n.parent n.prev n.first (cond bn pv n.last) n.next)
             (led-parent limit t q pv nx bp len hq pq);
@@ -137,13 +137,13 @@ module _ (limit : ℕ) (t : List Node) (x q pv nx : ℕ) (len : length t ≡ lim
       bn = leb limit nx
 
       u : List Node
-      u = joinBefore limit t q pv nx
+      u = join_before limit t q pv nx
 
       len-u : length u ≡ limit
       len-u = led-len limit t q pv nx bp ∙ len
 
       v : List Node
-      v = joinAfter limit u q pv nx
+      v = join_after limit u q pv nx
 
       len-v : length v ≡ limit
       len-v = trailed-len limit u q pv nx bn ∙ len-u
@@ -168,7 +168,7 @@ module _ (limit : ℕ) (t : List Node) where
   unfolding unlink
   unlink-length x =
       let n = at t x in
-      let u = joinBefore limit t n.parent n.prev n.next in
-      length-set (joinAfter limit u n.parent n.prev n.next) x _
+      let u = join_before limit t n.parent n.prev n.next in
+      length-set (join_after limit u n.parent n.prev n.next) x _
       ∙ trailed-len limit u n.parent n.prev n.next (leb limit n.next)
       ∙ led-len limit t n.parent n.prev n.next (leb limit n.prev)

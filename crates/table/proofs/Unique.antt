@@ -12,7 +12,7 @@ use Rattle.tree.specs.Steps.{Rooted, Kids}
 use Rattle.tree.proofs.Rows.{in?}
 use Rattle.tree.proofs.Kids.{kids-count}
 use Rattle.table.specs.declared.Node.{Node}
-use Rattle.table.specs.Table.{zeroNode, at, head, Rep, Holds}
+use Rattle.table.specs.Table.{zero_node, at, head, Rep, Holds}
 use Rattle.table.specs.Build.{chain, kids, tree_of}
 use Rattle.table.proofs.Rep.{shows, bound}
 use Rattle.table.proofs.Room.{room}
@@ -28,7 +28,7 @@ module _ (limit : ℕ) where
   -- two tables that hold the same tree are the same
   pub same-table : (t u : List Node) (w : Tree) → Holds limit t w → Holds limit u w → t ≡ u
   same-table t u w a b =
-      ext_get_or zeroNode t u (a.len ∙ sym b.len)
+      ext_get_or zero_node t u (a.len ∙ sym b.len)
       (λ i l.
       let h : i < limit = rw a.len at l in
       ⊎_elim (same_at t u limit limit i w a.rep b.rep) (λ n. a.rest i h n ∙ sym (b.rest i h n)) (in? i w))

@@ -16,7 +16,7 @@ use Rattle.tree.proofs.Kids.{kids-in, kids_under, kids-distinct, kids-self, put,
 use Rattle.tree.proofs.Kids.{after-apart, after_first, after-second, spot_in, spot-kids}
 use Rattle.tree.proofs.Goes.{less-put}
 use Rattle.table.specs.declared.Node.{Node}
-use Rattle.table.specs.Table.{mk, zeroNode, at, head, last, Rep, Holds, unlink}
+use Rattle.table.specs.Table.{mk, zero_node, at, head, last, Rep, Holds, unlink}
 use Rattle.table.proofs.Touch.{Cut, cut}
 use Rattle.table.proofs.Rep.{Shows, shows, Part, bound, limit-out, last-cases, head-cases, last-after, rep-part, part-rep, split, joined}
 use Rattle.table.proofs.Rep.{renext, reprev, rep-put}
@@ -71,7 +71,7 @@ module _ (limit : ℕ) (t : List Node) (q x : ℕ) (a : Tree) (d : Datum) (b w :
   not-x-a i y e = after-apart a (grow x d nil b) dis i y (inl e)
 
   not-x-b : (i : ℕ) → In i b → i ≡ x → ⊥
-  not-x-b i y e = (after-second a (grow x d nil b) dis).notBeside (in-eq b e y)
+  not-x-b i y e = (after-second a (grow x d nil b) dis).not_beside (in-eq b e y)
 
   apart : (i : ℕ) → In i a → In i b → ⊥
   apart i y z = after-apart a (grow x d nil b) dis i y (inr (inr z))
@@ -157,7 +157,7 @@ module _ (limit : ℕ) (t : List Node) (q x : ℕ) (a : Tree) (d : Datum) (b w :
       under : (i : ℕ) → In i m → In i w
       under i y = kids_under q m i w kids y
 
-      kept : (i : ℕ) → i < limit → (In i (less x w) → ⊥) → (i ≡ x → ⊥) → at u i ≡ zeroNode
+      kept : (i : ℕ) → i < limit → (In i (less x w) → ⊥) → (i ≡ x → ⊥) → at u i ≡ zero_node
       kept i l n nx =
           let o : In i w → ⊥ = (λ y. n (in-less i y nx)) in
           g.other i nx (λ e. o (in-eq w (sym e) (kids-in q m w kids)))

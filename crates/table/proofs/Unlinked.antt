@@ -6,18 +6,18 @@ use Prim.Native.Nat.{ℕ, ◌≤◌, ◌<◌}
 use borrow.Author.Tests.{le-leb, lt-leb}
 use lib.ListN.{set}
 use Rattle.table.specs.declared.Node.{Node}
-use Rattle.table.specs.Table.{at, joinAfter, joinBefore, unlink, withFirst, with_last, with_next, withPrev, zeroNode}
+use Rattle.table.specs.Table.{at, join_after, join_before, unlink, with_first, with_last, with_next, with_prev, zero_node}
 
 module _ (limit : ℕ) (t : List Node) (n : Node) where
   -- t with what is before n and what is behind it joined
   abbrev before : List Node
-  before = joinBefore limit t n.parent n.prev n.next
+  before = join_before limit t n.parent n.prev n.next
 
   abbrev after : List Node
-  after = joinAfter limit t n.parent n.prev n.next
+  after = join_after limit t n.parent n.prev n.next
 
   module _ {m : Node} {u : List Node} where
-    pub first-joined : limit ≤ n.prev → m ≡ withFirst (at t n.parent) n.next → u ≡ set t n.parent m → u ≡ before
+    pub first-joined : limit ≤ n.prev → m ≡ with_first (at t n.parent) n.next → u ≡ set t n.parent m → u ≡ before
     first-joined h e f = f ∙ ap (λ (v : Node). set t n.parent v) e ∙ rw (le-leb limit n.prev h) refl
 
     pub next-joined : n.prev < limit → m ≡ with_next (at t n.prev) n.next → u ≡ set t n.prev m → u ≡ before
@@ -26,12 +26,12 @@ module _ (limit : ℕ) (t : List Node) (n : Node) where
     pub last-joined : limit ≤ n.next → m ≡ with_last (at t n.parent) n.prev → u ≡ set t n.parent m → u ≡ after
     last-joined h e f = f ∙ ap (λ (v : Node). set t n.parent v) e ∙ rw (le-leb limit n.next h) refl
 
-    pub prev-joined : n.next < limit → m ≡ withPrev (at t n.next) n.prev → u ≡ set t n.next m → u ≡ after
+    pub prev-joined : n.next < limit → m ≡ with_prev (at t n.next) n.prev → u ≡ set t n.next m → u ≡ after
     prev-joined h e f = f ∙ ap (λ (v : Node). set t n.next v) e ∙ rw (lt-leb limit n.next h) refl
 
 module _ (limit : ℕ) (t : List Node) (x : ℕ) {u v : List Node} {z : Node} where
-  pub unlinked : u ≡ before limit t (at t x) → v ≡ after limit u (at t x) → z ≡ zeroNode → set v x z ≡ unlink limit t x
+  pub unlinked : u ≡ before limit t (at t x) → v ≡ after limit u (at t x) → z ≡ zero_node → set v x z ≡ unlink limit t x
   unfolding unlink
   unlinked e f g =
       ap (λ (m : Node). set v x m) g
-      ∙ ap (λ (w : List Node). set w x zeroNode) (f ∙ ap (λ (w : List Node). after limit w (at t x)) e)
+      ∙ ap (λ (w : List Node). set w x zero_node) (f ∙ ap (λ (w : List Node). after limit w (at t x)) e)

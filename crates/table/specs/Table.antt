@@ -9,18 +9,18 @@ use Rattle.piece.specs.Row.{nil, grow}
 use Rattle.tree.specs.Tree.{Tree, In, Distinct}
 use Rattle.table.specs.declared.Node.{Node}
 
-abbrev pub zeroDatum : Datum
-zeroDatum = record { serial = 0; size = sized 0 0; number = 0; level = 0; kind = Free; cut = Horizontal; eaten = 0 }
+abbrev pub zero_datum : Datum
+zero_datum = record { serial = 0; size = sized 0 0; number = 0; level = 0; kind = Free; cut = Horizontal; eaten = 0 }
 
 abbrev pub mk : Datum → (q pv f l n : ℕ) → Node
 mk d q pv f l n = record { datum = d; parent = q; first = f; last = l; prev = pv; next = n }
 
 -- "Unheld places .. are zero."
-abbrev pub zeroNode : Node
-zeroNode = mk zeroDatum 0 0 0 0 0
+abbrev pub zero_node : Node
+zero_node = mk zero_datum 0 0 0 0 0
 
-abbrev pub withFirst : Node → ℕ → Node
-withFirst n k = mk n.datum n.parent n.prev k n.last n.next
+abbrev pub with_first : Node → ℕ → Node
+with_first n k = mk n.datum n.parent n.prev k n.last n.next
 
 abbrev pub with_last : Node → ℕ → Node
 with_last n k = mk n.datum n.parent n.prev n.first k n.next
@@ -28,11 +28,11 @@ with_last n k = mk n.datum n.parent n.prev n.first k n.next
 abbrev pub with_next : Node → ℕ → Node
 with_next n k = mk n.datum n.parent n.prev n.first n.last k
 
-abbrev pub withPrev : Node → ℕ → Node
-withPrev n k = mk n.datum n.parent k n.first n.last n.next
+abbrev pub with_prev : Node → ℕ → Node
+with_prev n k = mk n.datum n.parent k n.first n.last n.next
 
 abbrev pub at : List Node → ℕ → Node
-at t i = get_or t i zeroNode
+at t i = get_or t i zero_node
 
 -- the place is held
 abbrev pub Held : List Node → ℕ → Type 0
@@ -61,14 +61,14 @@ pub record Holds (limit : ℕ) (t : List Node) (w : Tree) : Type 0 where
   pub len : length t ≡ limit
   pub rep : Rep limit t limit limit w
   pub distinct : Distinct w
-  pub rest : (i : ℕ) → i < limit → (In i w → ⊥) → at t i ≡ zeroNode
+  pub rest : (i : ℕ) → i < limit → (In i w → ⊥) → at t i ≡ zero_node
 
 -- a leaf at the place a becomes the last child of q
 abbrev pub enter : ℕ → List Node → ℕ → ℕ → Datum → List Node
 enter limit t q a d = set t a (mk d q (at t q).last limit limit limit)
 
 abbrev pub tie : ℕ → List Node → ℕ → ℕ → ℕ → List Node
-tie limit t q l a = cond (leb limit l) (set t q (withFirst (at t q) a)) (set t l (with_next (at t l) a))
+tie limit t q l a = cond (leb limit l) (set t q (with_first (at t q) a)) (set t l (with_next (at t l) a))
 
 abbrev pub close : List Node → ℕ → ℕ → List Node
 close t q a = set t q (with_last (at t q) a)
@@ -77,16 +77,16 @@ unfoldable pub append : ℕ → List Node → ℕ → ℕ → Datum → List Nod
 append limit t q a d = close (tie limit (enter limit t q a d) q (at t q).last a) q a
 
 -- a leaf is taken out of its row
-abbrev pub joinBefore : ℕ → List Node → ℕ → ℕ → ℕ → List Node
-joinBefore limit t q pv nx = cond (leb limit pv) (set t q (withFirst (at t q) nx)) (set t pv (with_next (at t pv) nx))
+abbrev pub join_before : ℕ → List Node → ℕ → ℕ → ℕ → List Node
+join_before limit t q pv nx = cond (leb limit pv) (set t q (with_first (at t q) nx)) (set t pv (with_next (at t pv) nx))
 
-abbrev pub joinAfter : ℕ → List Node → ℕ → ℕ → ℕ → List Node
-joinAfter limit t q pv nx = cond (leb limit nx) (set t q (with_last (at t q) pv)) (set t nx (withPrev (at t nx) pv))
+abbrev pub join_after : ℕ → List Node → ℕ → ℕ → ℕ → List Node
+join_after limit t q pv nx = cond (leb limit nx) (set t q (with_last (at t q) pv)) (set t nx (with_prev (at t nx) pv))
 
 unfoldable pub unlink : ℕ → List Node → ℕ → List Node
 unlink limit t x =
     let n = at t x in
     set
-    (joinAfter limit (joinBefore limit t n.parent n.prev n.next) n.parent n.prev n.next)
+    (join_after limit (join_before limit t n.parent n.prev n.next) n.parent n.prev n.next)
     x
-    zeroNode
+    zero_node

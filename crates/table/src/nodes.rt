@@ -1,7 +1,7 @@
 // Nodes one by one: the node of an unheld place, a leaf, and a node with another link; and the table in which no place is held.
 ghost use Rattle.std.specs.Prelude.{◌≡◌, replicate};
 ghost use Rattle.lists.specs.Lists.{limit};
-ghost use Rattle.table.specs.Table.{mk, zeroDatum, zeroNode, withFirst, with_last, with_next, withPrev};
+ghost use Rattle.table.specs.Table.{mk, zero_datum, zero_node, with_first, with_last, with_next, with_prev};
 
 use crate::{LIMIT, NONE, Node};
 use piece::node::{Datum, Kind};
@@ -10,7 +10,7 @@ use piece::size::Size;
 
 // No piece: all zero.
 pub fn no_datum() -> Datum
-    ensures { result ≡ zeroDatum }
+    ensures { result ≡ zero_datum }
 {
     Datum {
         serial: 0,
@@ -28,7 +28,7 @@ pub fn no_datum() -> Datum
 
 // What stands at an unheld place.
 pub fn no_node() -> Node
-    ensures { result ≡ zeroNode }
+    ensures { result ≡ zero_node }
 {
     Node {
         datum: no_datum(),
@@ -42,7 +42,7 @@ pub fn no_node() -> Node
 
 // The table in which no place is held.
 pub fn empty_table() -> [Node; LIMIT]
-    ensures { result ≡ replicate limit zeroNode }
+    ensures { result ≡ replicate limit zero_node }
 {
     let zero = no_node();
     [zero; LIMIT]
@@ -63,7 +63,7 @@ pub fn leaf(d: Datum, parent: u16, prev: u16) -> Node
 }
 
 pub fn with_first(n: Node, k: u16) -> Node
-    ensures { result ≡ withFirst n k }
+    ensures { result ≡ with_first n k }
 {
     let mut m = n;
     m.first = k;
@@ -87,7 +87,7 @@ pub fn with_next(n: Node, k: u16) -> Node
 }
 
 pub fn with_prev(n: Node, k: u16) -> Node
-    ensures { result ≡ withPrev n k }
+    ensures { result ≡ with_prev n k }
 {
     let mut m = n;
     m.prev = k;

@@ -3,7 +3,7 @@ ghost use Rattle.std.specs.Prelude.{◌≡◌, ◌<◌};
 ghost use Rattle.lists.specs.Lists.{limit};
 ghost use Rattle.table.specs.Table as spec;
 ghost use Rattle.table.specs.Table.{at};
-ghost use Rattle.table.specs.Unheld.{lowestFrom};
+ghost use Rattle.table.specs.Unheld.{lowest_from};
 
 use crate::nodes::{leaf, no_node, with_first, with_last, with_next, with_prev};
 use crate::{LIMIT, NONE, Node};
@@ -11,7 +11,7 @@ use piece::node::Datum;
 
 // The lowest place from `from` on that is not held; NONE where all are. What is past NONE comes back as it is.
 pub fn unheld(nodes: [Node; LIMIT], from: u16) -> u16
-    ensures { result ≡ lowestFrom limit nodes from }
+    ensures { result ≡ lowest_from limit nodes from }
 {
     let mut i = from;
     let place = loop {

@@ -7,9 +7,9 @@ use Prim.Native.Nat.{ℕ}
 use borrow.Author.Tests.{eq-eqb, ne_eqb}
 use Rattle.piece.specs.declared.node.Datum.{Datum}
 use Rattle.piece.specs.Row.{nil, grow}
-use Rattle.piece.specs.Kinds.{isFree}
-use Rattle.tree.specs.Tree.{Tree, In, Inside, Distinct, after, isNil}
-use Rattle.tree.specs.Removal.{withoutLast, settled, remove, cleared, subtree}
+use Rattle.piece.specs.Kinds.{is_free}
+use Rattle.tree.specs.Tree.{Tree, In, Inside, Distinct, after, is_nil}
+use Rattle.tree.specs.Removal.{without_last, settled, remove, cleared, subtree}
 use Rattle.tree.proofs.Rows.{same?, in-eq}
 use Rattle.tree.proofs.Counts.{in-cleared, in_remove}
 use Rattle.tree.proofs.RemoveKept.{in_left}
@@ -37,16 +37,16 @@ left-outside x i (grow p d k r) u h g = go (same? p x) (left-outside x i k u.bel
   where
     here : p ≡ x → In i r → Inside x i (grow p d k r) → ⊥
     here e o (inl z) = u.apart i z.1 o
-    here e o (inr (inl z)) = u.notBelow (in-eq k (sym e) (inside-outer x i k z))
-    here e o (inr (inr z)) = u.notBeside (in-eq r (sym e) (inside-outer x i r z))
+    here e o (inr (inl z)) = u.not_below (in-eq k (sym e) (inside-outer x i k z))
+    here e o (inr (inr z)) = u.not_beside (in-eq r (sym e) (inside-outer x i r z))
 
     further : (p ≡ x → ⊥) → (In i (cleared x k) → Inside x i k → ⊥) → (In i (cleared x r) → Inside x i r → ⊥)
         → In i (grow p d (cleared x k) (cleared x r)) → Inside x i (grow p d k r) → ⊥
     further m a b o (inl z) = m (sym z.0)
-    further m a b (inl e) (inr (inl z)) = u.notBelow (in-eq k e (inside-inner x i k z))
+    further m a b (inl e) (inr (inl z)) = u.not_below (in-eq k e (inside-inner x i k z))
     further m a b (inr (inl o)) (inr (inl z)) = a o z
     further m a b (inr (inr o)) (inr (inl z)) = u.apart i (inside-inner x i k z) (in-cleared x i r o)
-    further m a b (inl e) (inr (inr z)) = u.notBeside (in-eq r e (inside-inner x i r z))
+    further m a b (inl e) (inr (inr z)) = u.not_beside (in-eq r e (inside-inner x i r z))
     further m a b (inr (inl o)) (inr (inr z)) = u.apart i (in-cleared x i k o) (inside-inner x i r z)
     further m a b (inr (inr o)) (inr (inr z)) = b o z
 
@@ -57,18 +57,18 @@ left-outside x i (grow p d k r) u h g = go (same? p x) (left-outside x i k u.bel
 -- ---- what is left keeps what is below it
 
 -- in the row without its free last piece
-subtree-left : (y : ℕ) (r : Tree) → Distinct r → In y (withoutLast r) → subtree y (withoutLast r) ≡ subtree y r
+subtree-left : (y : ℕ) (r : Tree) → Distinct r → In y (without_last r) → subtree y (without_last r) ≡ subtree y r
 subtree-left y nil u h = refl
-subtree-left y (grow p d k r) u h = go (isFree d.kind && isNil r) h (subtree-left y r u.beside)
+subtree-left y (grow p d k r) u h = go (is_free d.kind && is_nil r) h (subtree-left y r u.beside)
   where
-    later : (In y (withoutLast r) → subtree y (withoutLast r) ≡ subtree y r) → In y (grow p d k (withoutLast r))
-        → subtree y (grow p d k (withoutLast r)) ≡ subtree y (grow p d k r)
+    later : (In y (without_last r) → subtree y (without_last r) ≡ subtree y r) → In y (grow p d k (without_last r))
+        → subtree y (grow p d k (without_last r)) ≡ subtree y (grow p d k r)
     later ih (inl e) = rw (eq-eqb p y (sym e)) refl
-    later ih (inr (inl o)) = rw (subtree-absent y r (u.apart y o), subtree-absent y (withoutLast r) (λ z. u.apart y o (in_left y r z))) refl
+    later ih (inr (inl o)) = rw (subtree-absent y r (u.apart y o), subtree-absent y (without_last r) (λ z. u.apart y o (in_left y r z))) refl
     later ih (inr (inr o)) = rw (ih o) refl
 
-    go : (c : Bool) → In y (cond c nil (grow p d k (withoutLast r))) → (In y (withoutLast r) → subtree y (withoutLast r) ≡ subtree y r)
-        → subtree y (cond c nil (grow p d k (withoutLast r))) ≡ subtree y (grow p d k r)
+    go : (c : Bool) → In y (cond c nil (grow p d k (without_last r))) → (In y (without_last r) → subtree y (without_last r) ≡ subtree y r)
+        → subtree y (cond c nil (grow p d k (without_last r))) ≡ subtree y (grow p d k r)
     go true o ih = absurd o
     go false o ih = later ih o
 
@@ -89,11 +89,11 @@ module _ (x n s y : ℕ) (apart : y ≡ n → ⊥) where
   subtree-beside (grow p d k r) u h out =
       go (same? p x) (λ o. subtree-beside k u.below o (λ z. out (inr (inl z)))) (λ o. subtree-beside r u.beside o (λ z. out (inr (inr z))))
     where
-      here : p ≡ x → In y (withoutLast r) → subtree y (settled n s d r) ≡ subtree y (grow p d k r)
+      here : p ≡ x → In y (without_last r) → subtree y (settled n s d r) ≡ subtree y (grow p d k r)
       here e o =
           let held = in_left y r o in
-          rw (ne_eqb p y (λ z. u.notBeside (in-eq r (sym z) held)), subtree-absent y k (λ z. u.apart y z held))
-          (subtree-end _ (withoutLast r) ∙ subtree-left y r u.beside o)
+          rw (ne_eqb p y (λ z. u.not_beside (in-eq r (sym z) held)), subtree-absent y k (λ z. u.apart y z held))
+          (subtree-end _ (without_last r) ∙ subtree-left y r u.beside o)
 
       further : (In y (cleared x k) → subtree y (remove x n s k) ≡ subtree y k) → (In y (cleared x r) → subtree y (remove x n s r) ≡ subtree y r)
           → In y (grow p d (cleared x k) (cleared x r)) → subtree y (grow p d (remove x n s k) (remove x n s r)) ≡ subtree y (grow p d k r)
@@ -102,11 +102,11 @@ module _ (x n s y : ℕ) (apart : y ≡ n → ⊥) where
       further ik ir (inr (inl o)) =
           let held = in-cleared x y k o in
           let none = u.apart y held in
-          rw (ne_eqb p y (λ z. u.notBelow (in-eq k (sym z) held)), ik o, subtree-absent y r none, subtree-absent y (remove x n s r) (still-absent r none))
+          rw (ne_eqb p y (λ z. u.not_below (in-eq k (sym z) held)), ik o, subtree-absent y r none, subtree-absent y (remove x n s r) (still-absent r none))
       further ik ir (inr (inr o)) =
           let held = in-cleared x y r o in
           let none : In y k → ⊥ = λ z. u.apart y z held in
-          rw (ne_eqb p y (λ z. u.notBeside (in-eq r (sym z) held)), ir o, subtree-absent y k none, subtree-absent y (remove x n s k) (still-absent k none))
+          rw (ne_eqb p y (λ z. u.not_beside (in-eq r (sym z) held)), ir o, subtree-absent y k none, subtree-absent y (remove x n s k) (still-absent k none))
 
       go : (p ≡ x) ⊎ (p ≡ x → ⊥) → (In y (cleared x k) → subtree y (remove x n s k) ≡ subtree y k)
           → (In y (cleared x r) → subtree y (remove x n s r) ≡ subtree y r)

@@ -17,12 +17,12 @@ use Rattle.piece.specs.declared.insertion_blueprint.InsertionShape.TheVariants.{
 use Rattle.piece.specs.declared.settings.Settings.{Settings}
 use Rattle.piece.specs.Sides.{other, laid}
 use Rattle.piece.specs.Row.{Row, nil, grow}
-use Rattle.piece.specs.Insertion.{Made, leftBehind, eatenBehind, cutFrom, table, laidMade, laidAll, block_of, newNodes}
+use Rattle.piece.specs.Insertion.{Made, left_behind, eaten_behind, cut_from, table, laid_made, laid_all, block_of, new_nodes}
 use Rattle.piece.specs.Offers.{only, shapes}
 use Rattle.piece.proofs.Sizes.{other-twice, laid-twice, laid-other}
 use Rattle.tree.specs.Tree.{Tree, In, Distinct, count}
-use Rattle.tree.specs.Sound.{extent, PartPiece, StructurePiece, Child, Children, maxNumber}
-use Rattle.tree.specs.Booking.{Booking, plantedDatum, planted, block}
+use Rattle.tree.specs.Sound.{extent, PartPiece, StructurePiece, Child, Children, max_number}
+use Rattle.tree.specs.Booking.{Booking, planted_datum, planted, block}
 use Rattle.tree.specs.Accepted.{Fitting}
 use Rattle.tree.proofs.Rows.{in-eq}
 use Rattle.tree.proofs.Numbered.{Numbered, numbered-in, numbered-distinct}
@@ -72,24 +72,24 @@ offered-deep al ac level stages s h m = mem-cond Within al AlongCurrentCut s _ (
 
 -- a node of a block at this level and with the cut e: u x v as the table writes it for the cut c, with z eaten behind it
 abbrev node : Booking → Orientation → ℕ → ℕ → Orientation → Kind → ℕ → ℕ → ℕ → Datum
-node b c i l e a u v z = plantedDatum b i l e (laidMade c (cutFrom a u v z))
+node b c i l e a u v z = planted_datum b i l e (laid_made c (cut_from a u v z))
 
 -- The four tables, under the parent q, for a free piece of level l and cut c that is W x H as they write it, and a part w x h that fits.
 module _ (settings : Settings) (b : Booking) (q : Datum) (l : ℕ) (c : Orientation) (W H w h : ℕ)
     (level : l ≡ q.level + 1) (stage : l ≤ settings.stages) (cut : c ≡ other q.cut) (side : H ≡ (laid c q.size).height)
-    (numbered : b.number ≤ maxNumber) (bladed : b.blade ≡ settings.blade) (w₁ : 1 ≤ w) (h₁ : 1 ≤ h) (wide : w ≤ W) (tall : h ≤ H) where
+    (numbered : b.number ≤ max_number) (bladed : b.blade ≡ settings.blade) (w₁ : 1 ≤ w) (h₁ : 1 ≤ h) (wide : w ≤ W) (tall : h ≤ H) where
   -- what is eaten beside the part and below it, and what is left there
   abbrev beside-eaten : ℕ
-  beside-eaten = eatenBehind b.blade (W - w)
+  beside-eaten = eaten_behind b.blade (W - w)
 
   abbrev below-eaten : ℕ
-  below-eaten = eatenBehind b.blade (H - h)
+  below-eaten = eaten_behind b.blade (H - h)
 
   abbrev beside-left : ℕ
-  beside-left = leftBehind b.blade (W - w)
+  beside-left = left_behind b.blade (W - w)
 
   abbrev below_left : ℕ
-  below_left = leftBehind b.blade (H - h)
+  below_left = left_behind b.blade (H - h)
 
   -- in the free piece's row; in a piece of that row; and below once more
   row-child : (i : ℕ) (a : Kind) (u z : ℕ) → z ≤ settings.blade → Child settings q (node b c i l c a u H z)
@@ -133,7 +133,7 @@ module _ (settings : Settings) (b : Booking) (q : Datum) (l : ℕ) (c : Orientat
     };
   }
 
-  table-children : (s : InsertionShape) → l + deep s ≤ settings.stages → Children settings q (planted b l c (laidAll c (table s b.blade W H w h)))
+  table-children : (s : InsertionShape) → l + deep s ≤ settings.stages → Children settings q (planted b l c (laid_all c (table s b.blade W H w h)))
   unfolding table
   table-children AlongCurrentCut m = record {
     child = row-child 0 Part w beside-eaten (omega arith);
@@ -190,7 +190,7 @@ module _ (settings : Settings) (b : Booking) (q : Datum) (l : ℕ) (c : Orientat
 
 -- the pieces of the first row and what was eaten between them fill the free piece
 table-extent : (b : Booking) (n l : ℕ) (c : Orientation) (W H w h : ℕ) → w ≤ W → (s : InsertionShape)
-    → extent c (planted b l c (laidAll c (table s n W H w h))) ≡ W
+    → extent c (planted b l c (laid_all c (table s n W H w h))) ≡ W
 unfolding table
 table-extent b n l c W H w h wide AlongCurrentCut = simp laid-twice (omega arith)
 table-extent b n l c W H w h wide AcrossCurrentCut = simp laid-twice (omega arith)
@@ -198,11 +198,11 @@ table-extent b n l c W H w h wide AlongThenAcross = simp laid-twice (omega arith
 table-extent b n l c W H w h wide AcrossThenAlong = simp laid-twice (omega arith)
 
 -- The nodes of a block: as many as the shape makes, each at its own place.
-planted-count : (b : Booking) (l : ℕ) (c e : Orientation) (w : Row Made) → count (planted b l c (laidAll e w)) ≡ count w
+planted-count : (b : Booking) (l : ℕ) (c e : Orientation) (w : Row Made) → count (planted b l c (laid_all e w)) ≡ count w
 planted-count b l c e nil = refl
 planted-count b l c e (grow i m k r) = rw (planted-count b (l + 1) (other c) e k, planted-count b l c e r)
 
-planted-in : (b : Booking) (l : ℕ) (c e : Orientation) (i : ℕ) (w : Row Made) → In i (planted b l c (laidAll e w))
+planted-in : (b : Booking) (l : ℕ) (c e : Orientation) (i : ℕ) (w : Row Made) → In i (planted b l c (laid_all e w))
     → (j : ℕ) × In j w × (i ≡ b.place j)
 planted-in b l c e i nil h = absurd h
 planted-in b l c e i (grow j m k r) (inl z) = (j, inl refl, z)
@@ -210,12 +210,12 @@ planted-in b l c e i (grow j m k r) (inr (inl h)) = let z = planted-in b (l + 1)
 planted-in b l c e i (grow j m k r) (inr (inr h)) = let z = planted-in b l c e i r h in (z.0, inr (inr z.1), z.2)
 
 planted-distinct : (b : Booking) (l : ℕ) (c e : Orientation) (w : Row Made)
-    → ((i j : ℕ) → In i w → In j w → b.place i ≡ b.place j → i ≡ j) → Distinct w → Distinct (planted b l c (laidAll e w))
+    → ((i j : ℕ) → In i w → In j w → b.place i ≡ b.place j → i ≡ j) → Distinct w → Distinct (planted b l c (laid_all e w))
 planted-distinct b l c e nil f u = tt
 planted-distinct b l c e (grow i m k r) f u = record {
-  notBelow = λ h. let z = planted-in b (l + 1) (other c) e (b.place i) k h in
-      u.notBelow (in-eq k (sym (f i z.0 (inl refl) (inr (inl z.1)) z.2)) z.1);
-  notBeside = λ h. let z = planted-in b l c e (b.place i) r h in u.notBeside (in-eq r (sym (f i z.0 (inl refl) (inr (inr z.1)) z.2)) z.1);
+  not_below = λ h. let z = planted-in b (l + 1) (other c) e (b.place i) k h in
+      u.not_below (in-eq k (sym (f i z.0 (inl refl) (inr (inl z.1)) z.2)) z.1);
+  not_beside = λ h. let z = planted-in b l c e (b.place i) r h in u.not_beside (in-eq r (sym (f i z.0 (inl refl) (inr (inr z.1)) z.2)) z.1);
   apart = λ p h g. let z = planted-in b (l + 1) (other c) e p k h in
       let y = planted-in b l c e p r g in
       u.apart y.0 (in-eq k (f z.0 y.0 (inr (inl z.1)) (inr (inr y.1)) (sym z.2 ∙ y.2)) z.1) y.1;
@@ -230,21 +230,21 @@ table-numbered AcrossCurrentCut n W H w h = omega arith
 table-numbered AlongThenAcross n W H w h = omega arith
 table-numbered AcrossThenAlong n W H w h = omega arith
 
-table-count : (s : InsertionShape) (n W H w h : ℕ) → count (table s n W H w h) ≡ newNodes s
+table-count : (s : InsertionShape) (n W H w h : ℕ) → count (table s n W H w h) ≡ new_nodes s
 unfolding table
 table-count AlongCurrentCut n W H w h = refl
 table-count AcrossCurrentCut n W H w h = refl
 table-count AlongThenAcross n W H w h = refl
 table-count AcrossThenAlong n W H w h = refl
 
-table_below : (s : InsertionShape) (n W H w h j : ℕ) → In j (table s n W H w h) → j < newNodes s
+table_below : (s : InsertionShape) (n W H w h j : ℕ) → In j (table s n W H w h) → j < new_nodes s
 table_below s n W H w h j i =
     let z = numbered-in 0 j (table s n W H w h) (table-numbered s n W H w h) i in
     omega (arith, table-count s n W H w h)
 
 -- the place i is that of a new node
 abbrev pub New : Booking → ℕ → Type 0
-New b i = (j : ℕ) × (j < newNodes b.shape) × (i ≡ b.place j)
+New b i = (j : ℕ) × (j < new_nodes b.shape) × (i ≡ b.place j)
 
 -- the table that a booking uses for the free piece d
 abbrev table_of : Booking → Datum → Row Made
@@ -252,7 +252,7 @@ table_of b d =
     table b.shape b.blade (laid d.cut d.size).width (laid d.cut d.size).height (laid d.cut b.size).width
     (laid d.cut b.size).height
 
-pub block-count : (b : Booking) (d : Datum) → count (block b d) ≡ newNodes b.shape
+pub block-count : (b : Booking) (d : Datum) → count (block b d) ≡ new_nodes b.shape
 unfolding block block_of
 block-count b d = planted-count b d.level d.cut d.cut (table_of b d) ∙ table-count b.shape _ _ _ _ _
 
@@ -262,14 +262,14 @@ block_in b d i h =
     let z = planted-in b d.level d.cut d.cut i (table_of b d) h in
     (z.0, table_below b.shape _ _ _ _ _ z.0 z.1, z.2)
 
-pub block-distinct : (b : Booking) (d : Datum) → ((i j : ℕ) → i < j → j < newNodes b.shape → b.place i ≡ b.place j → ⊥) → Distinct (block b d)
+pub block-distinct : (b : Booking) (d : Datum) → ((i j : ℕ) → i < j → j < new_nodes b.shape → b.place i ≡ b.place j → ⊥) → Distinct (block b d)
 unfolding block block_of
 block-distinct b d f =
     planted-distinct b d.level d.cut d.cut (table_of b d)
     (λ i j h g. one i j (table_below b.shape _ _ _ _ _ i h) (table_below b.shape _ _ _ _ _ j g))
     (numbered-distinct 0 (table_of b d) (table-numbered b.shape _ _ _ _ _))
   where
-    one : (i j : ℕ) → i < newNodes b.shape → j < newNodes b.shape → b.place i ≡ b.place j → i ≡ j
+    one : (i j : ℕ) → i < new_nodes b.shape → j < new_nodes b.shape → b.place i ≡ b.place j → i ≡ j
     one i j h g e = go (ltb i j) (ltb j i) refl refl
       where
         go : (a c : Bool) → ltb i j ≡ a → ltb j i ≡ c → i ≡ j
@@ -277,7 +277,7 @@ block-distinct b d f =
         go false true y z = absurd (f j i (ltb-true j i z) h (sym e))
         go false false y z = omega (arith, ltb-false i j y, ltb-false j i z)
 
-pub some-new : (s : InsertionShape) → 1 ≤ newNodes s
+pub some-new : (s : InsertionShape) → 1 ≤ new_nodes s
 some-new AlongCurrentCut = omega arith
 some-new AcrossCurrentCut = omega arith
 some-new AlongThenAcross = omega arith

@@ -16,11 +16,11 @@ use Rattle.piece.specs.declared.settings.Settings.{Settings}
 use Rattle.piece.specs.Sides.{other, sized, laid}
 use Rattle.piece.specs.Row.{Row, nil, grow}
 use Rattle.piece.specs.Offers.{fits}
-use Rattle.piece.specs.Insertion.{Made, leftBehind, eatenBehind, laidAll, block_of, table}
+use Rattle.piece.specs.Insertion.{Made, left_behind, eaten_behind, laid_all, block_of, table}
 use Rattle.tree.specs.Tree.{Tree, In, At, Distinct, after}
 use Rattle.tree.specs.Sound.{FreePiece, Kinded, Children, Sound}
 use Rattle.tree.specs.Snapshot.{shape}
-use Rattle.tree.specs.Booking.{Booking, planted, block, bookedRow, book}
+use Rattle.tree.specs.Booking.{Booking, planted, block, booked_row, book}
 use Rattle.tree.specs.Removal.{board, settled, remove}
 use Rattle.tree.specs.Apart.{Alike, Clear}
 use Rattle.piece.proofs.Sizes.{laid-twice, fits-laid, fits-sides}
@@ -76,13 +76,13 @@ module _ (y : ℕ) (b : Booking) (h : Clear y b) where
 book-behind : (y : ℕ) (b b' c c' : Booking) (d : Datum) (r : Tree) → Clear y b → Alike b b' → Alike c c'
     → shape (book y c (after (block b d) r)) ≡ shape (after (block b' d) (book y c' r))
 book-behind y b b' c c' d r n ab ac =
-    rw (past y (bookedRow c) (block b d) r (block-clear y b n d))
-    (simp shape-after (rw (block-alike ab d, alike y (bookedRow c) (bookedRow c') (booked-alike ac) r)))
+    rw (past y (booked_row c) (block b d) r (block-clear y b n d))
+    (simp shape-after (rw (block-alike ab d, alike y (booked_row c) (booked_row c') (booked-alike ac) r)))
 
 pub books-commute : (x y : ℕ) (b c b' c' : Booking) → (x ≡ y → ⊥) → Clear y b → Clear x c' → Alike b b' → Alike c c' → (t : Tree)
     → shape (book y c (book x b t)) ≡ shape (book x b' (book y c' t))
 books-commute x y b c b' c' n nb nc ab ac t =
-    commute x y (bookedRow b) (bookedRow c) (bookedRow b') (bookedRow c') n (λ r. Unit {0}) (λ p d k r w. tt) (λ p d k r w. tt)
+    commute x y (booked_row b) (booked_row c) (booked_row b') (booked_row c') n (λ r. Unit {0}) (λ p d k r w. tt) (λ p d k r w. tt)
     (λ d k r w. book-behind y b b' c c' d r nb ab ac)
     (λ d k r w. sym (book-behind x c' c b' b d r nc (alike-sym ac) (alike-sym ab))) t tt
 
@@ -90,18 +90,18 @@ books-commute x y b c b' c' n nb nc ab ac t =
 
 -- what is left is one free piece, of the sides of the table's: it has back what was eaten
 remove-planted : (i : InsertionShape) (b : Booking) (n s v l : ℕ) (c : Orientation) (W H w h : ℕ) → w ≤ W
-    → shape (remove (b.place 0) n s (planted b l c (laidAll c (table i v W H w h))))
+    → shape (remove (b.place 0) n s (planted b l c (laid_all c (table i v W H w h))))
     ≡ grow 0 (record { serial = 0; size = laid c (sized W H); number = 0; level = l; kind = Free; cut = c; eaten = 0 }) nil nil
 unfolding table settled board
 remove-planted AlongCurrentCut b n s v l c W H w h e =
-    let z : w + eatenBehind v (W - w) + leftBehind v (W - w) ≡ W = omega arith in
-    rw (eq-eqb (b.place 0) (b.place 0) refl, laid-twice c (sized w H), laid-twice c (sized (leftBehind v (W - w)) H), z)
+    let z : w + eaten_behind v (W - w) + left_behind v (W - w) ≡ W = omega arith in
+    rw (eq-eqb (b.place 0) (b.place 0) refl, laid-twice c (sized w H), laid-twice c (sized (left_behind v (W - w)) H), z)
 remove-planted AcrossCurrentCut b n s v l c W H w h e =
     let z : W + 0 + 0 ≡ W = omega arith in
     rw (eq-eqb (b.place 0) (b.place 0) refl, laid-twice c (sized W H), z)
 remove-planted AlongThenAcross b n s v l c W H w h e =
-    let z : w + eatenBehind v (W - w) + leftBehind v (W - w) ≡ W = omega arith in
-    rw (eq-eqb (b.place 0) (b.place 0) refl, laid-twice c (sized w H), laid-twice c (sized (leftBehind v (W - w)) H), z)
+    let z : w + eaten_behind v (W - w) + left_behind v (W - w) ≡ W = omega arith in
+    rw (eq-eqb (b.place 0) (b.place 0) refl, laid-twice c (sized w H), laid-twice c (sized (left_behind v (W - w)) H), z)
 remove-planted AcrossThenAlong b n s v l c W H w h e =
     let z : W + 0 + 0 ≡ W = omega arith in
     rw (eq-eqb (b.place 0) (b.place 0) refl, laid-twice c (sized W H), z)
@@ -110,12 +110,12 @@ remove-planted AcrossThenAlong b n s v l c W H w h e =
 pub at-unique : (i : ℕ) (d e : Datum) (t : Tree) → Distinct t → At i d t → At i e t → e ≡ d
 at-unique i d e nil n g h = absurd g
 at-unique i d e (grow p f k r) n (inl g) (inl h) = h.1 ∙ sym g.1
-at-unique i d e (grow p f k r) n (inl g) (inr (inl h)) = absurd (n.notBelow (in-eq k g.0 (at_in i e k h)))
-at-unique i d e (grow p f k r) n (inl g) (inr (inr h)) = absurd (n.notBeside (in-eq r g.0 (at_in i e r h)))
-at-unique i d e (grow p f k r) n (inr (inl g)) (inl h) = absurd (n.notBelow (in-eq k h.0 (at_in i d k g)))
+at-unique i d e (grow p f k r) n (inl g) (inr (inl h)) = absurd (n.not_below (in-eq k g.0 (at_in i e k h)))
+at-unique i d e (grow p f k r) n (inl g) (inr (inr h)) = absurd (n.not_beside (in-eq r g.0 (at_in i e r h)))
+at-unique i d e (grow p f k r) n (inr (inl g)) (inl h) = absurd (n.not_below (in-eq k h.0 (at_in i d k g)))
 at-unique i d e (grow p f k r) n (inr (inl g)) (inr (inl h)) = at-unique i d e k n.below g h
 at-unique i d e (grow p f k r) n (inr (inl g)) (inr (inr h)) = absurd (n.apart i (at_in i d k g) (at_in i e r h))
-at-unique i d e (grow p f k r) n (inr (inr g)) (inl h) = absurd (n.notBeside (in-eq r h.0 (at_in i d r g)))
+at-unique i d e (grow p f k r) n (inr (inr g)) (inl h) = absurd (n.not_beside (in-eq r h.0 (at_in i d r g)))
 at-unique i d e (grow p f k r) n (inr (inr g)) (inr (inl h)) = absurd (n.apart i (at_in i e k h) (at_in i d r g))
 at-unique i d e (grow p f k r) n (inr (inr g)) (inr (inr h)) = at-unique i d e r n.beside g h
 

@@ -10,10 +10,10 @@ use Rattle.piece.specs.declared.node.Datum.{Datum}
 use Rattle.piece.specs.declared.node.Kind.TheVariants.{Free}
 use Rattle.piece.specs.declared.settings.Settings.{Settings}
 use Rattle.piece.specs.Row.{nil, grow}
-use Rattle.piece.specs.Insertion.{newNodes}
+use Rattle.piece.specs.Insertion.{new_nodes}
 use Rattle.tree.specs.Tree.{Tree, In, At, Distinct, count, change, rest}
 use Rattle.tree.specs.Sound.{Sound}
-use Rattle.tree.specs.Booking.{Booking, bookedRow, book}
+use Rattle.tree.specs.Booking.{Booking, booked_row, book}
 use Rattle.tree.specs.Removal.{settled, remove, left, cleared}
 use Rattle.tree.proofs.Rows.{same?, in-eq, at_in, count-after}
 use Rattle.tree.proofs.Kept.{Where, Alone, free-alone}
@@ -55,9 +55,9 @@ module _ (x : ℕ) (f : Datum → Tree → Tree) (P : Datum → Tree → Tree �
 
 -- a booking takes the free piece away and adds the nodes of its shape
 pub count-book : (limit : ℕ) (settings : Settings) (t : Tree) (x : ℕ) (d : Datum) (b : Booking) → Sound limit settings t → At x d t
-    → d.kind ≡ Free → count (book x b t) + 1 ≡ count t + newNodes b.shape
+    → d.kind ≡ Free → count (book x b t) + 1 ≡ count t + new_nodes b.shape
 count-book limit settings t x d b h i a =
-    count-change x (bookedRow b) (Alone d) 1 (newNodes b.shape)
+    count-change x (booked_row b) (Alone d) 1 (new_nodes b.shape)
     (λ e k r z. rw count-after (omega (arith, block-count b e, ap count z.1)))
     t (at_in x d t i) h.distinct (free-alone settings x d t h.topped h.distinct i a)
 
@@ -67,4 +67,4 @@ in-book x b i t u h =
     ⊎_elim
     (λ z. inl (in-less x rest (λ j d r o. o) i t z, λ e. gone x rest (λ j d r o. o) t u (in-eq (change x rest t) e z)))
     (λ z. inr z.0)
-    (in-change x rest (bookedRow b) (New b) (booked-in b) i t h)
+    (in-change x rest (booked_row b) (New b) (booked-in b) i t h)

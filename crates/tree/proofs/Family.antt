@@ -14,17 +14,17 @@ use Rattle.piece.specs.declared.node.Kind.{Kind}
 use Rattle.piece.specs.declared.node.Kind.TheVariants.{Free, Part, Structure}
 use Rattle.piece.specs.declared.settings.Settings.{Settings}
 use Rattle.piece.specs.Row.{Row, nil, grow}
-use Rattle.piece.specs.Insertion.{newNodes}
-use Rattle.lists.specs.Search.{firstFrom}
+use Rattle.piece.specs.Insertion.{new_nodes}
+use Rattle.lists.specs.Search.{first_from}
 use Rattle.lists.proofs.Scan.{test, clash, first-from, first_holds, first-before, or_cases}
-use Rattle.tree.specs.Tree.{Tree, In, At, Distinct, after, count, isNil}
+use Rattle.tree.specs.Tree.{Tree, In, At, Distinct, after, count, is_nil}
 use Rattle.tree.specs.Sound.{Kinded, Children, Topped, Sound}
 use Rattle.tree.specs.Booking.{Booking}
-use Rattle.tree.specs.Removal.{withoutLast, settled, cleared}
+use Rattle.tree.specs.Removal.{without_last, settled, cleared}
 use Rattle.tree.specs.Accepted.{Fresh}
 use Rattle.tree.specs.Apart.{Removable}
 use Rattle.tree.specs.Steps.{less, Kids}
-use Rattle.tree.specs.Family.{holds, parent_in, parent_of, childless, unheldFrom, newPlace}
+use Rattle.tree.specs.Family.{holds, parent_in, parent_of, childless, unheld_from, new_place}
 use Rattle.tree.proofs.Rows.{same?, in-eq, in?, at_in, in_after, in-first, in-second, count-after, in-at}
 use Rattle.tree.proofs.Kept.{Alone, only, not_top, free-alone}
 use Rattle.tree.proofs.RemoveKept.{settled-count}
@@ -74,13 +74,13 @@ module _ (x : ℕ) where
   parent-kids v q m nil dis h i = absurd h
   parent-kids v q m (grow p d l r) dis (inl e) i =
       let j : In x l = rw e.1 at i in
-      rw (ne_eqb p x (λ z. dis.notBelow (in-eq l (sym z) j)), in-holds x l j, e.0, e.1) refl
+      rw (ne_eqb p x (λ z. dis.not_below (in-eq l (sym z) j)), in-holds x l j, e.0, e.1) refl
   parent-kids v q m (grow p d l r) dis (inr (inl h)) i =
       let j : In x l = kids_under q m x l h i in
-      rw (ne_eqb p x (λ z. dis.notBelow (in-eq l (sym z) j)), in-holds x l j) (parent-kids p q m l dis.below h i)
+      rw (ne_eqb p x (λ z. dis.not_below (in-eq l (sym z) j)), in-holds x l j) (parent-kids p q m l dis.below h i)
   parent-kids v q m (grow p d l r) dis (inr (inr h)) i =
       let j : In x r = kids_under q m x r h i in
-      rw (ne_eqb p x (λ z. dis.notBeside (in-eq r (sym z) j)), absent-holds x l (λ y. dis.apart x y j)) (parent-kids v q m r dis.beside h i)
+      rw (ne_eqb p x (λ z. dis.not_beside (in-eq r (sym z) j)), absent-holds x l (λ y. dis.apart x y j)) (parent-kids v q m r dis.beside h i)
 
 -- the parent of x is the piece among whose children x stands
 pub parent-spot : (limit x : ℕ) (w : Tree) → Distinct w → (s : Spot x w) → parent_of limit x w ≡ s.parent
@@ -181,7 +181,7 @@ module _ (limit : ℕ) (settings : Settings) (w : Tree) (sound : Sound limit set
 
   -- and when the free piece at the end of its row has gone too
   abbrev rest : Tree
-  rest = after a (withoutLast b)
+  rest = after a (without_last b)
 
   cleared-is : cleared x w ≡ put q rest w
   cleared-is = cleared-put q x a s.datum s.below b w sound.distinct under
@@ -201,7 +201,7 @@ module _ (limit : ℕ) (settings : Settings) (w : Tree) (sound : Sound limit set
       let c : count (put q rest w) + count row ≡ count w + count rest = put_count q rest row w sound.distinct under in
       let o = rw count-after at (settled-count 0 0 s.datum b) in
       let y = count-after a (grow x s.datum s.below b) in
-      let z = count-after a (withoutLast b) in
+      let z = count-after a (without_last b) in
       rw cleared-is (omega arith)
 
 -- ---- whether a piece has children
@@ -216,15 +216,15 @@ or-none true = refl
 or-none false = refl
 
 -- a piece is childless if its children are none
-pub childless-is : (q : ℕ) (k w : Tree) → Distinct w → Kids q k w → childless q w ≡ isNil k
+pub childless-is : (q : ℕ) (k w : Tree) → Distinct w → Kids q k w → childless q w ≡ is_nil k
 childless-is q k nil dis h = absurd h
 childless-is q k (grow p d l r) dis (inl e) = rw (eq-eqb p q (sym e.0), e.1) refl
 childless-is q k (grow p d l r) dis (inr (inl h)) =
     let i = kids-in q k l h in
-    rw (ne_eqb p q (λ e. dis.notBelow (in-eq l (sym e) i)), childless-absent q r (dis.apart q i), or-none (childless q l)) (childless-is q k l dis.below h)
+    rw (ne_eqb p q (λ e. dis.not_below (in-eq l (sym e) i)), childless-absent q r (dis.apart q i), or-none (childless q l)) (childless-is q k l dis.below h)
 childless-is q k (grow p d l r) dis (inr (inr h)) =
     let i = kids-in q k r h in
-    rw (ne_eqb p q (λ e. dis.notBeside (in-eq r (sym e) i)), childless-absent q l (λ y. dis.apart q y i)) (childless-is q k r dis.beside h)
+    rw (ne_eqb p q (λ e. dis.not_beside (in-eq r (sym e) i)), childless-absent q l (λ y. dis.apart q y i)) (childless-is q k r dis.beside h)
 
 -- ---- the places of new nodes
 
@@ -236,62 +236,62 @@ module _ (limit : ℕ) (v : Tree) where
   held_in j e = ⊎_elim (λ z. holds-in j v z) (λ z. absurd (clash (sym (rw z at e)))) (test (holds j v))
 
   module _ (n : ℕ) where
-    unheld-from : n ≤ unheldFrom limit v n
-    unfolding unheldFrom
+    unheld-from : n ≤ unheld_from limit v n
+    unfolding unheld_from
     unheld-from = first-from unheld (limit - n) n
 
-    unheld-absent : unheldFrom limit v n < limit → In (unheldFrom limit v n) v → ⊥
-    unfolding unheldFrom
+    unheld-absent : unheld_from limit v n < limit → In (unheld_from limit v n) v → ⊥
+    unfolding unheld_from
     unheld-absent h y =
         let e = first_holds unheld (limit - n) n (omega (arith, first-from unheld (limit - n) n)) in
-        clash (rw (in-holds (firstFrom unheld (limit - n) n) v y) at e)
+        clash (rw (in-holds (first_from unheld (limit - n) n) v y) at e)
 
-    unheld-first : (j : ℕ) → n ≤ j → j < unheldFrom limit v n → In j v
-    unfolding unheldFrom
+    unheld-first : (j : ℕ) → n ≤ j → j < unheld_from limit v n → In j v
+    unfolding unheld_from
     unheld-first j l h = held_in j (first-before unheld (limit - n) n j l h)
 
   -- "A new node takes the lowest unheld place": they rise, none is held, and each lower place is held or taken by an earlier node
-  new-place-next : (i : ℕ) → newPlace limit v i < newPlace limit v (suc i)
-  new-place-next i = omega (arith, unheld-from (newPlace limit v i + 1))
+  new-place-next : (i : ℕ) → new_place limit v i < new_place limit v (suc i)
+  new-place-next i = omega (arith, unheld-from (new_place limit v i + 1))
 
-  pub new-place-rises : (i j : ℕ) → i < j → newPlace limit v i < newPlace limit v j
+  pub new-place-rises : (i j : ℕ) → i < j → new_place limit v i < new_place limit v j
   new-place-rises i zero h = let no_place : ⊥ = omega arith in absurd no_place
   new-place-rises i (suc j) h = go (same? i j) (new-place-rises i j)
     where
-      go : (i ≡ j) ⊎ (i ≡ j → ⊥) → (i < j → newPlace limit v i < newPlace limit v j) → newPlace limit v i < newPlace limit v (suc j)
+      go : (i ≡ j) ⊎ (i ≡ j → ⊥) → (i < j → new_place limit v i < new_place limit v j) → new_place limit v i < new_place limit v (suc j)
       go (inl e) ih = rw e (new-place-next j)
       go (inr o) ih = let a = ih (omega arith) in let b = new-place-next j in omega arith
 
-  pub new-place-absent : (i : ℕ) → newPlace limit v i < limit → In (newPlace limit v i) v → ⊥
+  pub new-place-absent : (i : ℕ) → new_place limit v i < limit → In (new_place limit v i) v → ⊥
   new-place-absent zero = unheld-absent 0
-  new-place-absent (suc i) = unheld-absent (newPlace limit v i + 1)
+  new-place-absent (suc i) = unheld-absent (new_place limit v i + 1)
 
-  pub new-place-least : (i j : ℕ) → j < newPlace limit v i → In j v ⊎ ((h : ℕ) × (h < i) × (newPlace limit v h ≡ j))
+  pub new-place-least : (i j : ℕ) → j < new_place limit v i → In j v ⊎ ((h : ℕ) × (h < i) × (new_place limit v h ≡ j))
   new-place-least zero j l = inl (unheld-first 0 j (omega arith) l)
-  new-place-least (suc i) j l = go (same? j (newPlace limit v i)) (dec_lt j (newPlace limit v i)) (new-place-least i j)
+  new-place-least (suc i) j l = go (same? j (new_place limit v i)) (dec_lt j (new_place limit v i)) (new-place-least i j)
     where
-      go : (j ≡ newPlace limit v i) ⊎ (j ≡ newPlace limit v i → ⊥) → Dec (j < newPlace limit v i)
-          → (j < newPlace limit v i → In j v ⊎ ((h : ℕ) × (h < i) × (newPlace limit v h ≡ j)))
-          → In j v ⊎ ((h : ℕ) × (h < suc i) × (newPlace limit v h ≡ j))
+      go : (j ≡ new_place limit v i) ⊎ (j ≡ new_place limit v i → ⊥) → Dec (j < new_place limit v i)
+          → (j < new_place limit v i → In j v ⊎ ((h : ℕ) × (h < i) × (new_place limit v h ≡ j)))
+          → In j v ⊎ ((h : ℕ) × (h < suc i) × (new_place limit v h ≡ j))
       go (inl e) b ih = inr (i, omega arith, sym e)
       go (inr o) (yes b) ih = ⊎_elim inl (λ g. inr (g.0, omega arith, g.2)) (ih b)
-      go (inr o) (no b) ih = inl (unheld-first (newPlace limit v i + 1) j (omega arith) l)
+      go (inr o) (no b) ih = inl (unheld-first (new_place limit v i + 1) j (omega arith) l)
 
   -- below one there are only the tree's places and the earlier ones
-  new-place-room : (i : ℕ) → newPlace limit v i ≤ low (newPlace limit v i) v + i
+  new-place-room : (i : ℕ) → new_place limit v i ≤ low (new_place limit v i) v + i
   new-place-room zero =
-      let m = unheldFrom limit v 0 in let f = low-filled 0 m v (unheld-from 0) (unheld-first 0) in omega arith
+      let m = unheld_from limit v 0 in let f = low-filled 0 m v (unheld-from 0) (unheld-first 0) in omega arith
   new-place-room (suc i) =
-      let n = newPlace limit v i in
-      let m = unheldFrom limit v (n + 1) in
+      let n = new_place limit v i in
+      let m = unheld_from limit v (n + 1) in
       let ih : n ≤ low n v + i = new-place-room i in
       let f : low (n + 1) v + m ≤ low m v + (n + 1) = low-filled (n + 1) m v (unheld-from (n + 1)) (unheld-first (n + 1)) in
       let g : low n v ≤ low (n + 1) v = rw (add-one n) (low-more n v) in
       omega arith
 
   -- so there is room for as many as the tree leaves
-  pub new-place-low : (k i : ℕ) → count v + k ≤ limit → i < k → newPlace limit v i < limit
-  new-place-low k i c h = omega (arith, new-place-room i, low-most (newPlace limit v i) v)
+  pub new-place-low : (k i : ℕ) → count v + k ≤ limit → i < k → new_place limit v i < limit
+  new-place-low k i c h = omega (arith, new-place-room i, low-most (new_place limit v i) v)
 
 -- ---- the places of a booking and of a removal are fresh
 
@@ -313,24 +313,24 @@ module _ (limit : ℕ) (settings : Settings) (w : Tree) (sound : Sound limit set
     pub less_other : (j : ℕ) → In j w → (j ≡ x → ⊥) → In j (less x w)
     less_other = leaf-other limit settings w sound x (at_in x d w i) free-below leaf
 
-    pub fresh-booking : (b : Booking) → ((j : ℕ) → j < newNodes b.shape → b.place j ≡ newPlace limit (less x w) j)
-        → count w + newNodes b.shape ≤ limit + 1 → Fresh limit x b w
+    pub fresh-booking : (b : Booking) → ((j : ℕ) → j < new_nodes b.shape → b.place j ≡ new_place limit (less x w) j)
+        → count w + new_nodes b.shape ≤ limit + 1 → Fresh limit x b w
     fresh-booking b at_new room = record { placed = low_of; apart = apart_of; unheld = unheld-of }
       where
-        low-new : (j : ℕ) → j < newNodes b.shape → newPlace limit (less x w) j < limit
-        low-new j l = new-place-low limit (less x w) (newNodes b.shape) j (omega (arith, less-count)) l
+        low-new : (j : ℕ) → j < new_nodes b.shape → new_place limit (less x w) j < limit
+        low-new j l = new-place-low limit (less x w) (new_nodes b.shape) j (omega (arith, less-count)) l
 
-        low_of : (j : ℕ) → j < newNodes b.shape → b.place j < limit
+        low_of : (j : ℕ) → j < new_nodes b.shape → b.place j < limit
         low_of j l = rw (at_new j l) (low-new j l)
 
-        apart_of : (j k : ℕ) → j < k → k < newNodes b.shape → b.place j ≡ b.place k → ⊥
+        apart_of : (j k : ℕ) → j < k → k < new_nodes b.shape → b.place j ≡ b.place k → ⊥
         apart_of j k l m e =
             let u = new-place-rises limit (less x w) j k l in
             let y = at_new j (omega arith) in
             let z = at_new k m in
             omega arith
 
-        unheld-of : (j : ℕ) → j < newNodes b.shape → In (b.place j) w → b.place j ≡ x
+        unheld-of : (j : ℕ) → j < new_nodes b.shape → In (b.place j) w → b.place j ≡ x
         unheld-of j l y = ⊎_elim (λ e. e) (λ o. absurd (held o)) (same? (b.place j) x)
           where
             held : (b.place j ≡ x → ⊥) → ⊥
@@ -339,7 +339,7 @@ module _ (limit : ℕ) (settings : Settings) (w : Tree) (sound : Sound limit set
 
   -- a removal of the piece at x
   pub fresh-removal : (x : ℕ) → Removable x w
-      → (newPlace limit (cleared x w) 0 < limit) × (In (newPlace limit (cleared x w) 0) (cleared x w) → ⊥)
+      → (new_place limit (cleared x w) 0 < limit) × (In (new_place limit (cleared x w) 0) (cleared x w) → ⊥)
   fresh-removal x z =
       let c = cleared-count limit settings w sound x (at_in x z.piece w z.there) z.below in
       let l = new-place-low limit (cleared x w) 1 0 (omega (arith, sound.room)) (omega arith) in

@@ -7,8 +7,8 @@ use borrow.Author.Tests.{eq-eqb, ne_eqb}
 use Rattle.piece.specs.declared.node.Datum.{Datum}
 use Rattle.piece.specs.Row.{nil, grow}
 use Rattle.tree.specs.Tree.{Tree, In, Distinct, after, rest}
-use Rattle.tree.specs.Booking.{Booking, block, bookedRow, book}
-use Rattle.tree.specs.Removal.{withoutLast, settled, remove, left, cleared, subtree}
+use Rattle.tree.specs.Booking.{Booking, block, booked_row, book}
+use Rattle.tree.specs.Removal.{without_last, settled, remove, left, cleared, subtree}
 use Rattle.tree.specs.Steps.{less, Kids}
 use Rattle.tree.proofs.Rows.{in-eq, in-second, after-nil}
 use Rattle.tree.proofs.Places.{in-less, gone}
@@ -35,13 +35,13 @@ module _ (x : ℕ) where
   subtree-kids q m nil dis h i = absurd h
   subtree-kids q m (grow p e k r) dis (inl z) i =
       let j : In x k = rw z.1 at i in
-      rw (ne_eqb p x (λ y. dis.notBelow (in-eq k (sym y) j)), subtree-absent r (dis.apart x j), after-nil (subtree x k), z.1) refl
+      rw (ne_eqb p x (λ y. dis.not_below (in-eq k (sym y) j)), subtree-absent r (dis.apart x j), after-nil (subtree x k), z.1) refl
   subtree-kids q m (grow p e k r) dis (inr (inl h)) i =
       let j : In x k = kids_under q m x k h i in
-      rw (ne_eqb p x (λ y. dis.notBelow (in-eq k (sym y) j)), subtree-absent r (dis.apart x j), after-nil (subtree x k)) (subtree-kids q m k dis.below h i)
+      rw (ne_eqb p x (λ y. dis.not_below (in-eq k (sym y) j)), subtree-absent r (dis.apart x j), after-nil (subtree x k)) (subtree-kids q m k dis.below h i)
   subtree-kids q m (grow p e k r) dis (inr (inr h)) i =
       let j : In x r = kids_under q m x r h i in
-      rw (ne_eqb p x (λ y. dis.notBeside (in-eq r (sym y) j)), subtree-absent k (λ y. dis.apart x y j)) (subtree-kids q m r dis.beside h i)
+      rw (ne_eqb p x (λ y. dis.not_beside (in-eq r (sym y) j)), subtree-absent k (λ y. dis.apart x y j)) (subtree-kids q m r dis.beside h i)
 
 -- the children of q, of which x is one
 module _ (q x : ℕ) (a : Tree) (d : Datum) (l b w : Tree) (dis : Distinct w) (kids : Kids q (after a (grow x d l b)) w) where
@@ -59,7 +59,7 @@ module _ (q x : ℕ) (a : Tree) (d : Datum) (l b w : Tree) (dis : Distinct w) (k
   less-kids = rw less-put (put-kids q (after a b) (after a (grow x d l b)) w dis kids)
 
   -- what a removal leaves of the row of x, and what it puts behind that
-  pub cleared-put : cleared x w ≡ put q (after a (withoutLast b)) w
+  pub cleared-put : cleared x w ≡ put q (after a (without_last b)) w
   cleared-put = change-put x left q a d l b w dis kids
 
   pub remove-put : (n s : ℕ) → remove x n s w ≡ put q (after a (settled n s d b)) w
@@ -67,4 +67,4 @@ module _ (q x : ℕ) (a : Tree) (d : Datum) (l b w : Tree) (dis : Distinct w) (k
 
   -- a booking puts its block in the place of x
   pub book-put : (c : Booking) → book x c w ≡ put q (after a (after (block c d) b)) w
-  book-put c = change-put x (bookedRow c) q a d l b w dis kids
+  book-put c = change-put x (booked_row c) q a d l b w dis kids

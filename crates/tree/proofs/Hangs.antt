@@ -29,11 +29,11 @@ module _ (q : ℕ) (b : Tree) where
   hang-put k (grow p d l r) dis (inl e) = rw (put-here q (after k b) p d l r e.0, eq-eqb p q (sym e.0), e.1) refl
   hang-put k (grow p d l r) dis (inr (inl h)) =
       let j : In q l = kids-in q k l h in
-      rw (put-left q (after k b) p d l r dis j, ne_eqb p q (λ z. dis.notBelow (in-eq l (sym z) j)), hang-absent r (dis.apart q j))
+      rw (put-left q (after k b) p d l r dis j, ne_eqb p q (λ z. dis.not_below (in-eq l (sym z) j)), hang-absent r (dis.apart q j))
       (ap (λ (z : Tree). grow p d z r) (hang-put k l dis.below h))
   hang-put k (grow p d l r) dis (inr (inr h)) =
       let j : In q r = kids-in q k r h in
-      rw (put_right q (after k b) p d l r dis j, ne_eqb p q (λ z. dis.notBeside (in-eq r (sym z) j)), hang-absent l (λ y. dis.apart q y j))
+      rw (put_right q (after k b) p d l r dis j, ne_eqb p q (λ z. dis.not_beside (in-eq r (sym z) j)), hang-absent l (λ y. dis.apart q y j))
       (ap (λ (z : Tree). grow p d l z) (hang-put k r dis.beside h))
 
   pub hang-of-put : (k w : Tree) → hang q b (put q k w) ≡ put q (after k b) w

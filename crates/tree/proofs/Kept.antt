@@ -11,7 +11,7 @@ use Rattle.piece.specs.declared.node.Kind.TheVariants.{Free, Part, Structure}
 use Rattle.piece.specs.declared.settings.Settings.{Settings}
 use Rattle.piece.specs.Sides.{other}
 use Rattle.piece.specs.Row.{nil, grow}
-use Rattle.piece.specs.Kinds.{isFree}
+use Rattle.piece.specs.Kinds.{is_free}
 use Rattle.tree.specs.Tree.{Tree, In, At, Distinct, count, change}
 use Rattle.tree.specs.Sound.{reach, extent, FreePiece, StructurePiece, Kinded, Children, Topped}
 use Rattle.tree.proofs.Rows.{same?, in-eq, at_in}
@@ -38,13 +38,13 @@ Alone d e k r = (e ≡ d) × (k ≡ nil) × (r ≡ nil)
 pub only : (x : ℕ) (d : Datum) (t : Tree) → Distinct t → At x d t → Where x (This d) t
 only x d nil u h = tt
 only x d (grow y e k r) u (inl h) =
-    ((λ z. sym h.1), where-absent x _ k (λ i. u.notBelow (in-eq k h.0 i)), where-absent x _ r (λ i. u.notBeside (in-eq r h.0 i)))
+    ((λ z. sym h.1), where-absent x _ k (λ i. u.not_below (in-eq k h.0 i)), where-absent x _ r (λ i. u.not_beside (in-eq r h.0 i)))
 only x d (grow y e k r) u (inr (inl h)) =
     let i = at_in x d k h in
-    ((λ z. absurd (u.notBelow (in-eq k (sym z) i))), only x d k u.below h, where-absent x _ r (u.apart x i))
+    ((λ z. absurd (u.not_below (in-eq k (sym z) i))), only x d k u.below h, where-absent x _ r (u.apart x i))
 only x d (grow y e k r) u (inr (inr h)) =
     let i = at_in x d r h in
-    ((λ z. absurd (u.notBeside (in-eq r (sym z) i))), where-absent x _ k (λ j. u.apart x j i), only x d r u.beside h)
+    ((λ z. absurd (u.not_beside (in-eq r (sym z) i))), where-absent x _ k (λ j. u.apart x j i), only x d r u.beside h)
 
 -- what holds of them follows from their being children of a parent
 where-children : (settings : Settings) (x : ℕ) (P Q : Datum → Tree → Tree → Type 0)
@@ -64,7 +64,7 @@ not_top settings x d (grow p c k r) h w a e =
     let z : ◌≡◌ {A = ℕ} 0 1 = cc in
     omega arith
 
-pub free-kind : (a : Kind) (d : Datum) (k r : Tree) → isFree a ≡ true → Kinded a d k r → FreePiece d k r
+pub free-kind : (a : Kind) (d : Datum) (k r : Tree) → is_free a ≡ true → Kinded a d k r → FreePiece d k r
 free-kind Free d k r e h = h
 free-kind Part d k r e h = let z : ◌≡◌ {A = ℕ} 0 1 = cc in absurd (omega arith)
 free-kind Structure d k r e h = let z : ◌≡◌ {A = ℕ} 0 1 = cc in absurd (omega arith)

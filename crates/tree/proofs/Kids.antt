@@ -42,7 +42,7 @@ module _ (q : ℕ) (k : Tree) where
   -- a piece is not below itself
   pub kids-self : (w : Tree) → Distinct w → Kids q k w → In q k → ⊥
   kids-self nil dis h g = h
-  kids-self (grow p d l r) dis (inl e) g = dis.notBelow (in-eq l e.0 (rw e.1 at g))
+  kids-self (grow p d l r) dis (inl e) g = dis.not_below (in-eq l e.0 (rw e.1 at g))
   kids-self (grow p d l r) dis (inr (inl h)) g = kids-self l dis.below h g
   kids-self (grow p d l r) dis (inr (inr h)) g = kids-self r dis.beside h g
 
@@ -73,15 +73,15 @@ kids-at q m i e (grow p d l r) (inr (inr h)) y = inr (inr (kids-at q m i e r h y
 -- no place of a row is in another that comes after it
 pub after-apart : (a b : Tree) → Distinct (after a b) → (i : ℕ) → In i a → In i b → ⊥
 after-apart nil b dis i h g = h
-after-apart (grow p d k r) b dis i (inl e) g = dis.notBeside (in-eq (after r b) e (in-second i r b g))
+after-apart (grow p d k r) b dis i (inl e) g = dis.not_beside (in-eq (after r b) e (in-second i r b g))
 after-apart (grow p d k r) b dis i (inr (inl h)) g = dis.apart i h (in-second i r b g)
 after-apart (grow p d k r) b dis i (inr (inr h)) g = after-apart r b dis.beside i h g
 
 pub after_first : (a b : Tree) → Distinct (after a b) → Distinct a
 after_first nil b dis = tt
 after_first (grow p d k r) b dis = record {
-  notBelow = dis.notBelow;
-  notBeside = λ h. dis.notBeside (in-first p r b h);
+  not_below = dis.not_below;
+  not_beside = λ h. dis.not_beside (in-first p r b h);
   apart = λ i h g. dis.apart i h (in-first i r b g);
   below = dis.below;
   beside = after_first r b dis.beside;
@@ -161,10 +161,10 @@ module _ (q : ℕ) (k : Tree) where
     put-here e = rw (eq-eqb p q (sym e)) refl
 
     pub put-left : Distinct (grow p d l r) → In q l → put q k (grow p d l r) ≡ grow p d (put q k l) r
-    put-left dis h = rw (ne_eqb p q (λ e. dis.notBelow (in-eq l (sym e) h)), put-absent r (dis.apart q h)) refl
+    put-left dis h = rw (ne_eqb p q (λ e. dis.not_below (in-eq l (sym e) h)), put-absent r (dis.apart q h)) refl
 
     pub put_right : Distinct (grow p d l r) → In q r → put q k (grow p d l r) ≡ grow p d l (put q k r)
-    put_right dis h = rw (ne_eqb p q (λ e. dis.notBeside (in-eq r (sym e) h)), put-absent l (λ g. dis.apart q g h)) refl
+    put_right dis h = rw (ne_eqb p q (λ e. dis.not_beside (in-eq r (sym e) h)), put-absent l (λ g. dis.apart q g h)) refl
 
   -- what is in it: the new children, and the places that were not below q
   module _ (m : Tree) (i : ℕ) where
@@ -173,7 +173,7 @@ module _ (q : ℕ) (k : Tree) where
     put_in (grow p d l r) dis (inl e) g = go (rw (put-here p d l r e.0) at g)
       where
         go : In i (grow p d k r) → In i k ⊎ (In i (grow p d l r) × (In i m → ⊥))
-        go (inl z) = inr (inl z, λ y. dis.notBelow (in-eq l z (rw e.1 at y)))
+        go (inl z) = inr (inl z, λ y. dis.not_below (in-eq l z (rw e.1 at y)))
         go (inr (inl z)) = inl z
         go (inr (inr z)) = inr (inr (inr z), λ y. dis.apart i (rw e.1 at y) z)
     put_in (grow p d l r) dis (inr (inl h)) g = go (rw (put-left p d l r dis (kids-in q m l h)) at g) (put_in l dis.below h)
@@ -182,7 +182,7 @@ module _ (q : ℕ) (k : Tree) where
         under y = kids_under q m i l h y
 
         go : In i (grow p d (put q k l) r) → (In i (put q k l) → In i k ⊎ (In i l × (In i m → ⊥))) → In i k ⊎ (In i (grow p d l r) × (In i m → ⊥))
-        go (inl z) ih = inr (inl z, λ y. dis.notBelow (in-eq l z (under y)))
+        go (inl z) ih = inr (inl z, λ y. dis.not_below (in-eq l z (under y)))
         go (inr (inl z)) ih = ⊎_elim inl (λ y. inr (inr (inl y.0), y.1)) (ih z)
         go (inr (inr z)) ih = inr (inr (inr z), λ y. dis.apart i (under y) z)
     put_in (grow p d l r) dis (inr (inr h)) g = go (rw (put_right p d l r dis (kids-in q m r h)) at g) (put_in r dis.beside h)
@@ -191,7 +191,7 @@ module _ (q : ℕ) (k : Tree) where
         under y = kids_under q m i r h y
 
         go : In i (grow p d l (put q k r)) → (In i (put q k r) → In i k ⊎ (In i r × (In i m → ⊥))) → In i k ⊎ (In i (grow p d l r) × (In i m → ⊥))
-        go (inl z) ih = inr (inl z, λ y. dis.notBeside (in-eq r z (under y)))
+        go (inl z) ih = inr (inl z, λ y. dis.not_beside (in-eq r z (under y)))
         go (inr (inl z)) ih = inr (inr (inl z), λ y. dis.apart i z (under y))
         go (inr (inr z)) ih = ⊎_elim inl (λ y. inr (inr (inr y.0), y.1)) (ih z)
 
@@ -221,16 +221,16 @@ module _ (q : ℕ) (k : Tree) where
     put-distinct nil dis h dk n = absurd h
     put-distinct (grow p d l r) dis (inl e) dk n =
         rw (put-here p d l r e.0) (record {
-          notBelow = λ y. dis.notBelow (rw e.1 at (n p y (inl refl)));
-          notBeside = dis.notBeside;
+          not_below = λ y. dis.not_below (rw e.1 at (n p y (inl refl)));
+          not_beside = dis.not_beside;
           apart = λ i y z. dis.apart i (rw e.1 at (n i y (inr (inr z)))) z;
           below = dk;
           beside = dis.beside;
         })
     put-distinct (grow p d l r) dis (inr (inl h)) dk n =
         rw (put-left p d l r dis (kids-in q m l h)) (record {
-          notBelow = λ y. ⊎_elim (λ z. dis.notBelow (kids_under q m p l h (n p z (inl refl)))) (λ z. dis.notBelow z.0) (put_in m p l dis.below h y);
-          notBeside = dis.notBeside;
+          not_below = λ y. ⊎_elim (λ z. dis.not_below (kids_under q m p l h (n p z (inl refl)))) (λ z. dis.not_below z.0) (put_in m p l dis.below h y);
+          not_beside = dis.not_beside;
           apart = λ i y z. ⊎_elim (λ v. dis.apart i (kids_under q m i l h (n i v (inr (inr z)))) z) (λ v. dis.apart i v.0 z)
               (put_in m i l dis.below h y);
           below = put-distinct l dis.below h dk (λ i y z. n i y (inr (inl z)));
@@ -238,8 +238,8 @@ module _ (q : ℕ) (k : Tree) where
         })
     put-distinct (grow p d l r) dis (inr (inr h)) dk n =
         rw (put_right p d l r dis (kids-in q m r h)) (record {
-          notBelow = dis.notBelow;
-          notBeside = λ y. ⊎_elim (λ z. dis.notBeside (kids_under q m p r h (n p z (inl refl)))) (λ z. dis.notBeside z.0)
+          not_below = dis.not_below;
+          not_beside = λ y. ⊎_elim (λ z. dis.not_beside (kids_under q m p r h (n p z (inl refl)))) (λ z. dis.not_beside z.0)
               (put_in m p r dis.beside h y);
           apart = λ i y z. ⊎_elim (λ v. dis.apart i y (kids_under q m i r h (n i v (inr (inl y))))) (λ v. dis.apart i y v.0)
               (put_in m i r dis.beside h z);
@@ -278,15 +278,15 @@ module _ (x : ℕ) (g : Tree → Tree) (end : g nil ≡ nil)
   pass-put q k nil dis h i = absurd h
   pass-put q k (grow p d l r) dis (inl e) i =
       let j : In x l = rw e.1 at i in
-      rw (put-here q (g k) p d l r e.0, pass p d l r (λ z. dis.notBelow (in-eq l (sym z) j)), pass-absent x g end pass r (dis.apart x j), e.1) refl
+      rw (put-here q (g k) p d l r e.0, pass p d l r (λ z. dis.not_below (in-eq l (sym z) j)), pass-absent x g end pass r (dis.apart x j), e.1) refl
   pass-put q k (grow p d l r) dis (inr (inl h)) i =
       let j : In x l = kids_under q k x l h i in
-      let n : p ≡ x → ⊥ = (λ z. dis.notBelow (in-eq l (sym z) j)) in
+      let n : p ≡ x → ⊥ = (λ z. dis.not_below (in-eq l (sym z) j)) in
       rw (put-left q (g k) p d l r dis (kids-in q k l h), pass p d l r n, pass-absent x g end pass r (dis.apart x j))
       (ap (λ (z : Tree). grow p d z r) (pass-put q k l dis.below h i))
   pass-put q k (grow p d l r) dis (inr (inr h)) i =
       let j : In x r = kids_under q k x r h i in
-      let n : p ≡ x → ⊥ = (λ z. dis.notBeside (in-eq r (sym z) j)) in
+      let n : p ≡ x → ⊥ = (λ z. dis.not_beside (in-eq r (sym z) j)) in
       rw (put_right q (g k) p d l r dis (kids-in q k r h), pass p d l r n, pass-absent x g end pass l (λ y. dis.apart x y j))
       (ap (λ (z : Tree). grow p d l z) (pass-put q k r dis.beside h i))
 

@@ -6,13 +6,13 @@ use mathlib.Core.Bool.{Bool, true, false, cond, ◌&&◌}
 use mathlib.Core.Logic.{◌⊎◌, inl, inr, ⊎_elim}
 use Prim.Native.Nat.{ℕ}
 use Rattle.piece.specs.Row.{nil, grow}
-use Rattle.piece.specs.Kinds.{isFree}
-use Rattle.tree.specs.Tree.{Tree, In, Distinct, isNil}
-use Rattle.tree.specs.Removal.{withoutLast}
+use Rattle.piece.specs.Kinds.{is_free}
+use Rattle.tree.specs.Tree.{Tree, In, Distinct, is_nil}
+use Rattle.tree.specs.Removal.{without_last}
 use Rattle.tree.specs.Steps.{leaving}
 use Rattle.tree.specs.ListSteps.{Names}
 use Rattle.tree.proofs.Rows.{in-eq}
-use Rattle.tree.proofs.Spots.{freeEnd, FreeLeaves, end-alone}
+use Rattle.tree.proofs.Spots.{free_end, FreeLeaves, end-alone}
 
 -- ---- the places that a list names, and one behind it
 
@@ -47,34 +47,34 @@ module _ (i : ℕ) where
   in-leaving (grow p d k r) (inr (inr h)) = names-second i (leaving k) (p ∷ leaving r) (inr (in-leaving r h))
 
   -- the free piece at the end of a row
-  pub end-in : (b : Tree) → Names i (freeEnd b) → In i b
+  pub end-in : (b : Tree) → Names i (free_end b) → In i b
   end-in nil h = h
-  end-in (grow p d k r) h = go (isFree d.kind && isNil r) h (end-in r)
+  end-in (grow p d k r) h = go (is_free d.kind && is_nil r) h (end-in r)
     where
-      go : (c : Bool) → Names i (cond c (p ∷ []) (freeEnd r)) → (Names i (freeEnd r) → In i r) → In i (grow p d k r)
+      go : (c : Bool) → Names i (cond c (p ∷ []) (free_end r)) → (Names i (free_end r) → In i r) → In i (grow p d k r)
       go true (inl e) ih = inl e
       go true (inr h) ih = absurd h
       go false h ih = inr (inr (ih h))
 
   -- it is not left
-  pub end-out : (b : Tree) → Distinct b → Names i (freeEnd b) → In i (withoutLast b) → ⊥
+  pub end-out : (b : Tree) → Distinct b → Names i (free_end b) → In i (without_last b) → ⊥
   end-out nil dis h g = h
-  end-out (grow p d k r) dis h g = go (isFree d.kind && isNil r) h g (end-out r dis.beside)
+  end-out (grow p d k r) dis h g = go (is_free d.kind && is_nil r) h g (end-out r dis.beside)
     where
-      go : (c : Bool) → Names i (cond c (p ∷ []) (freeEnd r)) → In i (cond c nil (grow p d k (withoutLast r)))
-          → (Names i (freeEnd r) → In i (withoutLast r) → ⊥) → ⊥
+      go : (c : Bool) → Names i (cond c (p ∷ []) (free_end r)) → In i (cond c nil (grow p d k (without_last r)))
+          → (Names i (free_end r) → In i (without_last r) → ⊥) → ⊥
       go true h g ih = g
-      go false h (inl e) ih = dis.notBeside (in-eq r e (end-in r h))
+      go false h (inl e) ih = dis.not_beside (in-eq r e (end-in r h))
       go false h (inr (inl g)) ih = dis.apart i g (end-in r h)
       go false h (inr (inr g)) ih = ih h g
 
   -- and all else is
-  pub left-or-end : (b : Tree) → FreeLeaves b → In i b → In i (withoutLast b) ⊎ Names i (freeEnd b)
+  pub left-or-end : (b : Tree) → FreeLeaves b → In i b → In i (without_last b) ⊎ Names i (free_end b)
   left-or-end nil f h = inl h
-  left-or-end (grow p d k r) f h = go (isFree d.kind && isNil r) refl h (left-or-end r f.1)
+  left-or-end (grow p d k r) f h = go (is_free d.kind && is_nil r) refl h (left-or-end r f.1)
     where
-      go : (c : Bool) → (isFree d.kind && isNil r) ≡ c → In i (grow p d k r) → (In i r → In i (withoutLast r) ⊎ Names i (freeEnd r))
-          → In i (cond c nil (grow p d k (withoutLast r))) ⊎ Names i (cond c (p ∷ []) (freeEnd r))
+      go : (c : Bool) → (is_free d.kind && is_nil r) ≡ c → In i (grow p d k r) → (In i r → In i (without_last r) ⊎ Names i (free_end r))
+          → In i (cond c nil (grow p d k (without_last r))) ⊎ Names i (cond c (p ∷ []) (free_end r))
       go true z (inl e) ih = inr (inl e)
       go true z (inr (inl h)) ih = absurd (rw (end-alone p d k r f z).0 at h)
       go true z (inr (inr h)) ih = absurd (rw (end-alone p d k r f z).1 at h)

@@ -20,8 +20,8 @@ numbered-in n i (grow p d k r) h (inr (inr g)) = let z = numbered-in (n + 1 + co
 pub numbered-distinct : {A : Type 0} (n : ℕ) (w : Row A) → Numbered n w → Distinct w
 numbered-distinct n nil h = tt
 numbered-distinct n (grow p d k r) h = record {
-  notBelow = λ g. let z = numbered-in (n + 1) p k h.1 g in omega arith;
-  notBeside = λ g. let z = numbered-in (n + 1 + count k) p r h.2 g in omega arith;
+  not_below = λ g. let z = numbered-in (n + 1) p k h.1 g in omega arith;
+  not_beside = λ g. let z = numbered-in (n + 1 + count k) p r h.2 g in omega arith;
   apart = λ i a b. let z = numbered-in (n + 1) i k h.1 a in let y = numbered-in (n + 1 + count k) i r h.2 b in omega arith;
   below = numbered-distinct (n + 1) k h.1;
   beside = numbered-distinct (n + 1 + count k) r h.2;

@@ -10,11 +10,11 @@ use borrow.Author.Tests.{eq-eqb, ne_eqb}
 use Rattle.piece.specs.declared.node.Datum.{Datum}
 use Rattle.piece.specs.declared.settings.Settings.{Settings}
 use Rattle.piece.specs.Row.{nil, grow}
-use Rattle.piece.specs.Kinds.{isFree}
-use Rattle.tree.specs.Tree.{Tree, In, At, Inside, Distinct, after, isNil, change}
+use Rattle.piece.specs.Kinds.{is_free}
+use Rattle.tree.specs.Tree.{Tree, In, At, Inside, Distinct, after, is_nil, change}
 use Rattle.tree.specs.Sound.{Children, Topped}
 use Rattle.tree.specs.Booking.{Booking, block, book}
-use Rattle.tree.specs.Removal.{withoutLast, settled, cleared, subtree}
+use Rattle.tree.specs.Removal.{without_last, settled, cleared, subtree}
 use Rattle.tree.specs.Family.{parent_in, parent_of}
 use Rattle.tree.specs.Apart.{Clear}
 use Rattle.tree.specs.AtOnce.{Deed, books, takes, does, Spares}
@@ -32,19 +32,19 @@ use Rattle.tree.proofs.Beside.{inside-outer}
 module _ (settings : Settings) (x i : ℕ) (e : Datum) where
   -- the parent of a piece, in a row that hangs under v and in a part of it
   parent-below : (v p : ℕ) (d : Datum) (k r : Tree) (j : ℕ) → Distinct (grow p d k r) → In j k → parent_in j v (grow p d k r) ≡ parent_in j p k
-  parent-below v p d k r j u h = rw (ne_eqb p j (λ z. u.notBelow (in-eq k (sym z) h)), in-holds j k h) refl
+  parent-below v p d k r j u h = rw (ne_eqb p j (λ z. u.not_below (in-eq k (sym z) h)), in-holds j k h) refl
 
   parent-beside : (v p : ℕ) (d : Datum) (k r : Tree) (j : ℕ) → Distinct (grow p d k r) → In j r → parent_in j v (grow p d k r) ≡ parent_in j v r
   parent-beside v p d k r j u h =
-      rw (ne_eqb p j (λ z. u.notBeside (in-eq r (sym z) h)), absent-holds j k (λ z. u.apart j z h)) refl
+      rw (ne_eqb p j (λ z. u.not_beside (in-eq r (sym z) h)), absent-holds j k (λ z. u.apart j z h)) refl
 
   -- in a row, what is below one of its pieces is left when its free last piece goes
-  below_stays : (v : ℕ) (q : Datum) (r : Tree) → Children settings q r → Distinct r → (v ≡ parent_in i v r → ⊥) → At i e r → At i e (withoutLast r)
+  below_stays : (v : ℕ) (q : Datum) (r : Tree) → Children settings q r → Distinct r → (v ≡ parent_in i v r → ⊥) → At i e r → At i e (without_last r)
   below_stays v q nil c u n h = absurd h
   below_stays v q (grow p d k r) c u n h =
-      go (isFree d.kind) refl h (λ o. below_stays v q r c.beside u.beside (λ z. n (z ∙ sym (parent-beside v p d k r i u (at_in i e r o)))) o)
+      go (is_free d.kind) refl h (λ o. below_stays v q r c.beside u.beside (λ z. n (z ∙ sym (parent-beside v p d k r i u (at_in i e r o)))) o)
     where
-      go : (b : Bool) → isFree d.kind ≡ b → At i e (grow p d k r) → (At i e r → At i e (withoutLast r)) → At i e (withoutLast (grow p d k r))
+      go : (b : Bool) → is_free d.kind ≡ b → At i e (grow p d k r) → (At i e r → At i e (without_last r)) → At i e (without_last (grow p d k r))
       go true b (inl o) ih = absurd (n (rw (eq-eqb p i (sym o.0)) refl))
       go true b (inr (inl o)) ih = absurd (rw (free-kind d.kind d k r b c.kinded).childless at o)
       go true b (inr (inr o)) ih = absurd (rw (free-kind d.kind d k r b c.kinded).last at o)
@@ -100,11 +100,11 @@ inside-after y z (grow p d k r) b (inl h) = inl (inl h)
 inside-after y z (grow p d k r) b (inr (inl h)) = inl (inr (inl h))
 inside-after y z (grow p d k r) b (inr (inr h)) = ⊎_elim (λ o. inl (inr (inr o))) inr (inside-after y z r b h)
 
-inside-left : (y z : ℕ) (r : Tree) → Inside y z (withoutLast r) → Inside y z r
+inside-left : (y z : ℕ) (r : Tree) → Inside y z (without_last r) → Inside y z r
 inside-left y z nil h = h
-inside-left y z (grow p d k r) h = go (isFree d.kind && isNil r) h (inside-left y z r)
+inside-left y z (grow p d k r) h = go (is_free d.kind && is_nil r) h (inside-left y z r)
   where
-    go : (c : Bool) → Inside y z (cond c nil (grow p d k (withoutLast r))) → (Inside y z (withoutLast r) → Inside y z r) → Inside y z (grow p d k r)
+    go : (c : Bool) → Inside y z (cond c nil (grow p d k (without_last r))) → (Inside y z (without_last r) → Inside y z r) → Inside y z (grow p d k r)
     go true o ih = absurd o
     go false (inl o) ih = inl o
     go false (inr (inl o)) ih = inr (inl o)
@@ -120,7 +120,7 @@ unfolding settled
 row_inside (books b) y z s d r h =
     ⊎_elim (λ o. absurd (block-clear y b s d (inside-outer y z (block b d) o))) (λ o. o) (inside-after y z (block b d) r h)
 row_inside (takes n u) y z s d r h =
-    ⊎_elim (inside-left y z r) (λ o. ⊎_elim (λ v. absurd v.1) (λ v. ⊎_elim absurd absurd v) o) (inside-after y z (withoutLast r) _ h)
+    ⊎_elim (inside-left y z r) (λ o. ⊎_elim (λ v. absurd v.1) (λ v. ⊎_elim absurd absurd v) o) (inside-after y z (without_last r) _ h)
 
 module _ (x : ℕ) (f : Deed) (y z : ℕ) (sy : Spares y f) (sz : Spares z f) where
   in-was : (w : Tree) → In z (change x (does f) w) → In z w

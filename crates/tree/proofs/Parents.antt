@@ -11,12 +11,12 @@ use Rattle.piece.specs.declared.settings.Settings.{Settings}
 use Rattle.piece.specs.declared.node.Kind.TheVariants.{Free}
 use Rattle.piece.specs.declared.settings.Settings.{Settings}
 use Rattle.piece.specs.Row.{nil, grow}
-use Rattle.piece.specs.Kinds.{isFree}
+use Rattle.piece.specs.Kinds.{is_free}
 use Rattle.lists.proofs.Scan.{clash}
-use Rattle.tree.specs.Tree.{Tree, In, At, Distinct, after, change, rest, isNil}
+use Rattle.tree.specs.Tree.{Tree, In, At, Distinct, after, change, rest, is_nil}
 use Rattle.tree.specs.Sound.{Sound}
-use Rattle.tree.specs.Booking.{Booking, block, bookedRow, book}
-use Rattle.tree.specs.Removal.{withoutLast, settled, remove, left, cleared}
+use Rattle.tree.specs.Booking.{Booking, block, booked_row, book}
+use Rattle.tree.specs.Removal.{without_last, settled, remove, left, cleared}
 use Rattle.tree.specs.Accepted.{Fresh}
 use Rattle.tree.specs.Steps.{less}
 use Rattle.tree.specs.Family.{holds, parent_in, parent_of}
@@ -48,13 +48,13 @@ module _ (i : ℕ) where
   parent-first q (grow p d k r) b (inr (inl h)) = rw (in-holds i k h) refl
   parent-first q (grow p d k r) b (inr (inr h)) = rw (parent-first q r b h) refl
 
-  parent-without : (q : ℕ) (r : Tree) → In i (withoutLast r) → parent_in i q (withoutLast r) ≡ parent_in i q r
+  parent-without : (q : ℕ) (r : Tree) → In i (without_last r) → parent_in i q (without_last r) ≡ parent_in i q r
   parent-without q nil h = absurd h
-  parent-without q (grow p d k r) h = go (isFree d.kind && isNil r) h (parent-without q r)
+  parent-without q (grow p d k r) h = go (is_free d.kind && is_nil r) h (parent-without q r)
     where
-      go : (c : Bool) → In i (cond c nil (grow p d k (withoutLast r)))
-          → (In i (withoutLast r) → parent_in i q (withoutLast r) ≡ parent_in i q r)
-          → parent_in i q (cond c nil (grow p d k (withoutLast r))) ≡ parent_in i q (grow p d k r)
+      go : (c : Bool) → In i (cond c nil (grow p d k (without_last r)))
+          → (In i (without_last r) → parent_in i q (without_last r) ≡ parent_in i q r)
+          → parent_in i q (cond c nil (grow p d k (without_last r))) ≡ parent_in i q (grow p d k r)
       go true h ih = absurd h
       go false (inl e) ih = rw (eq-eqb p i (sym e)) refl
       go false (inr (inl h)) ih = rw (in-holds i k h) refl
@@ -113,7 +113,7 @@ module _ (x : ℕ) (g f : Datum → Tree → Tree) (less-row : (j : ℕ) (d : Da
             let a : Distinct (f d r) = rw (eq-eqb y x e) at apart in
             let l : In i (g d r) = rw (eq-eqb y x e) at h in
             let j = less-row i d r l in
-            rw (eq-eqb y x e, ne_eqb y i (λ z. dis.notBeside (in-eq r (sym z) j)), absent-holds i k (λ z. dis.apart i z j)) (same_row q d r a l)
+            rw (eq-eqb y x e, ne_eqb y i (λ z. dis.not_beside (in-eq r (sym z) j)), absent-holds i k (λ z. dis.apart i z j)) (same_row q d r a l)
         go (inr n) ik ir = other (rw (ne_eqb y x n) at apart) (rw (ne_eqb y x n) at h)
           where
             other : Distinct (grow y d (change x f k) (change x f r)) → In i (grow y d (change x g k) (change x g r))
@@ -121,14 +121,14 @@ module _ (x : ℕ) (g f : Datum → Tree → Tree) (less-row : (j : ℕ) (d : Da
             other a (inl z) = rw (ne_eqb y x n, eq-eqb y i (sym z)) refl
             other a (inr (inl l)) =
                 let j = was k l in
-                rw (ne_eqb y x n, ne_eqb y i (λ z. dis.notBelow (in-eq k (sym z) j)), in-holds i k j, in-holds i (change x f k) (in-more i k l))
+                rw (ne_eqb y x n, ne_eqb y i (λ z. dis.not_below (in-eq k (sym z) j)), in-holds i k j, in-holds i (change x f k) (in-more i k l))
                 (ik a.below l)
             other a (inr (inr l)) =
                 let j = was r l in
                 let m = in-more i r l in
                 rw (
                   ne_eqb y x n,
-                  ne_eqb y i (λ z. dis.notBeside (in-eq r (sym z) j)),
+                  ne_eqb y i (λ z. dis.not_beside (in-eq r (sym z) j)),
                   absent-holds i k (λ z. dis.apart i z j),
                   absent-holds i (change x f k) (λ z. a.apart i z m),
                 )
@@ -147,7 +147,7 @@ module _ (x : ℕ) (g f : Datum → Tree → Tree) (less-row : (j : ℕ) (d : Da
         go (inl e) ik ir =
             let l : In i (g d r) = rw (eq-eqb y x e) at h in
             let j = less-row i d r l in
-            rw (eq-eqb y x e, ne_eqb y i (λ z. dis.notBeside (in-eq r (sym z) j)), absent-holds i k (λ z. dis.apart i z j)) (held-row q d r l)
+            rw (eq-eqb y x e, ne_eqb y i (λ z. dis.not_beside (in-eq r (sym z) j)), absent-holds i k (λ z. dis.apart i z j)) (held-row q d r l)
         go (inr n) ik ir = other (rw (ne_eqb y x n) at h)
           where
             -- under y, and among the later siblings
@@ -164,11 +164,11 @@ module _ (x : ℕ) (g f : Datum → Tree → Tree) (less-row : (j : ℕ) (d : Da
             other (inl z) = rw (eq-eqb y i (sym z)) (inl refl)
             other (inr (inl l)) =
                 let j = was k l in
-                rw (ne_eqb y x n, ne_eqb y i (λ z. dis.notBelow (in-eq k (sym z) j)), in-holds i k j)
+                rw (ne_eqb y x n, ne_eqb y i (λ z. dis.not_below (in-eq k (sym z) j)), in-holds i k j)
                 (inr (below (ik l)))
             other (inr (inr l)) =
                 let j = was r l in
-                rw (ne_eqb y x n, ne_eqb y i (λ z. dis.notBeside (in-eq r (sym z) j)), absent-holds i k (λ z. dis.apart i z j))
+                rw (ne_eqb y x n, ne_eqb y i (λ z. dis.not_beside (in-eq r (sym z) j)), absent-holds i k (λ z. dis.apart i z j))
                 (beside (ir l))
 
 -- ---- a booking
@@ -185,17 +185,17 @@ module _ (limit : ℕ) (settings : Settings) (w : Tree) (sound : Sound limit set
       l : In i (change x rest w)
       l = at_in i e (less x w) h
 
-      same_row : (v : ℕ) (c : Datum) (r : Tree) → Distinct (bookedRow b c r) → In i r → parent_in i v (bookedRow b c r) ≡ parent_in i v r
+      same_row : (v : ℕ) (c : Datum) (r : Tree) → Distinct (booked_row b c r) → In i r → parent_in i v (booked_row b c r) ≡ parent_in i v r
       same_row v c r a z = parent-second i v (block b c) r (λ y. after-apart (block b c) r a i y z)
 
       same : parent_of limit i (book x b w) ≡ parent_of limit i w
       same =
-          parent-change x rest (bookedRow b) (λ j c r z. z) (λ j c r z. in-second j (block b c) r z) i same_row (λ v c r. parent-in i v r) limit w
+          parent-change x rest (booked_row b) (λ j c r z. z) (λ j c r z. in-second j (block b c) r z) i same_row (λ v c r. parent-in i v r) limit w
           sound.distinct (book-distinct limit x b w sound.distinct new) l
 
       stays : (q ≡ limit) ⊎ In q (change x rest w)
       stays =
-          parent-stays x rest (bookedRow b) (λ j c r z. z) (λ j c r z. in-second j (block b c) r z) i same_row (λ v c r. parent-in i v r) limit w
+          parent-stays x rest (booked_row b) (λ j c r z. z) (λ j c r z. in-second j (block b c) r z) i same_row (λ v c r. parent-in i v r) limit w
           sound.distinct l
 
       held : (f : Datum) × At q f (less x w) → (f : Datum) × At q f w × At q f (book x b w)
@@ -219,15 +219,15 @@ module _ (limit x n s : ℕ) (w : Tree) (apart : Distinct w) (new : In n (cleare
       l : In i (change x left w)
       l = at_in i e (cleared x w) h
 
-      more : (j : ℕ) (c : Datum) (r : Tree) → In j (withoutLast r) → In j (settled n s c r)
-      more j c r z = in-first j (withoutLast r) _ z
+      more : (j : ℕ) (c : Datum) (r : Tree) → In j (without_last r) → In j (settled n s c r)
+      more j c r z = in-first j (without_last r) _ z
 
-      same_row : (v : ℕ) (c : Datum) (r : Tree) → Distinct (settled n s c r) → In i (withoutLast r)
+      same_row : (v : ℕ) (c : Datum) (r : Tree) → Distinct (settled n s c r) → In i (without_last r)
           → parent_in i v (settled n s c r) ≡ parent_in i v r
-      same_row v c r a z = parent-first i v (withoutLast r) _ z ∙ parent-without i v r z
+      same_row v c r a z = parent-first i v (without_last r) _ z ∙ parent-without i v r z
 
-      held-row : (v : ℕ) (c : Datum) (r : Tree) → In i (withoutLast r) → (parent_in i v r ≡ v) ⊎ In (parent_in i v r) (withoutLast r)
-      held-row v c r z = rw (parent-without i v r z) at (parent-in i v (withoutLast r) z)
+      held-row : (v : ℕ) (c : Datum) (r : Tree) → In i (without_last r) → (parent_in i v r ≡ v) ⊎ In (parent_in i v r) (without_last r)
+      held-row v c r z = rw (parent-without i v r z) at (parent-in i v (without_last r) z)
 
       same : parent_of limit i (remove x n s w) ≡ parent_of limit i w
       same =

@@ -9,7 +9,7 @@ use Rattle.piece.specs.declared.settings.Settings.{Settings}
 use Rattle.piece.specs.Sides.{other, laid}
 use Rattle.piece.specs.Row.{nil, grow}
 use Rattle.tree.specs.Tree.{Tree, In, Distinct, count}
-use Rattle.tree.specs.Sound.{Domain, Sided, extent, maxNumber, FreePiece, PartPiece, StructurePiece, Child, Top, Topped, Sound}
+use Rattle.tree.specs.Sound.{Domain, Sided, extent, max_number, FreePiece, PartPiece, StructurePiece, Child, Top, Topped, Sound}
 
 some-row : (t : Tree) → 1 ≤ count t → t ≡ nil → ⊥
 some-row t h e = let z : 1 ≤ 0 = rw e at h in omega arith
@@ -24,7 +24,7 @@ sided w h = record { wide = w; tall = h }
 pub free-piece : {d : Datum} {k r : Tree} → k ≡ nil → r ≡ nil → d.number ≡ 0 → FreePiece d k r
 free-piece k r n = record { childless = k; last = r; unnumbered = n }
 
-pub part-piece : {d : Datum} {k : Tree} → k ≡ nil → Sided d.size → d.number ≤ maxNumber → PartPiece d k
+pub part-piece : {d : Datum} {k : Tree} → k ≡ nil → Sided d.size → d.number ≤ max_number → PartPiece d k
 part-piece k s n = record { childless = k; sided = s; numbered = n }
 
 pub structure-piece : {d : Datum} {k : Tree} → 1 ≤ count k → Sided d.size → extent (other d.cut) k ≡ (laid (other d.cut) d.size).width

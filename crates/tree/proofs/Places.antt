@@ -30,7 +30,7 @@ module _ (x : ℕ) (g : Datum → Tree → Tree) (less : (i : ℕ) (d : Datum) (
     where
       go : (b : Bool) → eqb y x ≡ b → In x (cond b (g d r) (grow y d (change x g k) (change x g r)))
           → (In x (change x g k) → ⊥) → (In x (change x g r) → ⊥) → ⊥
-      go true e h a b = u.notBeside (in-eq r (sym (eqb-true y x e)) (less x d r h))
+      go true e h a b = u.not_beside (in-eq r (sym (eqb-true y x e)) (less x d r h))
       go false e (inl z) a b = eqb-false y x e (sym z)
       go false e (inr (inl h)) a b = a h
       go false e (inr (inr h)) a b = b h
@@ -60,8 +60,8 @@ module _ (x : ℕ) (g f : Datum → Tree → Tree) (New : ℕ → Type 0)
           → (((i : ℕ) → New i → In i (change x g r) → ⊥) → Distinct (change x f r)) → Distinct (change x f (grow y d k r))
       go (inl e) a b = rw (eq-eqb y x e) (tight d r u.beside (λ i z h. n i z (rw (eq-eqb y x e) h)))
       go (inr m) a b = rw (ne_eqb y x m) (record {
-        notBelow = λ h. ⊎_elim (λ z. u.notBelow (in-less x g less y k z)) (λ z. new y z.0 (inl refl)) (in-change y k h);
-        notBeside = λ h. ⊎_elim (λ z. u.notBeside (in-less x g less y r z)) (λ z. new y z.0 (inl refl)) (in-change y r h);
+        not_below = λ h. ⊎_elim (λ z. u.not_below (in-less x g less y k z)) (λ z. new y z.0 (inl refl)) (in-change y k h);
+        not_beside = λ h. ⊎_elim (λ z. u.not_beside (in-less x g less y r z)) (λ z. new y z.0 (inl refl)) (in-change y r h);
         apart = λ i h l. ⊎_elim
             (λ z. ⊎_elim (λ o. u.apart i (in-less x g less i k z) (in-less x g less i r o)) (λ o. new i o.0 (inr (inl z))) (in-change i r l))
             (λ z. ⊎_elim (λ o. new i z.0 (inr (inr o))) (λ o. u.apart x z.1 o.1) (in-change i r l))

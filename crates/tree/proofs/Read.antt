@@ -13,41 +13,41 @@ use Rattle.piece.specs.declared.settings.Settings.{Settings}
 use Rattle.piece.specs.Sides.{other, laid}
 use Rattle.piece.specs.Row.{nil, grow}
 use Rattle.piece.proofs.Numbers.{kind-back, cut-back}
-use Rattle.piece.specs.Numbers.{kindNo, cutNo, kind_of, cut_of}
+use Rattle.piece.specs.Numbers.{kind_no, cut_no, kind_of, cut_of}
 use Rattle.tree.specs.Tree.{Tree}
-use Rattle.tree.specs.Sound.{maxSide, maxNumber, maxBlade, extent, Kinded, Children, Sound}
-use Rattle.tree.specs.Snapshot.{twoThen, fourThen, nodeBytes, snapshot, Same, unmarked, shape}
+use Rattle.tree.specs.Sound.{max_side, max_number, max_blade, extent, Kinded, Children, Sound}
+use Rattle.tree.specs.Snapshot.{two_then, four_then, node_bytes, snapshot, Same, unmarked, shape}
 
 -- ---- one node
 
 -- sides that four bytes hold
 pub record Small (s : Size) : Type 0 where
-  pub width : s.width ≤ maxSide
-  pub height : s.height ≤ maxSide
+  pub width : s.width ≤ max_side
+  pub height : s.height ≤ max_side
 
 -- a piece at this level whose bytes hold all that it is
 pub record Written (l : ℕ) (d : Datum) : Type 0 where
   pub level : d.level ≡ l
-  pub number : d.number ≤ maxNumber
+  pub number : d.number ≤ max_number
   pub small : Small d.size
-  pub eaten : d.eaten ≤ maxBlade
+  pub eaten : d.eaten ≤ max_blade
 
 -- what the bytes of a number say, and what follows them
-two-read : (v w : ℕ) {x y : List ℕ} → v ≤ maxNumber → w ≤ maxNumber → twoThen v x ≡ twoThen w y → (v ≡ w) × (x ≡ y)
+two-read : (v w : ℕ) {x y : List ℕ} → v ≤ max_number → w ≤ max_number → two_then v x ≡ two_then w y → (v ≡ w) × (x ≡ y)
 two-read v w hv hw e =
     let high : v / 256 % 256 ≡ w / 256 % 256 = cc in
     let low : v % 256 ≡ w % 256 = cc in
     (omega arith, cc)
 
 -- numbers that agree in their two highest bytes, and then in the next
-upper : (v w : ℕ) → v ≤ maxSide → w ≤ maxSide → v / 16777216 % 256 ≡ w / 16777216 % 256 → v / 65536 % 256 ≡ w / 65536 % 256
+upper : (v w : ℕ) → v ≤ max_side → w ≤ max_side → v / 16777216 % 256 ≡ w / 16777216 % 256 → v / 65536 % 256 ≡ w / 65536 % 256
     → v / 65536 ≡ w / 65536
 upper v w hv hw a b = omega arith
 
 middle : (v w : ℕ) → v / 65536 ≡ w / 65536 → v / 256 % 256 ≡ w / 256 % 256 → v / 256 ≡ w / 256
 middle v w h a = omega arith
 
-four-read : (v w : ℕ) {x y : List ℕ} → v ≤ maxSide → w ≤ maxSide → fourThen v x ≡ fourThen w y → (v ≡ w) × (x ≡ y)
+four-read : (v w : ℕ) {x y : List ℕ} → v ≤ max_side → w ≤ max_side → four_then v x ≡ four_then w y → (v ≡ w) × (x ≡ y)
 four-read v w hv hw e =
     let high : v / 256 ≡ w / 256 = middle v w (upper v w hv hw (cc) (cc)) (cc) in
     let low : v % 256 ≡ w % 256 = cc in
@@ -55,18 +55,18 @@ four-read v w hv hw e =
 
 -- the last nine bytes of a node
 abbrev sides : Datum → List ℕ → List ℕ
-sides d x = fourThen d.size.width (fourThen d.size.height (d.eaten ∷ x))
+sides d x = four_then d.size.width (four_then d.size.height (d.eaten ∷ x))
 
 -- what the bytes of a node say, and what follows them
-node-read : {l m : ℕ} (d e : Datum) {x y : List ℕ} → Written l d → Written m e → nodeBytes d x ≡ nodeBytes e y
+node-read : {l m : ℕ} (d e : Datum) {x y : List ℕ} → Written l d → Written m e → node_bytes d x ≡ node_bytes e y
     → (unmarked d ≡ unmarked e) × (x ≡ y)
-unfolding nodeBytes
+unfolding node_bytes
 node-read d e {x} {y} a b h =
-    let kinds : kindNo d.kind ≡ kindNo e.kind = cc in
+    let kinds : kind_no d.kind ≡ kind_no e.kind = cc in
     let kind : d.kind ≡ e.kind = sym (kind-back d.kind) ∙ ap kind_of kinds ∙ kind-back e.kind in
-    let cuts : cutNo d.cut ≡ cutNo e.cut = cc in
+    let cuts : cut_no d.cut ≡ cut_no e.cut = cc in
     let cut : d.cut ≡ e.cut = sym (cut-back d.cut) ∙ ap cut_of cuts ∙ cut-back e.cut in
-    let rest : twoThen d.number (sides d x) ≡ twoThen e.number (sides e y) = cc in
+    let rest : two_then d.number (sides d x) ≡ two_then e.number (sides e y) = cc in
     let number = two-read d.number e.number a.number b.number rest in
     let width = four-read d.size.width e.size.width a.small.width b.small.width number.1 in
     let height = four-read d.size.height e.size.height a.small.height b.small.height width.1 in
@@ -94,19 +94,19 @@ stops-up l (b ∷ s) h = omega arith
 
 -- after the children of a piece come its later siblings or what follows those
 stops-row : (l : ℕ) (r : Tree) (s : List ℕ) → Readable l r → Stops l s → Stops (l + 1) (snapshot r ++ s)
-unfolding snapshot nodeBytes
+unfolding snapshot node_bytes
 stops-row l nil s f h = stops-up l s h
 stops-row l (grow p d k r) s f h = omega (arith, f.0.level)
 
 -- where a row stops, no row at its level begins
 no_row : (l p : ℕ) (d : Datum) (k r : Tree) (s t : List ℕ) → Written l d → Stops l s → s ≡ snapshot (grow p d k r) ++ t → ⊥
-unfolding snapshot nodeBytes
+unfolding snapshot node_bytes
 no_row l p d k r s t w h e = let z : d.level < l = subst (Stops l) e h in omega (arith, w.level)
 
 -- a piece, its children, and then its later siblings and what follows them
-piece_bytes : (p : ℕ) (d : Datum) (k r : Tree) (s : List ℕ) → snapshot (grow p d k r) ++ s ≡ nodeBytes d (snapshot k ++ (snapshot r ++ s))
-unfolding snapshot nodeBytes
-piece_bytes p d k r s = ap (λ (x : List ℕ). nodeBytes d x) (append_assoc (snapshot k) (snapshot r) s)
+piece_bytes : (p : ℕ) (d : Datum) (k r : Tree) (s : List ℕ) → snapshot (grow p d k r) ++ s ≡ node_bytes d (snapshot k ++ (snapshot r ++ s))
+unfolding snapshot node_bytes
+piece_bytes p d k r s = ap (λ (x : List ℕ). node_bytes d x) (append_assoc (snapshot k) (snapshot r) s)
 
 -- a row and what follows it
 row_read : (l : ℕ) (a b : Tree) (s t : List ℕ) → Readable l a → Readable l b → Stops l s → Stops l t
@@ -139,20 +139,20 @@ small-laid Horizontal s h = h
 small-laid Vertical s h = record { width = h.height; height = h.width }
 
 -- only a part has a number
-number_small : (κ : Kind) (d : Datum) (k r : Tree) → Kinded κ d k r → d.number ≤ maxNumber
+number_small : (κ : Kind) (d : Datum) (k r : Tree) → Kinded κ d k r → d.number ≤ max_number
 number_small Free d k r f = omega (arith, f.unnumbered)
 number_small Part d k r f = f.numbered
 number_small Structure d k r f = omega (arith, f.unnumbered)
 
 -- the children of a piece with small sides are not wider than it
-extent-small : (κ : Kind) (d : Datum) (k r : Tree) → Kinded κ d k r → Small d.size → extent (other d.cut) k ≤ maxSide
+extent-small : (κ : Kind) (d : Datum) (k r : Tree) → Kinded κ d k r → Small d.size → extent (other d.cut) k ≤ max_side
 extent-small Free d k r f s = rw f.childless (omega arith)
 extent-small Part d k r f s = rw f.childless (omega arith)
 extent-small Structure d k r f s = rw f.filled (laid-small (other d.cut) d.size s).width
 
 -- a row of children as wide as a small side, of a small parent
-row-readable : (settings : Settings) → settings.blade ≤ maxBlade → (q : Datum) (r : Tree) → Children settings q r → Small q.size
-    → extent (other q.cut) r ≤ maxSide → Readable (q.level + 1) r
+row-readable : (settings : Settings) → settings.blade ≤ max_blade → (q : Datum) (r : Tree) → Children settings q r → Small q.size
+    → extent (other q.cut) r ≤ max_side → Readable (q.level + 1) r
 row-readable settings most q nil h s b = tt
 row-readable settings most q (grow p d k r) h s b =
     let c = other q.cut in

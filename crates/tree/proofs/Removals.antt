@@ -13,11 +13,11 @@ use Rattle.piece.specs.declared.settings.Settings.{Settings}
 use Rattle.piece.specs.Sides.{other, sized, laid}
 use Rattle.piece.specs.Row.{nil, grow}
 use Rattle.piece.proofs.Sizes.{laid-twice}
-use Rattle.tree.specs.Tree.{Tree, At, Distinct, isNil, after}
+use Rattle.tree.specs.Tree.{Tree, At, Distinct, is_nil, after}
 use Rattle.tree.specs.Sound.{reach, Child, Children, Sound}
-use Rattle.piece.specs.Kinds.{isFree}
+use Rattle.piece.specs.Kinds.{is_free}
 use Rattle.tree.specs.Snapshot.{shape, unmarked}
-use Rattle.tree.specs.Removal.{freed, spare, board, lastFree, withoutLast, settled, remove}
+use Rattle.tree.specs.Removal.{freed, spare, board, last_free, without_last, settled, remove}
 use Rattle.tree.specs.Apart.{Removable}
 use Rattle.tree.proofs.Rows.{same?}
 use Rattle.tree.proofs.Shapes.{shape-after}
@@ -27,36 +27,36 @@ use Rattle.tree.proofs.Bookings.{at-unique}
 
 -- What stands at the end of a row.
 
-longer : (a : Tree) (n : ℕ) (d : Datum) → isNil (after a (grow n d nil nil)) ≡ false
+longer : (a : Tree) (n : ℕ) (d : Datum) → is_nil (after a (grow n d nil nil)) ≡ false
 longer nil n d = refl
 longer (grow p e k r) n d = refl
 
 -- a free piece there is found, and the row without it is what was before it
-last-free : (a : Tree) (n s : ℕ) (d : Datum) (z : Size) → lastFree (after a (grow n (freed s d z) nil nil)) ≡ some (freed s d z)
+last-free : (a : Tree) (n s : ℕ) (d : Datum) (z : Size) → last_free (after a (grow n (freed s d z) nil nil)) ≡ some (freed s d z)
 last-free nil n s d z = refl
-last-free (grow p e k r) n s d z = rw (longer r n (freed s d z), and-false (isFree e.kind)) (last-free r n s d z)
+last-free (grow p e k r) n s d z = rw (longer r n (freed s d z), and-false (is_free e.kind)) (last-free r n s d z)
 
-without-last : (a : Tree) (n s : ℕ) (d : Datum) (z : Size) → withoutLast (after a (grow n (freed s d z) nil nil)) ≡ a
+without-last : (a : Tree) (n s : ℕ) (d : Datum) (z : Size) → without_last (after a (grow n (freed s d z) nil nil)) ≡ a
 without-last nil n s d z = refl
-without-last (grow p e k r) n s d z = rw (longer r n (freed s d z), and-false (isFree e.kind), without-last r n s d z)
+without-last (grow p e k r) n s d z = rw (longer r n (freed s d z), and-false (is_free e.kind), without-last r n s d z)
 
 -- pieces that are not free stay before the board that settles
-pub settled-past : (n s : ℕ) (d : Datum) (z : ℕ) (e : Datum) (k r : Tree) → isFree e.kind ≡ false
+pub settled-past : (n s : ℕ) (d : Datum) (z : ℕ) (e : Datum) (k r : Tree) → is_free e.kind ≡ false
     → settled n s d (grow z e k r) ≡ grow z e k (settled n s d r)
 unfolding settled
 settled-past n s d z e k r h = rw h
 
 -- the free piece joins it
-pub settled-join : (n s : ℕ) (d : Datum) (z : ℕ) (e : Datum) → isFree e.kind ≡ true
+pub settled-join : (n s : ℕ) (d : Datum) (z : ℕ) (e : Datum) → is_free e.kind ≡ true
     → settled n s d (grow z e nil nil) ≡ grow n (freed s d (board d (some e))) nil nil
 unfolding settled
 settled-join n s d z e h = rw h
 
 -- a row after one of its pieces went, but for the marks
 pub shape-settled : (n s : ℕ) (d : Datum) (r : Tree)
-    → shape (settled n s d r) ≡ after (shape (withoutLast r)) (grow 0 (unmarked (freed 0 d (board d (lastFree r)))) nil nil)
+    → shape (settled n s d r) ≡ after (shape (without_last r)) (grow 0 (unmarked (freed 0 d (board d (last_free r)))) nil nil)
 unfolding settled
-shape-settled n s d r = shape-after (withoutLast r) (grow n (freed s d (board d (lastFree r))) nil nil)
+shape-settled n s d r = shape-after (without_last r) (grow n (freed s d (board d (last_free r))) nil nil)
 
 -- the new piece's marks do not count
 pub settled-alike : (n s n' s' : ℕ) (d : Datum) (r : Tree) → shape (settled n s d r) ≡ shape (settled n' s' d r)
@@ -79,11 +79,11 @@ board-swap c d e s u o p q h = rw (p, q, h) (joined-swap c (reach c e) (reach c 
 -- two pieces of a row go, one after the other: their boards and the row's free piece are one piece at the end
 settled-twice : (n s m s' : ℕ) (d e : Datum) (r : Tree)
     → shape (settled m s' e (settled n s d r))
-    ≡ after (shape (withoutLast r)) (grow 0 (unmarked (freed 0 e (board e (some (freed s d (board d (lastFree r))))))) nil nil)
+    ≡ after (shape (without_last r)) (grow 0 (unmarked (freed 0 e (board e (some (freed s d (board d (last_free r))))))) nil nil)
 unfolding settled
 settled-twice n s m s' d e r =
-    let z = board d (lastFree r) in
-    shape-settled m s' e (settled n s d r) ∙ rw (without-last (withoutLast r) n s d z, last-free (withoutLast r) n s d z)
+    let z = board d (last_free r) in
+    shape-settled m s' e (settled n s d r) ∙ rw (without-last (without_last r) n s d z, last-free (without_last r) n s d z)
 
 -- the children of q are at one level, have one cut and lie side by side, so that it is one piece whichever went first
 pub twice : (settings : Settings) (n s m s' n' u m' u' : ℕ) (q d e : Datum) (r : Tree) → Child settings q d → Child settings q e
@@ -91,16 +91,16 @@ pub twice : (settings : Settings) (n s m s' n' u m' u' : ℕ) (q d e : Datum) (r
 twice settings n s m s' n' u m' u' q d e r a b =
     let c = other q.cut in
     let h : (laid c d.size).height ≡ (laid c e.size).height = cc in
-    cc (settled-twice n s m s' d e r, settled-twice m' u' n' u e d r, board-swap c d e s u' (lastFree r) a.cut b.cut h)
+    cc (settled-twice n s m s' d e r, settled-twice m' u' n' u e d r, board-swap c d e s u' (last_free r) a.cut b.cut h)
 
 -- Two removals.
 
 -- the piece at x, wherever it stands, is not free
 abbrev Solid : ℕ → Tree → Type 0
-Solid x t = (e : Datum) → At x e t → isFree e.kind ≡ false
+Solid x t = (e : Datum) → At x e t → is_free e.kind ≡ false
 
 solid : (x : ℕ) (t : Tree) → Distinct t → Removable x t → Solid x t
-solid x t w a e g = subst (λ (d : Datum). isFree d.kind ≡ false) (sym (at-unique x a.piece e t w a.there g)) a.solid
+solid x t w a e g = subst (λ (d : Datum). is_free d.kind ≡ false) (sym (at-unique x a.piece e t w a.there g)) a.solid
 
 -- the piece d went, and y goes from among its later siblings, or y went first
 module _ (settings : Settings) (y n s m s' n' u m' u' : ℕ) (q d : Datum) where
@@ -110,9 +110,9 @@ module _ (settings : Settings) (y n s m s' n' u m' u' : ℕ) (q d : Datum) where
   behind : (y ≡ n → ⊥) → Child settings q d → (r : Tree) → Children settings q r → Solid y r → Behind r
   unfolding settled
   behind yn a nil w o = rw (ne_eqb n y (λ e. yn (sym e)))
-  behind yn a (grow z e k r) w o = go (isFree e.kind) refl (same? z y) (behind yn a r w.beside (λ f g. o f (inr (inr g))))
+  behind yn a (grow z e k r) w o = go (is_free e.kind) refl (same? z y) (behind yn a r w.beside (λ f g. o f (inr (inr g))))
     where
-      go : (b : Bool) → isFree e.kind ≡ b → (z ≡ y) ⊎ (z ≡ y → ⊥) → Behind r → Behind (grow z e k r)
+      go : (b : Bool) → is_free e.kind ≡ b → (z ≡ y) ⊎ (z ≡ y → ⊥) → Behind r → Behind (grow z e k r)
       go true f (inl g) ih = absurd (false≢true (sym (o e (inl (sym g, refl))) ∙ f))
       go true f (inr l) ih =
           let p = free-kind e.kind e k r f w.kinded in

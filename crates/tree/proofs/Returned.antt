@@ -15,8 +15,8 @@ use Rattle.piece.specs.declared.insertion_blueprint.InsertionShape.TheVariants.{
 use Rattle.piece.specs.declared.settings.Settings.{Settings}
 use Rattle.piece.specs.Sides.{other}
 use Rattle.piece.specs.Row.{Row, nil, grow}
-use Rattle.piece.specs.Kinds.{isFree, isPart}
-use Rattle.piece.specs.Insertion.{Made, laidAll, block_of, table, newNodes}
+use Rattle.piece.specs.Kinds.{is_free, is_part}
+use Rattle.piece.specs.Insertion.{Made, laid_all, block_of, table, new_nodes}
 use Rattle.tree.specs.Tree.{Tree, In, At}
 use Rattle.tree.specs.Sound.{FreePiece, Kinded, Children, Topped, Sound}
 use Rattle.tree.specs.Snapshot.{shape}
@@ -24,7 +24,7 @@ use Rattle.tree.specs.Booking.{Booking, planted, block, book}
 use Rattle.tree.specs.Removal.{settled, remove, cleared}
 use Rattle.tree.specs.Apart.{Removable}
 use Rattle.tree.specs.Accepted.{Fitting, Fresh}
-use Rattle.tree.specs.Tidy.{Tidy, Takings, partless, is_empty, tidyRow, tidied}
+use Rattle.tree.specs.Tidy.{Tidy, Takings, partless, is_empty, tidy_row, tidied}
 use Rattle.tree.proofs.Rows.{same?, in-eq, at_in, after-nil}
 use Rattle.tree.proofs.Pieces.{free-piece}
 use Rattle.tree.proofs.Bookings.{Takes, back-here, at-unique}
@@ -38,26 +38,26 @@ use Rattle.tree.proofs.Tidied.{not-structure}
 use Rattle.tree.proofs.Takings.{done, reached}
 
 -- The block of each shape: the part's place in the order of creation.
-abbrev pub partNo : InsertionShape → ℕ
-partNo AlongCurrentCut = 0
-partNo AcrossCurrentCut = 1
-partNo AlongThenAcross = 1
-partNo AcrossThenAlong = 2
+abbrev pub part_no : InsertionShape → ℕ
+part_no AlongCurrentCut = 0
+part_no AcrossCurrentCut = 1
+part_no AlongThenAcross = 1
+part_no AcrossThenAlong = 2
 
 -- it is the only part there: a part of the row has this number
 abbrev Parts : ℕ → Row Made → Type 0
 Parts j nil = Unit {0}
-Parts j (grow i m k r) = (isPart m.kind ≡ true → i ≡ j) × Parts j k × Parts j r
+Parts j (grow i m k r) = (is_part m.kind ≡ true → i ≡ j) × Parts j k × Parts j r
 
 planted-part : (b : Booking) (l : ℕ) (c : Orientation) (j : ℕ) (w : Row Made) (y : ℕ) (e : Datum) → Parts j w → At y e (planted b l c w) → e.kind ≡ Part
     → y ≡ b.place j
 planted-part b l c j nil y e f h g = absurd h
 planted-part b l c j (grow i m k r) y e f (inl z) g =
-    z.0 ∙ ap b.place (f.0 (ap (λ (o : Datum). isPart o.kind) (sym z.1) ∙ ap isPart g))
+    z.0 ∙ ap b.place (f.0 (ap (λ (o : Datum). is_part o.kind) (sym z.1) ∙ ap is_part g))
 planted-part b l c j (grow i m k r) y e f (inr (inl z)) g = planted-part b (l + 1) (other c) j k y e f.1 z g
 planted-part b l c j (grow i m k r) y e f (inr (inr z)) g = planted-part b l c j r y e f.2 z g
 
-table-parts : (i : InsertionShape) (v : ℕ) (c : Orientation) (piece part : Size) → Parts (partNo i) (block_of i v c piece part)
+table-parts : (i : InsertionShape) (v : ℕ) (c : Orientation) (piece part : Size) → Parts (part_no i) (block_of i v c piece part)
 unfolding block_of table
 table-parts AlongCurrentCut v c piece part = ((λ z. refl), tt, ((λ z. absurd (false≢true z)), tt, tt))
 table-parts AcrossCurrentCut v c piece part = ((λ z. absurd (false≢true z)), ((λ z. refl), tt, ((λ z. absurd (false≢true z)), tt, tt)), tt)
@@ -73,21 +73,21 @@ table-parts AcrossThenAlong v c piece part = (
   tt,
 )
 
-pub block-part : (b : Booking) (d : Datum) (y : ℕ) (e : Datum) → At y e (block b d) → e.kind ≡ Part → y ≡ b.place (partNo b.shape)
+pub block-part : (b : Booking) (d : Datum) (y : ℕ) (e : Datum) → At y e (block b d) → e.kind ≡ Part → y ≡ b.place (part_no b.shape)
 unfolding block
 block-part b d y e =
     let w = block_of b.shape b.blade d.cut d.size b.size in
-    planted-part b d.level d.cut (partNo b.shape) w y e (table-parts b.shape b.blade d.cut d.size b.size)
+    planted-part b d.level d.cut (part_no b.shape) w y e (table-parts b.shape b.blade d.cut d.size b.size)
 
 -- no two of a block's nodes get one place
 abbrev Separate : Booking → InsertionShape → Type 0
-Separate b i = (j m : ℕ) → j < m → m < newNodes i → b.place j ≡ b.place m → ⊥
+Separate b i = (j m : ℕ) → j < m → m < new_nodes i → b.place j ≡ b.place m → ⊥
 
 -- once its part went, its first piece has no part inside, and goes too: the row is the one in which that piece went alone
 table-returns : (i : InsertionShape) (b : Booking) → Separate b i → (n s v l : ℕ) (c : Orientation) (W H w h : ℕ)
-    → (shape (tidyRow (remove (b.place (partNo i)) n s (planted b l c (laidAll c (table i v W H w h)))))
-    ≡ shape (remove (b.place 0) n s (planted b l c (laidAll c (table i v W H w h)))))
-    × (partless (remove (b.place (partNo i)) n s (planted b l c (laidAll c (table i v W H w h)))) ≡ true)
+    → (shape (tidy_row (remove (b.place (part_no i)) n s (planted b l c (laid_all c (table i v W H w h)))))
+    ≡ shape (remove (b.place 0) n s (planted b l c (laid_all c (table i v W H w h)))))
+    × (partless (remove (b.place (part_no i)) n s (planted b l c (laid_all c (table i v W H w h)))) ≡ true)
 unfolding table settled
 table-returns AlongCurrentCut b a n s v l c W H w h = rw (eq-eqb (b.place 0) (b.place 0) refl) (refl, refl)
 table-returns AcrossCurrentCut b a n s v l c W H w h =
@@ -111,23 +111,23 @@ table-returns AcrossThenAlong b a n s v l c W H w h =
     )
     (refl, refl)
 
-module _ (settings : Settings) (x y n s : ℕ) (b : Booking) (this : y ≡ b.place (partNo b.shape)) (apart : Separate b b.shape) where
+module _ (settings : Settings) (x y n s : ℕ) (b : Booking) (this : y ≡ b.place (part_no b.shape)) (apart : Separate b b.shape) where
   -- what is left of the block
   block-returns : (d : Datum)
-      → (shape (tidyRow (remove y n s (block b d))) ≡ shape (remove (b.place 0) n s (block b d))) × (partless (remove y n s (block b d)) ≡ true)
+      → (shape (tidy_row (remove y n s (block b d))) ≡ shape (remove (b.place 0) n s (block b d))) × (partless (remove y n s (block b d)) ≡ true)
   unfolding block block_of
   block-returns d = rw this (table-returns b.shape b apart n s b.blade d.level d.cut _ _ _ _)
 
   -- the tidy row is what it was, and so is what it says of parts
   abbrev Returns : Tree → Type 0
-  Returns r = (shape (tidyRow (remove y n s (book x b r))) ≡ shape (tidyRow r)) × (partless (remove y n s (book x b r)) ≡ partless r)
+  Returns r = (shape (tidy_row (remove y n s (book x b r))) ≡ shape (tidy_row r)) × (partless (remove y n s (book x b r)) ≡ partless r)
 
   returns-here : (p : ℕ) (d : Datum) (k r : Tree) → p ≡ x → Takes settings x n s b d → FreePiece d k r → d.eaten ≡ 0 → Returns (grow p d k r)
   returns-here p d k r e t f z =
       let o = block-returns d in
-      let g : isFree d.kind ≡ true = ap isFree t.0 in
+      let g : is_free d.kind ≡ true = ap is_free t.0 in
       let v = rw (eq-eqb p x e, after-nil (block b d)) at (back-here settings x n s b p d nil nil e t (free-piece refl refl f.unnumbered) z) in
-      rw (f.childless, f.last, eq-eqb p x e, after-nil (block b d), not-structure d.kind g) (o.0 ∙ v, o.1 ∙ rw (ap isPart t.0) refl)
+      rw (f.childless, f.last, eq-eqb p x e, after-nil (block b d), not-structure d.kind g) (o.0 ∙ v, o.1 ∙ rw (ap is_part t.0) refl)
 
   row-returns : (q : Datum) (r : Tree) → Children settings q r → ((e : Datum) → At x e r → Takes settings x n s b e) → (In y r → y ≡ x) → Returns r
   row-returns q nil w h o = (refl, refl)
@@ -145,7 +145,7 @@ module _ (settings : Settings) (x y n s : ℕ) (b : Booking) (this : y ≡ b.pla
           returns-here p d k r e t f (w.ends f.last)
       go (inr m) true g ik ir =
           rw (ne_eqb p x m, ne_eqb p y (py m), ik.1, ir.1, g)
-          (settled-shape 0 0 d (tidyRow (remove y n s (book x b r))) (tidyRow r) ir.0, refl)
+          (settled-shape 0 0 d (tidy_row (remove y n s (book x b r))) (tidy_row r) ir.0, refl)
       go (inr m) false g ik ir = rw (ne_eqb p x m, ne_eqb p y (py m), ik.1, ir.1, g, ik.0, ir.0) (refl, refl)
 
   -- the top is a structure, so the piece at x is below it

@@ -75,14 +75,14 @@ in-second i nil b h = h
 in-second i (grow p d k r) b h = inr (inr (in-second i r b h))
 
 pub distinct-one : {A : Type 0} (p : ℕ) (d : A) → Distinct (grow p d nil nil)
-distinct-one p d = record { notBelow = absurd; notBeside = absurd; apart = λ i h g. h; below = tt; beside = tt }
+distinct-one p d = record { not_below = absurd; not_beside = absurd; apart = λ i h g. h; below = tt; beside = tt }
 
 pub distinct-after : {A : Type 0} (a b : Row A) → Distinct a → Distinct b → ((i : ℕ) → In i a → In i b → ⊥)
     → Distinct (after a b)
 distinct-after nil b da db n = db
 distinct-after (grow p d k r) b da db n = record {
-  notBelow = da.notBelow;
-  notBeside = λ h. ⊎_elim da.notBeside (n p (inl refl)) (in_after p r b h);
+  not_below = da.not_below;
+  not_beside = λ h. ⊎_elim da.not_beside (n p (inl refl)) (in_after p r b h);
   apart = λ i h g. ⊎_elim (da.apart i h) (n i (inr (inl h))) (in_after i r b g);
   below = da.below;
   beside = distinct-after r b da.beside db (λ i h g. n i (inr (inr h)) g);

@@ -2,11 +2,11 @@
 use mathlib.Core.Path.{◌≡◌, refl, sym, ap, ◌∙◌}
 use Rattle.piece.specs.Row.{nil, grow}
 use Rattle.tree.specs.Tree.{Tree, after}
-use Rattle.tree.specs.Snapshot.{nodeBytes, snapshot, shape, unmarked, Same}
+use Rattle.tree.specs.Snapshot.{node_bytes, snapshot, shape, unmarked, Same}
 
 -- the snapshot shows nothing but the shape
 snapshot-shape : (t : Tree) → snapshot t ≡ snapshot (shape t)
-unfolding snapshot nodeBytes
+unfolding snapshot node_bytes
 snapshot-shape nil = refl
 snapshot-shape (grow p d k r) = rw (snapshot-shape k, snapshot-shape r)
 

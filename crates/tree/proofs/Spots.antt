@@ -8,29 +8,29 @@ use Prim.Native.Nat.{ℕ, ◌+◌}
 use Rattle.piece.specs.declared.node.Datum.{Datum}
 use Rattle.piece.specs.declared.settings.Settings.{Settings}
 use Rattle.piece.specs.Row.{nil, grow}
-use Rattle.piece.specs.Kinds.{isFree}
+use Rattle.piece.specs.Kinds.{is_free}
 use Rattle.lists.proofs.Scan.{clash, and_left, and_right}
-use Rattle.tree.specs.Tree.{Tree, after, isNil}
+use Rattle.tree.specs.Tree.{Tree, after, is_nil}
 use Rattle.tree.specs.Sound.{Children, Topped}
 use Rattle.tree.specs.Steps.{Rooted, Kids, Deep}
 use Rattle.tree.proofs.Kept.{Where, free-kind}
 use Rattle.tree.proofs.Kids.{Spot}
 
 -- the place of the free piece at the end of a row, if there is one
-abbrev pub freeEnd : Tree → List ℕ
-freeEnd nil = []
-freeEnd (grow p d k r) = cond (isFree d.kind && isNil r) (p ∷ []) (freeEnd r)
+abbrev pub free_end : Tree → List ℕ
+free_end nil = []
+free_end (grow p d k r) = cond (is_free d.kind && is_nil r) (p ∷ []) (free_end r)
 
 -- no free piece of the row has children
 abbrev pub FreeLeaves : Tree → Type 0
 FreeLeaves nil = Unit {0}
-FreeLeaves (grow p d k r) = (isFree d.kind ≡ true → k ≡ nil) × FreeLeaves r
+FreeLeaves (grow p d k r) = (is_free d.kind ≡ true → k ≡ nil) × FreeLeaves r
 
 -- the free piece at the end of a row is alone there
-pub end-alone : (p : ℕ) (d : Datum) (k r : Tree) → FreeLeaves (grow p d k r) → (isFree d.kind && isNil r) ≡ true → (k ≡ nil) × (r ≡ nil)
-end-alone p d k r f e = (f.0 (and_left (isFree d.kind) (isNil r) e), none r (and_right (isFree d.kind) (isNil r) e))
+pub end-alone : (p : ℕ) (d : Datum) (k r : Tree) → FreeLeaves (grow p d k r) → (is_free d.kind && is_nil r) ≡ true → (k ≡ nil) × (r ≡ nil)
+end-alone p d k r f e = (f.0 (and_left (is_free d.kind) (is_nil r) e), none r (and_right (is_free d.kind) (is_nil r) e))
   where
-    none : (u : Tree) → isNil u ≡ true → u ≡ nil
+    none : (u : Tree) → is_nil u ≡ true → u ≡ nil
     none nil z = refl
     none (grow i c l v) z = absurd (clash z)
 

@@ -9,11 +9,11 @@ use borrow.Author.Tests.{eq-eqb, ne_eqb}
 use Rattle.piece.specs.declared.node.Datum.{Datum}
 use Rattle.piece.specs.declared.settings.Settings.{Settings}
 use Rattle.piece.specs.Row.{nil, grow}
-use Rattle.tree.specs.Tree.{Tree, At, Inside, after, isNil, change, rest}
-use Rattle.piece.specs.Kinds.{isFree}
+use Rattle.tree.specs.Tree.{Tree, At, Inside, after, is_nil, change, rest}
+use Rattle.piece.specs.Kinds.{is_free}
 use Rattle.tree.specs.Sound.{Children, Topped}
-use Rattle.tree.specs.Booking.{Booking, block, bookedRow, book}
-use Rattle.tree.specs.Removal.{withoutLast, settled, remove, left, cleared}
+use Rattle.tree.specs.Booking.{Booking, block, booked_row, book}
+use Rattle.tree.specs.Removal.{without_last, settled, remove, left, cleared}
 use Rattle.tree.specs.Steps.{less}
 use Rattle.tree.proofs.Rows.{same?, at_in}
 use Rattle.tree.proofs.Kept.{Where, Alone, free-kind}
@@ -57,11 +57,11 @@ at_less x g i e less (grow y d k r) h = go (eqb y x) h (at_less x g i e less k) 
 pub less-at : (i : ℕ) (e : Datum) (x : ℕ) (w : Tree) → At i e (less x w) → At i e w
 less-at i e x w h = at_less x rest i e (λ d r z. z) w h
 
-without_at : (i : ℕ) (e : Datum) (r : Tree) → At i e (withoutLast r) → At i e r
+without_at : (i : ℕ) (e : Datum) (r : Tree) → At i e (without_last r) → At i e r
 without_at i e nil h = h
-without_at i e (grow p d k r) h = go (isFree d.kind && isNil r) h (without_at i e r)
+without_at i e (grow p d k r) h = go (is_free d.kind && is_nil r) h (without_at i e r)
   where
-    go : (c : Bool) → At i e (cond c nil (grow p d k (withoutLast r))) → (At i e (withoutLast r) → At i e r) → At i e (grow p d k r)
+    go : (c : Bool) → At i e (cond c nil (grow p d k (without_last r))) → (At i e (without_last r) → At i e r) → At i e (grow p d k r)
     go true h hr = absurd h
     go false (inl z) hr = inl z
     go false (inr (inl z)) hr = inr (inl z)
@@ -90,19 +90,19 @@ at_others x f P i e bare more n (grow y d k r) w h =
 pub at-book : (x : ℕ) (d : Datum) (b : Booking) (i : ℕ) (e : Datum) (t : Tree) → Where x (Alone d) t
     → (i ≡ x → ⊥) → At i e t → At i e (book x b t)
 at-book x d b i e t w n h =
-    at_others x (bookedRow b) (Alone d) i e (λ c k r z. z.1) (λ c r. at_second i e (block b c) r) n t w h
+    at_others x (booked_row b) (Alone d) i e (λ c k r z. z.1) (λ c r. at_second i e (block b c) r) n t w h
 
 pub at-remove : (x n s i : ℕ) (e : Datum) (t : Tree) → At i e (cleared x t) → At i e (remove x n s t)
 unfolding settled
-at-remove x n s i e t h = at_more x left (settled n s) i e (λ d r. at_first i e (withoutLast r) _) t h
+at-remove x n s i e t h = at_more x left (settled n s) i e (λ d r. at_first i e (without_last r) _) t h
 
 -- what is no free piece, is not at x and is not below x, is left
-at_left : (settings : Settings) (q : Datum) (i : ℕ) (e : Datum) (r : Tree) → Children settings q r → isFree e.kind ≡ false → At i e r
-    → At i e (withoutLast r)
+at_left : (settings : Settings) (q : Datum) (i : ℕ) (e : Datum) (r : Tree) → Children settings q r → is_free e.kind ≡ false → At i e r
+    → At i e (without_last r)
 at_left settings q i e nil h f g = g
-at_left settings q i e (grow p d k r) h f g = go (isFree d.kind) refl g (at_left settings q i e r h.beside f)
+at_left settings q i e (grow p d k r) h f g = go (is_free d.kind) refl g (at_left settings q i e r h.beside f)
   where
-    go : (b : Bool) → isFree d.kind ≡ b → At i e (grow p d k r) → (At i e r → At i e (withoutLast r)) → At i e (withoutLast (grow p d k r))
+    go : (b : Bool) → is_free d.kind ≡ b → At i e (grow p d k r) → (At i e r → At i e (without_last r)) → At i e (without_last (grow p d k r))
     go true z (inl o) a = let same : e ≡ d = o.1 in let no : ◌≡◌ {A = ℕ} 0 1 = cc in absurd (omega arith)
     go true z (inr (inl o)) a = absurd (rw (free-kind d.kind d k r z h.kinded).childless at o)
     go true z (inr (inr o)) a = absurd (rw (free-kind d.kind d k r z h.kinded).last at o)
@@ -110,7 +110,7 @@ at_left settings q i e (grow p d k r) h f g = go (isFree d.kind) refl g (at_left
     go false z (inr (inl o)) a = rw z (inr (inl o))
     go false z (inr (inr o)) a = rw z (inr (inr (a o)))
 
-at_row : (settings : Settings) (x : ℕ) (q : Datum) (i : ℕ) (e : Datum) → isFree e.kind ≡ false → (i ≡ x → ⊥) → (t : Tree) → Children settings q t
+at_row : (settings : Settings) (x : ℕ) (q : Datum) (i : ℕ) (e : Datum) → is_free e.kind ≡ false → (i ≡ x → ⊥) → (t : Tree) → Children settings q t
     → (Inside x i t → ⊥) → At i e t → At i e (cleared x t)
 at_row settings x q i e f n nil h m g = g
 at_row settings x q i e f n (grow y d k r) h m g =
@@ -125,7 +125,7 @@ at_row settings x q i e f n (grow y d k r) h m g =
     go (inr z) (inr (inl o)) a b = rw (ne_eqb y x z) (inr (inl (a o)))
     go (inr z) (inr (inr o)) a b = rw (ne_eqb y x z) (inr (inr (b o)))
 
-pub at-cleared : (settings : Settings) (x i : ℕ) (e : Datum) (t : Tree) → Topped settings t → (x ≡ 0 → ⊥) → isFree e.kind ≡ false
+pub at-cleared : (settings : Settings) (x i : ℕ) (e : Datum) (t : Tree) → Topped settings t → (x ≡ 0 → ⊥) → is_free e.kind ≡ false
     → (i ≡ x → ⊥) → (Inside x i t → ⊥) → At i e t → At i e (cleared x t)
 at-cleared settings x i e nil h b f n m g = g
 at-cleared settings x i e (grow p d k r) h b f n m g = rw (ne_eqb p x (λ z. b (sym z ∙ h.0.place))) (go g)

@@ -36,7 +36,7 @@ module _ (settings : Settings) where
           piece = f.piece;
           there = inr (inl f.there);
           structure = f.structure;
-          below = λ e. u.notBelow (in-eq k (e ∙ sym h.0.place) (at_in f.at f.piece k f.there));
+          below = λ e. u.not_below (in-eq k (e ∙ sym h.0.place) (at_in f.at f.piece k f.there));
           place = f.place;
           child = f.child;
           only = inr (inl f.only);

@@ -11,12 +11,12 @@ use Rattle.piece.specs.declared.node.Kind.{Kind}
 use Rattle.piece.specs.declared.node.Kind.TheVariants.{Free, Part, Structure}
 use Rattle.piece.specs.declared.settings.Settings.{Settings}
 use Rattle.piece.specs.Row.{nil, grow}
-use Rattle.piece.specs.Kinds.{isFree, isPart, isStructure}
+use Rattle.piece.specs.Kinds.{is_free, is_part, is_structure}
 use Rattle.tree.specs.Tree.{Tree, In, At, Distinct, after}
 use Rattle.tree.specs.Sound.{StructurePiece, Kinded, Children, Topped}
 use Rattle.tree.specs.Steps.{Kids}
 use Rattle.tree.specs.Removal.{settled, remove, subtree, numbers}
-use Rattle.tree.specs.Tidy.{Untidy, partless, is_empty, emptyIn, empties, tidyRow}
+use Rattle.tree.specs.Tidy.{Untidy, partless, is_empty, empty_in, empties, tidy_row}
 use Rattle.tree.proofs.Rows.{same?, in-eq}
 use Rattle.tree.proofs.Changes.{absent}
 use Rattle.tree.proofs.Kept.{Where, where-absent, This, only, free-kind}
@@ -28,7 +28,7 @@ abbrev pub Hollow : Datum → Tree → Tree → Type 0
 Hollow d k r = (d.kind ≡ Structure) × (partless k ≡ true)
 
 abbrev pub Bare : Datum → Tree → Tree → Type 0
-Bare d k r = (d.kind ≡ Structure) × (partless k ≡ true) × (emptyIn k ≡ 0)
+Bare d k r = (d.kind ≡ Structure) × (partless k ≡ true) × (empty_in k ≡ 0)
 
 -- What is known of the piece at a place, wherever it stands.
 
@@ -36,13 +36,13 @@ Bare d k r = (d.kind ≡ Structure) × (partless k ≡ true) × (emptyIn k ≡ 0
 only-kids : (x : ℕ) (m t : Tree) → Distinct t → Kids x m t → Where x (λ d k r. k ≡ m) t
 only-kids x m nil u h = tt
 only-kids x m (grow y e k r) u (inl h) =
-    ((λ z. sym h.1), where-absent x _ k (λ i. u.notBelow (in-eq k h.0 i)), where-absent x _ r (λ i. u.notBeside (in-eq r h.0 i)))
+    ((λ z. sym h.1), where-absent x _ k (λ i. u.not_below (in-eq k h.0 i)), where-absent x _ r (λ i. u.not_beside (in-eq r h.0 i)))
 only-kids x m (grow y e k r) u (inr (inl h)) =
     let i = kids-in x m k h in
-    ((λ z. absurd (u.notBelow (in-eq k (sym z) i))), only-kids x m k u.below h, where-absent x _ r (u.apart x i))
+    ((λ z. absurd (u.not_below (in-eq k (sym z) i))), only-kids x m k u.below h, where-absent x _ r (u.apart x i))
 only-kids x m (grow y e k r) u (inr (inr h)) =
     let i = kids-in x m r h in
-    ((λ z. absurd (u.notBeside (in-eq r (sym z) i))), where-absent x _ k (λ j. u.apart x j i), only-kids x m r u.beside h)
+    ((λ z. absurd (u.not_beside (in-eq r (sym z) i))), where-absent x _ k (λ j. u.apart x j i), only-kids x m r u.beside h)
 
 where-both : (x : ℕ) (P Q R : Datum → Tree → Tree → Type 0) → ((d : Datum) (k r : Tree) → P d k r → Q d k r → R d k r) → (t : Tree)
     → Where x P t → Where x Q t → Where x R t
@@ -60,12 +60,12 @@ untidy-bare x t u a =
 
 -- No part.
 
-pub free-is : (a : Kind) → isFree a ≡ true → a ≡ Free
+pub free-is : (a : Kind) → is_free a ≡ true → a ≡ Free
 free-is Free e = refl
 free-is Part e = absurd (false≢true e)
 free-is Structure e = absurd (false≢true e)
 
-pub structure-is : (a : Kind) → isStructure a ≡ true → a ≡ Structure
+pub structure-is : (a : Kind) → is_structure a ≡ true → a ≡ Structure
 structure-is Free e = absurd (false≢true e)
 structure-is Part e = absurd (false≢true e)
 structure-is Structure e = refl
@@ -73,14 +73,14 @@ structure-is Structure e = refl
 partless-after : (a b : Tree) → partless (after a b) ≡ partless a && partless b
 partless-after nil b = refl
 partless-after (grow p d k r) b =
-    rw (partless-after r b, and_assoc (not (isPart d.kind)) (partless k && partless r) (partless b), and_assoc (partless k) (partless r) (partless b)) refl
+    rw (partless-after r b, and_assoc (not (is_part d.kind)) (partless k && partless r) (partless b), and_assoc (partless k) (partless r) (partless b)) refl
 
 -- so no number comes out
 partless-numbers : (t : Tree) → partless t ≡ true → numbers t ≡ []
 partless-numbers nil h = refl
-partless-numbers (grow p d k r) h = go (isPart d.kind) refl (partless-numbers k) (partless-numbers r)
+partless-numbers (grow p d k r) h = go (is_part d.kind) refl (partless-numbers k) (partless-numbers r)
   where
-    go : (b : Bool) → isPart d.kind ≡ b → (partless k ≡ true → numbers k ≡ []) → (partless r ≡ true → numbers r ≡ [])
+    go : (b : Bool) → is_part d.kind ≡ b → (partless k ≡ true → numbers k ≡ []) → (partless r ≡ true → numbers r ≡ [])
         → numbers (grow p d k r) ≡ []
     go true e ik ir = absurd (false≢true (rw e at h))
     go false e ik ir =
@@ -104,20 +104,20 @@ module _ (settings : Settings) (n s : ℕ) where
   settled-partless : (q d : Datum) (r : Tree) → Children settings q r → partless (settled n s d r) ≡ partless r
   unfolding settled
   settled-partless q d nil w = refl
-  settled-partless q d (grow z e l r) w = go (isFree e.kind) refl (settled-partless q d r w.beside)
+  settled-partless q d (grow z e l r) w = go (is_free e.kind) refl (settled-partless q d r w.beside)
     where
-      go : (b : Bool) → isFree e.kind ≡ b → partless (settled n s d r) ≡ partless r → partless (settled n s d (grow z e l r)) ≡ partless (grow z e l r)
+      go : (b : Bool) → is_free e.kind ≡ b → partless (settled n s d r) ≡ partless r → partless (settled n s d (grow z e l r)) ≡ partless (grow z e l r)
       go true f ih =
           let p = free-kind e.kind e l r f w.kinded in
           rw (p.childless, p.last, settled-join n s d z e f, free-is e.kind f) refl
       go false f ih = rw (settled-past n s d z e l r f, ih) refl
 
-  settled-empty : (q d : Datum) (r : Tree) → Children settings q r → emptyIn (settled n s d r) ≡ emptyIn r
+  settled-empty : (q d : Datum) (r : Tree) → Children settings q r → empty_in (settled n s d r) ≡ empty_in r
   unfolding settled
   settled-empty q d nil w = refl
-  settled-empty q d (grow z e l r) w = go (isFree e.kind) refl (settled-empty q d r w.beside)
+  settled-empty q d (grow z e l r) w = go (is_free e.kind) refl (settled-empty q d r w.beside)
     where
-      go : (b : Bool) → isFree e.kind ≡ b → emptyIn (settled n s d r) ≡ emptyIn r → emptyIn (settled n s d (grow z e l r)) ≡ emptyIn (grow z e l r)
+      go : (b : Bool) → is_free e.kind ≡ b → empty_in (settled n s d r) ≡ empty_in r → empty_in (settled n s d (grow z e l r)) ≡ empty_in (grow z e l r)
       go true f ih =
           let p = free-kind e.kind e l r f w.kinded in
           rw (p.childless, p.last, settled-join n s d z e f, free-is e.kind f) refl
@@ -134,13 +134,13 @@ module _ (settings : Settings) (n s : ℕ) where
         go (inr m) ik ir = rw (ne_eqb p x m, ik, ir) refl
 
     -- one less of them
-    row_count : (q : Datum) (r : Tree) → Children settings q r → Distinct r → In x r → Where x Bare r → 1 + emptyIn (remove x n s r) ≡ emptyIn r
+    row_count : (q : Datum) (r : Tree) → Children settings q r → Distinct r → In x r → Where x Bare r → 1 + empty_in (remove x n s r) ≡ empty_in r
     row_count q nil w u i h = absurd i
     row_count q (grow p d k r) w u i h =
         go (same? p x) i (λ j. row_count d k w.below u.below j h.1) (λ j. row_count q r w.beside u.beside j h.2)
       where
-        go : (p ≡ x) ⊎ (p ≡ x → ⊥) → In x (grow p d k r) → (In x k → 1 + emptyIn (remove x n s k) ≡ emptyIn k)
-            → (In x r → 1 + emptyIn (remove x n s r) ≡ emptyIn r) → 1 + emptyIn (remove x n s (grow p d k r)) ≡ emptyIn (grow p d k r)
+        go : (p ≡ x) ⊎ (p ≡ x → ⊥) → In x (grow p d k r) → (In x k → 1 + empty_in (remove x n s k) ≡ empty_in k)
+            → (In x r → 1 + empty_in (remove x n s r) ≡ empty_in r) → 1 + empty_in (remove x n s (grow p d k r)) ≡ empty_in (grow p d k r)
         go (inl e) j ik ir =
             let b = h.0 e in
             let z = settled-empty q d r w.beside in
@@ -195,7 +195,7 @@ some? n = go (same? n 0)
     go (inr m) = inr (omega arith)
 
 -- with no other inside, it has one child, and that is free
-lone : (settings : Settings) (q : Datum) (k : Tree) → Children settings q k → partless k ≡ true → emptyIn k ≡ 0 → (k ≡ nil → ⊥)
+lone : (settings : Settings) (q : Datum) (k : Tree) → Children settings q k → partless k ≡ true → empty_in k ≡ 0 → (k ≡ nil → ⊥)
     → (c : ℕ) × (e : Datum) × (k ≡ grow c e nil nil) × (e.kind ≡ Free)
 lone settings q nil w h z n = absurd (n refl)
 lone settings q (grow c e l m) w h z n = go e.kind refl w.kinded
@@ -207,18 +207,18 @@ lone settings q (grow c e l m) w h z n = go e.kind refl w.kinded
         let a = (and-eq-true_iff (partless l) (partless m)).0 (rw f at h) in
         absurd (omega (arith, rw (f, a.0) at z))
 
-pub find : (settings : Settings) (q : Datum) (r : Tree) → Children settings q r → 1 ≤ emptyIn r → Found r
+pub find : (settings : Settings) (q : Datum) (r : Tree) → Children settings q r → 1 ≤ empty_in r → Found r
 find settings q nil w h = absurd (omega arith)
 find settings q (grow p d k r) w h =
-    go (some? (emptyIn k)) (some? (emptyIn r)) (is_empty d k) refl (find settings d k w.below) (find settings q r w.beside)
+    go (some? (empty_in k)) (some? (empty_in r)) (is_empty d k) refl (find settings d k w.below) (find settings q r w.beside)
   where
-    go : (emptyIn k ≡ 0) ⊎ (1 ≤ emptyIn k) → (emptyIn r ≡ 0) ⊎ (1 ≤ emptyIn r) → (b : Bool) → is_empty d k ≡ b
-        → (1 ≤ emptyIn k → Found k) → (1 ≤ emptyIn r → Found r) → Found (grow p d k r)
+    go : (empty_in k ≡ 0) ⊎ (1 ≤ empty_in k) → (empty_in r ≡ 0) ⊎ (1 ≤ empty_in r) → (b : Bool) → is_empty d k ≡ b
+        → (1 ≤ empty_in k → Found k) → (1 ≤ empty_in r → Found r) → Found (grow p d k r)
     go (inr y) z b e fk fr = found k (grow p d k r) (λ i c o. inr (inl o)) (λ i l o. inr (inl o)) (fk y)
     go (inl y) (inr z) b e fk fr = found r (grow p d k r) (λ i c o. inr (inr o)) (λ i l o. inr (inr o)) (fr z)
     go (inl y) (inl z) false e fk fr = absurd (omega (arith, rw e at h))
     go (inl y) (inl z) true e fk fr =
-        let a = (and-eq-true_iff (isStructure d.kind) (partless k)).0 e in
+        let a = (and-eq-true_iff (is_structure d.kind) (partless k)).0 e in
         let f = structure-is d.kind a.0 in
         let g : StructurePiece d k = subst (λ (κ : Kind). Kinded κ d k r) f w.kinded in
         let l = lone settings d k w.below a.1 y g.parent in
@@ -234,10 +234,10 @@ find settings q (grow p d k r) w h =
         }
 
 -- where there is none, nothing is left to do
-pub tidy-row : (r : Tree) → emptyIn r ≡ 0 → tidyRow r ≡ r
+pub tidy-row : (r : Tree) → empty_in r ≡ 0 → tidy_row r ≡ r
 tidy-row nil h = refl
 tidy-row (grow p d k r) h = go (is_empty d k) refl (tidy-row k) (tidy-row r)
   where
-    go : (b : Bool) → is_empty d k ≡ b → (emptyIn k ≡ 0 → tidyRow k ≡ k) → (emptyIn r ≡ 0 → tidyRow r ≡ r) → tidyRow (grow p d k r) ≡ grow p d k r
+    go : (b : Bool) → is_empty d k ≡ b → (empty_in k ≡ 0 → tidy_row k ≡ k) → (empty_in r ≡ 0 → tidy_row r ≡ r) → tidy_row (grow p d k r) ≡ grow p d k r
     go true e ik ir = absurd (omega (arith, rw e at h))
-    go false e ik ir = let z : emptyIn k + emptyIn r ≡ 0 = omega (arith, rw e at h) in rw (e, ik (omega arith), ir (omega arith)) refl
+    go false e ik ir = let z : empty_in k + empty_in r ≡ 0 = omega (arith, rw e at h) in rw (e, ik (omega arith), ir (omega arith)) refl

@@ -1,7 +1,7 @@
 -- Two bookings, or two removals, that have nothing to do with one another. Document 01, "Insertion", "Removal" and "Marks".
 use Rattle.std.specs.Prelude.{◌≡◌, false, ℕ, ◌<◌}
 use Rattle.piece.specs.declared.node.Datum.{Datum}
-use Rattle.piece.specs.Kinds.{isFree}
+use Rattle.piece.specs.Kinds.{is_free}
 use Rattle.tree.specs.Tree.{Tree, At}
 use Rattle.tree.specs.Booking.{Booking}
 
@@ -20,5 +20,5 @@ Clear y b = (i : ℕ) → i < 5 → b.place i ≡ y → ⊥
 pub record Removable (x : ℕ) (t : Tree) : Type 0 where
   pub piece : Datum
   pub there : At x piece t
-  pub solid : isFree piece.kind ≡ false
+  pub solid : is_free piece.kind ≡ false
   pub below : x ≡ 0 → ⊥

@@ -7,7 +7,7 @@ use Rattle.piece.specs.declared.insertion_blueprint.InsertionShape.{InsertionSha
 use Rattle.piece.specs.Sides.{other}
 use Rattle.piece.specs.Row.{Row, nil, grow}
 use Rattle.piece.specs.Insertion.{Made, block_of}
-use Rattle.piece.specs.Kinds.{isPart}
+use Rattle.piece.specs.Kinds.{is_part}
 use Rattle.tree.specs.Tree.{Tree, after, change}
 
 -- What is booked: a shape; the part's sides in its rotation, and its number; the width of the blade; and the marks that the new nodes get: the place of each, by its
@@ -21,12 +21,12 @@ pub record Booking : Type 0 where
   pub serial : ℕ
 
 -- the node of a block at this level and with this cut
-abbrev pub plantedDatum : Booking → ℕ → ℕ → Orientation → Made → Datum
-plantedDatum b i level c m =
+abbrev pub planted_datum : Booking → ℕ → ℕ → Orientation → Made → Datum
+planted_datum b i level c m =
     record {
       serial = b.serial + i;
       size = m.size;
-      number = cond (isPart m.kind) b.number 0;
+      number = cond (is_part m.kind) b.number 0;
       level = level;
       kind = m.kind;
       cut = c;
@@ -37,7 +37,7 @@ plantedDatum b i level c m =
 abbrev pub planted : Booking → ℕ → Orientation → Row Made → Tree
 planted b level c nil = nil
 planted b level c (grow i m k r) =
-    grow (b.place i) (plantedDatum b i level c m) (planted b (level + 1) (other c) k) (planted b level c r)
+    grow (b.place i) (planted_datum b i level c m) (planted b (level + 1) (other c) k) (planted b level c r)
 
 -- the block that takes the place of the free piece d
 unfoldable pub block : Booking → Datum → Tree
@@ -45,8 +45,8 @@ block b d = planted b d.level d.cut (block_of b.shape b.blade d.cut d.size b.siz
 
 -- "The free piece W x H goes"; "these nodes are created in order, at the end of their parent's children", where the free piece stood, since it
 -- is last
-abbrev pub bookedRow : Booking → Datum → Tree → Tree
-bookedRow b d r = after (block b d) r
+abbrev pub booked_row : Booking → Datum → Tree → Tree
+booked_row b d r = after (block b d) r
 
 abbrev pub book : ℕ → Booking → Tree → Tree
-book x b t = change x (bookedRow b) t
+book x b t = change x (booked_row b) t

@@ -3,12 +3,12 @@
 use Rattle.std.specs.Prelude.{Bool, true, false, cond, List, [], ◌∷◌, ◌++◌, ℕ}
 use Rattle.piece.specs.declared.node.Datum.{Datum}
 use Rattle.piece.specs.Row.{nil, grow}
-use Rattle.piece.specs.Kinds.{isPart}
+use Rattle.piece.specs.Kinds.{is_part}
 use Rattle.tree.specs.Tree.{Tree}
 use Rattle.tree.specs.Booking.{Booking, block}
 use Rattle.tree.specs.Removal.{cleared, subtree}
 use Rattle.tree.specs.Steps.{less, leaving}
-use Rattle.tree.specs.ListSteps.{strike, strikeAll}
+use Rattle.tree.specs.ListSteps.{strike, strike_all}
 use Rattle.tree.specs.Family.{parent_of, childless}
 
 -- the place, if so
@@ -18,7 +18,7 @@ when b p = cond b (p ∷ []) []
 -- what the new nodes of a row under q bring to the list, in the order of creation; none says that q has no child before the row
 abbrev pub enrolled : ℕ → Bool → Tree → List ℕ
 enrolled q none nil = []
-enrolled q none (grow p d k r) = when (isPart d.kind) p ++ (when none q ++ (enrolled p true k ++ enrolled q false r))
+enrolled q none (grow p d k r) = when (is_part d.kind) p ++ (when none q ++ (enrolled p true k ++ enrolled q false r))
 
 -- "a parent that loses its last child is taken out": the parent is q, and w is what is left
 abbrev pub bereft : ℕ → Tree → List ℕ → List ℕ
@@ -29,12 +29,12 @@ abbrev pub renewed : ℕ → Tree → Tree → List ℕ → List ℕ
 renewed q left new ys = bereft q left ys ++ enrolled q (childless q left) new
 
 -- the list when b is booked in the free piece d at x
-unfoldable pub bookedList : ℕ → ℕ → Datum → Booking → Tree → List ℕ → List ℕ
-bookedList limit x d b w ys = renewed (parent_of limit x w) (less x w) (block b d) ys
+unfoldable pub booked_list : ℕ → ℕ → Datum → Booking → Tree → List ℕ → List ℕ
+booked_list limit x d b w ys = renewed (parent_of limit x w) (less x w) (block b d) ys
 
 -- the list when the piece at x is removed: the new node is a free piece, and brings nothing but its parent
-unfoldable pub removedList : ℕ → ℕ → Tree → List ℕ → List ℕ
-removedList limit x w ys =
+unfoldable pub removed_list : ℕ → ℕ → Tree → List ℕ → List ℕ
+removed_list limit x w ys =
     let q = parent_of limit x w in
     let left = cleared x w in
-    bereft q left (strikeAll ys (leaving (subtree x w))) ++ when (childless q left) q
+    bereft q left (strike_all ys (leaving (subtree x w))) ++ when (childless q left) q

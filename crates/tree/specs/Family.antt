@@ -1,9 +1,9 @@
 -- The parent of a piece, whether a piece has children, and the places that a new node takes. Document 01, "Marks": "A new node takes the lowest
 -- unheld place, after the nodes it replaces were freed."
 use Rattle.std.specs.Prelude.{Bool, true, false, cond, not, ◌||◌, ℕ, zero, suc, ◌+◌, ◌-◌, eqb}
-use Rattle.lists.specs.Search.{firstFrom}
+use Rattle.lists.specs.Search.{first_from}
 use Rattle.piece.specs.Row.{Row, nil, grow}
-use Rattle.tree.specs.Tree.{Tree, isNil}
+use Rattle.tree.specs.Tree.{Tree, is_nil}
 
 -- the place is held in the row, or below it
 abbrev pub holds : {A : Type 0} → ℕ → Row A → Bool
@@ -22,13 +22,13 @@ parent_of limit x w = parent_in x limit w
 -- the piece at q has no child
 abbrev pub childless : ℕ → Tree → Bool
 childless q nil = false
-childless q (grow p d k r) = cond (eqb p q) (isNil k) (childless q k || childless q r)
+childless q (grow p d k r) = cond (eqb p q) (is_nil k) (childless q k || childless q r)
 
 -- the lowest place from n on that the tree does not hold, or the limit
-unfoldable pub unheldFrom : ℕ → Tree → ℕ → ℕ
-unheldFrom limit w n = firstFrom (λ (p : ℕ). not (holds p w)) (limit - n) n
+unfoldable pub unheld_from : ℕ → Tree → ℕ → ℕ
+unheld_from limit w n = first_from (λ (p : ℕ). not (holds p w)) (limit - n) n
 
 -- the places that new nodes get one after the other, once the tree w is what is left
-abbrev pub newPlace : ℕ → Tree → ℕ → ℕ
-newPlace limit w zero = unheldFrom limit w 0
-newPlace limit w (suc i) = unheldFrom limit w (newPlace limit w i + 1)
+abbrev pub new_place : ℕ → Tree → ℕ → ℕ
+new_place limit w zero = unheld_from limit w 0
+new_place limit w (suc i) = unheld_from limit w (new_place limit w i + 1)

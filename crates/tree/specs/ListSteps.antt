@@ -2,7 +2,7 @@
 -- belongs. Document 01, "Sound layout" and "Removal".
 use Rattle.std.specs.Prelude.{◌≡◌, List, [], ◌∷◌, ◌++◌, cond, ◌⊎◌, ℕ, ◌+◌, ltb, get_or, length, take, drop}
 use Rattle.lists.specs.Lists.{swapped}
-use Rattle.lists.specs.Search.{firstFrom, index_of}
+use Rattle.lists.specs.Search.{first_from, index_of}
 
 -- where a place stands in a list, or its length
 abbrev pub spot : List ℕ → ℕ → ℕ
@@ -22,7 +22,7 @@ push xs p = xs ++ (p ∷ [])
 
 -- the first index with a smaller area than that of p, or the length
 unfoldable pub berth : (ℕ → ℕ) → List ℕ → ℕ → ℕ
-berth areas xs p = firstFrom (λ (i : ℕ). ltb (areas (get_or xs i 0)) (areas p)) (length xs) 0
+berth areas xs p = first_from (λ (i : ℕ). ltb (areas (get_or xs i 0)) (areas p)) (length xs) 0
 
 -- a place that is newer than all others is put in: "greatest area first, equal areas by rising serial"
 unfoldable pub put : (ℕ → ℕ) → List ℕ → ℕ → List ℕ
@@ -34,13 +34,13 @@ Names p [] = ⊥
 Names p (q ∷ qs) = (p ≡ q) ⊎ Names p qs
 
 -- several places, one after the other
-abbrev pub omitAll : List ℕ → List ℕ → List ℕ
-omitAll xs [] = xs
-omitAll xs (p ∷ ps) = omitAll (omit xs p) ps
+abbrev pub omit_all : List ℕ → List ℕ → List ℕ
+omit_all xs [] = xs
+omit_all xs (p ∷ ps) = omit_all (omit xs p) ps
 
-abbrev pub strikeAll : List ℕ → List ℕ → List ℕ
-strikeAll xs [] = xs
-strikeAll xs (p ∷ ps) = strikeAll (strike xs p) ps
+abbrev pub strike_all : List ℕ → List ℕ → List ℕ
+strike_all xs [] = xs
+strike_all xs (p ∷ ps) = strike_all (strike xs p) ps
 
 abbrev pub put_all : (ℕ → ℕ) → List ℕ → List ℕ → List ℕ
 put_all areas xs [] = xs

@@ -8,11 +8,11 @@ use Rattle.piece.specs.Sides.{other}
 use Rattle.piece.specs.Row.{nil, grow}
 use Rattle.tree.specs.Tree.{Tree}
 
-abbrev pub topDatum : Opening → Datum
-topDatum o = record { serial = 1; size = o.settings.sheet; number = 0; level = 0; kind = Structure; cut = o.cut; eaten = 0 }
+abbrev pub top_datum : Opening → Datum
+top_datum o = record { serial = 1; size = o.settings.sheet; number = 0; level = 0; kind = Structure; cut = o.cut; eaten = 0 }
 
-abbrev pub firstFree : Opening → Datum
-firstFree o = record { serial = 2; size = o.settings.sheet; number = 0; level = 1; kind = Free; cut = other o.cut; eaten = 0 }
+abbrev pub first_free : Opening → Datum
+first_free o = record { serial = 2; size = o.settings.sheet; number = 0; level = 1; kind = Free; cut = other o.cut; eaten = 0 }
 
 abbrev pub opened : Opening → Tree
-opened o = grow 0 (topDatum o) (grow 1 (firstFree o) nil nil) nil
+opened o = grow 0 (top_datum o) (grow 1 (first_free o) nil nil) nil

@@ -4,12 +4,12 @@ use Rattle.std.specs.Prelude.{◌≡◌, List, false, ◌⊎◌, ℕ, ◌≤◌,
 use Rattle.piece.specs.declared.node.Datum.{Datum}
 use Rattle.piece.specs.declared.node.Kind.TheVariants.{Free}
 use Rattle.piece.specs.Sides.{area}
-use Rattle.piece.specs.Kinds.{isFree}
+use Rattle.piece.specs.Kinds.{is_free}
 use Rattle.tree.specs.Tree.{Tree, At}
 
 -- the greatest serial
-abbrev pub maxSerial : ℕ
-maxSerial = 1000000
+abbrev pub max_serial : ℕ
+max_serial = 1000000
 
 -- what stands at each place
 abbrev pub Pieces : Type 1
@@ -36,7 +36,7 @@ pub record FreeOf (A : Pieces) (l : List ℕ) : Type 0 where
 
 -- "the removable list holds every part and structure once, in any order"
 abbrev pub SolidOf : Pieces → List ℕ → Type 0
-SolidOf A l = Holding (λ (d : Datum). isFree d.kind ≡ false) A l
+SolidOf A l = Holding (λ (d : Datum). is_free d.kind ≡ false) A l
 
 abbrev pub FreeList : Tree → List ℕ → Type 0
 FreeList w l = FreeOf (pieces_of w) l
@@ -49,4 +49,4 @@ pub record Serials (w : Tree) (last : ℕ) : Type 0 where
   pub differ : (i j : ℕ) (d e : Datum) → At i d w → At j e w → d.serial ≡ e.serial → i ≡ j
   pub least : (i : ℕ) (d : Datum) → At i d w → 1 ≤ d.serial
   pub most : (i : ℕ) (d : Datum) → At i d w → d.serial ≤ last
-  pub spent : last ≤ maxSerial
+  pub spent : last ≤ max_serial

@@ -10,8 +10,8 @@ use Rattle.piece.specs.declared.node.Datum.{Datum}
 use Rattle.piece.specs.declared.node.Kind.TheVariants.{Free}
 use Rattle.piece.specs.Sides.{sized, laid}
 use Rattle.piece.specs.Row.{nil, grow}
-use Rattle.piece.specs.Kinds.{isFree, isPart}
-use Rattle.tree.specs.Tree.{Tree, isNil, after, change}
+use Rattle.piece.specs.Kinds.{is_free, is_part}
+use Rattle.tree.specs.Tree.{Tree, is_nil, after, change}
 use Rattle.tree.specs.Sound.{reach}
 
 -- the free piece with this serial that stands where d stood, of this size
@@ -29,17 +29,17 @@ unfoldable pub board : Datum → Option Datum → Size
 board d o = laid d.cut (sized (reach d.cut d + spare d.cut o) (laid d.cut d.size).height)
 
 -- the last piece of a row, if it is free; and the row without it
-abbrev pub lastFree : Tree → Option Datum
-lastFree nil = none
-lastFree (grow p d k r) = cond (isFree d.kind && isNil r) (some d) (lastFree r)
+abbrev pub last_free : Tree → Option Datum
+last_free nil = none
+last_free (grow p d k r) = cond (is_free d.kind && is_nil r) (some d) (last_free r)
 
-abbrev pub withoutLast : Tree → Tree
-withoutLast nil = nil
-withoutLast (grow p d k r) = cond (isFree d.kind && isNil r) nil (grow p d k (withoutLast r))
+abbrev pub without_last : Tree → Tree
+without_last nil = nil
+without_last (grow p d k r) = cond (is_free d.kind && is_nil r) nil (grow p d k (without_last r))
 
 -- the later siblings r of the piece d that goes; the new piece has the place n and the serial s
 unfoldable pub settled : ℕ → ℕ → Datum → Tree → Tree
-settled n s d r = after (withoutLast r) (grow n (freed s d (board d (lastFree r))) nil nil)
+settled n s d r = after (without_last r) (grow n (freed s d (board d (last_free r))) nil nil)
 
 -- the piece x goes
 abbrev pub remove : ℕ → ℕ → ℕ → Tree → Tree
@@ -47,7 +47,7 @@ remove x n s t = change x (settled n s) t
 
 -- what is left of the tree before the new piece is there: x with all below it, and the free piece at the end of its row, are gone
 abbrev pub left : Datum → Tree → Tree
-left d r = withoutLast r
+left d r = without_last r
 
 abbrev pub cleared : ℕ → Tree → Tree
 cleared x t = change x left t
@@ -60,8 +60,8 @@ subtree x (grow y d k r) = cond (eqb y x) (grow y d k nil) (after (subtree x k) 
 -- the part numbers of a row in tree order
 abbrev pub numbers : Tree → List ℕ
 numbers nil = []
-numbers (grow p d k r) = cond (isPart d.kind) (d.number ∷ (numbers k ++ numbers r)) (numbers k ++ numbers r)
+numbers (grow p d k r) = cond (is_part d.kind) (d.number ∷ (numbers k ++ numbers r)) (numbers k ++ numbers r)
 
 -- the part numbers that come out with x
-abbrev pub removedNumbers : ℕ → Tree → List ℕ
-removedNumbers x t = numbers (subtree x t)
+abbrev pub removed_numbers : ℕ → Tree → List ℕ
+removed_numbers x t = numbers (subtree x t)

@@ -3,24 +3,24 @@
 -- every byte". Document 02, No. 4: "Tree snapshots gain 1 byte a node at the end": what was eaten behind it.
 use Rattle.std.specs.Prelude.{◌≡◌, List, [], ◌∷◌, ◌++◌, ℕ, ◌/◌, ◌%◌}
 use Rattle.piece.specs.declared.node.Datum.{Datum}
-use Rattle.piece.specs.Numbers.{kindNo, cutNo}
+use Rattle.piece.specs.Numbers.{kind_no, cut_no}
 use Rattle.piece.specs.Row.{nil, grow}
 use Rattle.tree.specs.Tree.{Tree}
 
 -- two and four bytes, highest first, before the others
-abbrev pub twoThen : ℕ → List ℕ → List ℕ
-twoThen v r = v / 256 % 256 ∷ v % 256 ∷ r
+abbrev pub two_then : ℕ → List ℕ → List ℕ
+two_then v r = v / 256 % 256 ∷ v % 256 ∷ r
 
-abbrev pub fourThen : ℕ → List ℕ → List ℕ
-fourThen v r = v / 16777216 % 256 ∷ v / 65536 % 256 ∷ twoThen v r
+abbrev pub four_then : ℕ → List ℕ → List ℕ
+four_then v r = v / 16777216 % 256 ∷ v / 65536 % 256 ∷ two_then v r
 
-unfoldable pub nodeBytes : Datum → List ℕ → List ℕ
-nodeBytes d r =
-    d.level ∷ kindNo d.kind ∷ cutNo d.cut ∷ twoThen d.number (fourThen d.size.width (fourThen d.size.height (d.eaten ∷ r)))
+unfoldable pub node_bytes : Datum → List ℕ → List ℕ
+node_bytes d r =
+    d.level ∷ kind_no d.kind ∷ cut_no d.cut ∷ two_then d.number (four_then d.size.width (four_then d.size.height (d.eaten ∷ r)))
 
 unfoldable pub snapshot : Tree → List ℕ
 snapshot nil = []
-snapshot (grow p d k r) = nodeBytes d (snapshot k ++ snapshot r)
+snapshot (grow p d k r) = node_bytes d (snapshot k ++ snapshot r)
 
 pub record Same (t u : Tree) : Type 0 where
   pub bytes : snapshot t ≡ snapshot u

@@ -11,27 +11,27 @@ use Rattle.piece.specs.Row.{nil, grow}
 use Rattle.tree.specs.Tree.{Tree, In, Distinct, count}
 
 -- "sheet and part sides 1..67,108,863", "stages 1..254", "part numbers 0..65,535", "a blade width 0..100"
-abbrev pub maxSide : ℕ
-maxSide = 67108863
+abbrev pub max_side : ℕ
+max_side = 67108863
 
-abbrev pub maxStages : ℕ
-maxStages = 254
+abbrev pub max_stages : ℕ
+max_stages = 254
 
-abbrev pub maxNumber : ℕ
-maxNumber = 65535
+abbrev pub max_number : ℕ
+max_number = 65535
 
-abbrev pub maxBlade : ℕ
-maxBlade = 100
+abbrev pub max_blade : ℕ
+max_blade = 100
 
 -- "sheet sides, stages and numbers are in the domain"
 pub record Domain (settings : Settings) : Type 0 where
   pub wide : 1 ≤ settings.sheet.width
   pub tall : 1 ≤ settings.sheet.height
-  pub width : settings.sheet.width ≤ maxSide
-  pub height : settings.sheet.height ≤ maxSide
+  pub width : settings.sheet.width ≤ max_side
+  pub height : settings.sheet.height ≤ max_side
   pub least : 1 ≤ settings.stages
-  pub most : settings.stages ≤ maxStages
-  pub blade : settings.blade ≤ maxBlade
+  pub most : settings.stages ≤ max_stages
+  pub blade : settings.blade ≤ max_blade
 
 -- what a piece with the cut c takes of the side that its parent's cut, the other one, divides: its own, and what was eaten behind it
 abbrev pub reach : Orientation → Datum → ℕ
@@ -56,7 +56,7 @@ pub record FreePiece (d : Datum) (k r : Tree) : Type 0 where
 pub record PartPiece (d : Datum) (k : Tree) : Type 0 where
   pub childless : k ≡ nil
   pub sided : Sided d.size
-  pub numbered : d.number ≤ maxNumber
+  pub numbered : d.number ≤ max_number
 
 -- "under a Vertical cut .. their widths add to its width, under a Horizontal cut the reverse"
 pub record StructurePiece (d : Datum) (k : Tree) : Type 0 where

@@ -4,7 +4,7 @@ use Rattle.std.specs.Prelude.{◌≡◌, Bool, true, cond, not, ◌&&◌, ℕ, �
 use Rattle.piece.specs.declared.node.Datum.{Datum}
 use Rattle.piece.specs.declared.node.Kind.TheVariants.{Free, Structure}
 use Rattle.piece.specs.Row.{nil, grow}
-use Rattle.piece.specs.Kinds.{isPart, isStructure}
+use Rattle.piece.specs.Kinds.{is_part, is_structure}
 use Rattle.tree.specs.Tree.{Tree, In, At}
 use Rattle.tree.specs.Steps.{Kids}
 use Rattle.tree.specs.Removal.{settled, cleared, remove}
@@ -40,27 +40,27 @@ pub data Takings (limit : ℕ) : Tree → ℕ → Tree → Type 0 where
 -- no part is in the row or below it
 abbrev pub partless : Tree → Bool
 partless nil = true
-partless (grow p d k r) = not (isPart d.kind) && (partless k && partless r)
+partless (grow p d k r) = not (is_part d.kind) && (partless k && partless r)
 
 -- a structure with no part inside
 abbrev pub is_empty : Datum → Tree → Bool
-is_empty d k = isStructure d.kind && partless k
+is_empty d k = is_structure d.kind && partless k
 
 -- how many there are in a row and below it; and in a tree, where the top doesn't count
-abbrev pub emptyIn : Tree → ℕ
-emptyIn nil = 0
-emptyIn (grow p d k r) = cond (is_empty d k) 1 0 + (emptyIn k + emptyIn r)
+abbrev pub empty_in : Tree → ℕ
+empty_in nil = 0
+empty_in (grow p d k r) = cond (is_empty d k) 1 0 + (empty_in k + empty_in r)
 
 abbrev pub empties : Tree → ℕ
 empties nil = 0
-empties (grow p d k r) = emptyIn k
+empties (grow p d k r) = empty_in k
 
 -- the tidy row: each empty structure goes as the old removal has it, what is inside with it, and everything else stays; the marks don't count
-abbrev pub tidyRow : Tree → Tree
-tidyRow nil = nil
-tidyRow (grow p d k r) = cond (is_empty d k) (settled 0 0 d (tidyRow r)) (grow p d (tidyRow k) (tidyRow r))
+abbrev pub tidy_row : Tree → Tree
+tidy_row nil = nil
+tidy_row (grow p d k r) = cond (is_empty d k) (settled 0 0 d (tidy_row r)) (grow p d (tidy_row k) (tidy_row r))
 
 -- the tidy tree: the top stays
 abbrev pub tidied : Tree → Tree
 tidied nil = nil
-tidied (grow p d k r) = grow p d (tidyRow k) r
+tidied (grow p d k r) = grow p d (tidy_row k) r

@@ -7,9 +7,9 @@ use Rattle.piece.specs.Row.{Row, nil, grow}
 abbrev pub Tree : Type 0
 Tree = Row Datum
 
-abbrev pub isNil : {A : Type 0} → Row A → Bool
-isNil nil = true
-isNil (grow p d k r) = false
+abbrev pub is_nil : {A : Type 0} → Row A → Bool
+is_nil nil = true
+is_nil (grow p d k r) = false
 
 -- the nodes of a row and below it
 abbrev pub count : {A : Type 0} → Row A → ℕ
@@ -36,8 +36,8 @@ abbrev pub Distinct : {A : Type 0} → Row A → Type 0
 Distinct nil = Unit {0}
 Distinct (grow p d k r) =
     record {
-      notBelow : In p k → ⊥;
-      notBeside : In p r → ⊥;
+      not_below : In p k → ⊥;
+      not_beside : In p r → ⊥;
       apart : (i : ℕ) → In i k → In i r → ⊥;
       below : Distinct k;
       beside : Distinct r;

@@ -14,15 +14,15 @@ use Rattle.piece.specs.declared.node.Kind.{Kind}
 use Rattle.piece.specs.declared.node.Kind.TheVariants.{Free, Part, Structure}
 use Rattle.piece.specs.declared.settings.Settings.{Settings}
 use Rattle.piece.specs.Row.{nil, grow}
-use Rattle.piece.specs.Kinds.{isPart}
+use Rattle.piece.specs.Kinds.{is_part}
 use Rattle.tree.specs.Tree.{Tree, In, count, after}
 use Rattle.tree.specs.Sound.{Kinded, Children, Sound}
-use Rattle.tree.specs.Removal.{numbers, subtree, removedNumbers}
+use Rattle.tree.specs.Removal.{numbers, subtree, removed_numbers}
 use Rattle.tree.specs.Snapshot.{snapshot}
 use Rattle.table.specs.declared.Node.{Node}
 use Rattle.table.specs.Table.{at, Rep, Holds}
-use Rattle.walks.specs.Order.{preorder, childrenFirst}
-use Rattle.walks.specs.Along.{below, partNumber, number_at, numbersAlong}
+use Rattle.walks.specs.Order.{preorder, children_first}
+use Rattle.walks.specs.Along.{below, part_number, number_at, numbers_along}
 use Rattle.walks.specs.Along.{occurrences, parts, Each, PartsEnd}
 use Rattle.walks.proofs.Entries.{gathered-append, gathered-last}
 use Rattle.walks.proofs.NodeBytes.{length-node}
@@ -98,7 +98,7 @@ numbers_more false v a c = omega (arith, length-append a c)
 pub length-numbers : (w : Tree) → length (numbers w) ≡ parts w
 length-numbers nil = refl
 length-numbers (grow p d k r) =
-    numbers_more (isPart d.kind) d.number (numbers k) (numbers r) ∙ rw (length-numbers k, length-numbers r) refl
+    numbers_more (is_part d.kind) d.number (numbers k) (numbers r) ∙ rw (length-numbers k, length-numbers r) refl
 
 one-part : (b : Bool) → cond b 1 0 ≤ 1
 one-part true = omega arith
@@ -109,7 +109,7 @@ parts-most nil = omega arith
 parts-most (grow p d k r) =
     let hk = parts-most k in
     let hr = parts-most r in
-    omega (arith, one-part (isPart d.kind))
+    omega (arith, one-part (is_part d.kind))
 
 -- ---- along the orders of a row that the table shows
 
@@ -119,23 +119,23 @@ number-first false v l = refl
 
 -- the number of a part that has no children may come after theirs
 number-last : (c : Kind) (v : ℕ) (k : Tree) (l : List ℕ) → (c ≡ Part → k ≡ nil)
-    → (numbers k ++ cond (isPart c) (v ∷ []) []) ++ l ≡ cond (isPart c) (v ∷ (numbers k ++ l)) (numbers k ++ l)
+    → (numbers k ++ cond (is_part c) (v ∷ []) []) ++ l ≡ cond (is_part c) (v ∷ (numbers k ++ l)) (numbers k ++ l)
 number-last Free v k l e = ap (λ (z : List ℕ). z ++ l) (append-nil (numbers k))
 number-last Structure v k l e = ap (λ (z : List ℕ). z ++ l) (append-nil (numbers k))
 number-last Part v k l e = rw (e refl) refl
 
 module _ (limit : ℕ) (t : List Node) where
-  pub numbers-shown : (r : Tree) → Shown limit t r → numbersAlong t (preorder r) ≡ numbers r
+  pub numbers-shown : (r : Tree) → Shown limit t r → numbers_along t (preorder r) ≡ numbers r
   numbers-shown nil e = refl
   numbers-shown (grow p d k r) e =
       ap (λ (l : List ℕ). number_at t p ++ l) (gathered-append (number_at t) (preorder k) (preorder r))
-      ∙ rw (numbers-shown k e.1, numbers-shown r e.2, e.0.1) (number-first (isPart d.kind) d.number (numbers k ++ numbers r))
+      ∙ rw (numbers-shown k e.1, numbers-shown r e.2, e.0.1) (number-first (is_part d.kind) d.number (numbers k ++ numbers r))
 
-  pub numbers-last : (r : Tree) → Shown limit t r → PartsEnd r → numbersAlong t (childrenFirst r) ≡ numbers r
+  pub numbers-last : (r : Tree) → Shown limit t r → PartsEnd r → numbers_along t (children_first r) ≡ numbers r
   numbers-last nil e f = refl
   numbers-last (grow p d k r) e f =
-      gathered-append (number_at t) (childrenFirst k ++ (p ∷ [])) (childrenFirst r)
-      ∙ rw (gathered-last (number_at t) (childrenFirst k) p, numbers-last k e.1 f.1, numbers-last r e.2 f.2, e.0.1)
+      gathered-append (number_at t) (children_first k ++ (p ∷ [])) (children_first r)
+      ∙ rw (gathered-last (number_at t) (children_first k) p, numbers-last k e.1 f.1, numbers-last r e.2 f.2, e.0.1)
       (number-last d.kind d.number k (numbers r) f.0)
 
 -- ---- how often a number stands in a list
@@ -148,7 +148,7 @@ occurrences-append v (x ∷ a) b = let h = occurrences-append v a b in omega ari
 
 -- of any row
 module _ (limit : ℕ) (t : List Node) (q pv : ℕ) (r : Tree) (rep : Rep limit t q pv r) where
-  pub numbers-row : numbersAlong t (preorder r) ≡ numbers r
+  pub numbers-row : numbers_along t (preorder r) ≡ numbers r
   numbers-row = numbers-shown limit t r (rep-shown limit t q pv r rep)
 
 module _ (limit : ℕ) (t : List Node) (w : Tree) (holds : Holds limit t w) where
@@ -156,19 +156,19 @@ module _ (limit : ℕ) (t : List Node) (w : Tree) (holds : Holds limit t w) wher
   tree-shown = rep-shown limit t limit limit w holds.rep
 
   -- of the subtree at any place: what a removal hands out
-  pub numbers-removed : (x : ℕ) → PartsEnd w → numbersAlong t (childrenFirst (subtree x w)) ≡ removedNumbers x w
+  pub numbers-removed : (x : ℕ) → PartsEnd w → numbers_along t (children_first (subtree x w)) ≡ removed_numbers x w
   numbers-removed x ends = numbers-last limit t (subtree x w) (each-subtree _ x w tree-shown) (each-subtree _ x w ends)
 
   -- along every place: as many numbers as there are parts, and each as often as in the tree
   everywhere-same : (m : List ℕ → ℕ) → m [] ≡ 0 → ((a b : List ℕ) → m (a ++ b) ≡ m a + m b)
-      → m (numbersAlong t (below limit)) ≡ m (numbers w)
+      → m (numbers_along t (below limit)) ≡ m (numbers w)
   everywhere-same m none more =
       every-place m none more (number_at t) w limit holds.distinct (λ i y. shown-low limit t i w tree-shown y)
-      (λ i l o. ap (λ (n : Node). partNumber n.datum) (holds.rest i l o))
+      (λ i l o. ap (λ (n : Node). part_number n.datum) (holds.rest i l o))
       ∙ ap m (numbers-row limit t limit limit w holds.rep)
 
-  pub numbers-held-count : length (numbersAlong t (below limit)) ≡ parts w
+  pub numbers-held-count : length (numbers_along t (below limit)) ≡ parts w
   numbers-held-count = everywhere-same length refl length-append ∙ length-numbers w
 
-  pub numbers-held : (v : ℕ) → occurrences v (numbersAlong t (below limit)) ≡ occurrences v (numbers w)
+  pub numbers-held : (v : ℕ) → occurrences v (numbers_along t (below limit)) ≡ occurrences v (numbers w)
   numbers-held v = everywhere-same (occurrences v) refl (occurrences-append v)

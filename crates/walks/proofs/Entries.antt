@@ -58,17 +58,17 @@ entries_below n =
     let e = length-below n in
     entries-take n (below n) (omega arith) ∙ take_all n (below n) (omega arith)
 
-getD-below : (n i : ℕ) → i < n → get_or (below n) i 0 ≡ i
+get_or-below : (n i : ℕ) → i < n → get_or (below n) i 0 ≡ i
 unfolding below
-getD-below zero i h = let none : ⊥ = omega arith in absurd none
-getD-below (suc n) i h = go (ℕ_discrete i n) (getD-below n i)
+get_or-below zero i h = let none : ⊥ = omega arith in absurd none
+get_or-below (suc n) i h = go (ℕ_discrete i n) (get_or-below n i)
   where
     go : Dec (i ≡ n) → (i < n → get_or (below n) i 0 ≡ i) → get_or (below n ++ (n ∷ [])) i 0 ≡ i
     go (yes e) ih = get_or_at (below n) n [] 0 i (length-below n ∙ sym e) ∙ sym e
     go (no e) ih = get_or-append (below n) (n ∷ []) 0 i (omega (arith, length-below n)) ∙ ih (omega arith)
 
 pub placed_below : (n : ℕ) → Placed n n (below n)
-placed_below n i h = rw (getD-below n i h) h
+placed_below n i h = rw (get_or-below n i h) h
 
 -- ---- what is gathered
 

@@ -5,7 +5,7 @@ use mathlib.Core.List.{List, [], ◌++◌}
 use Prim.Native.Nat.{ℕ, zero, suc, ◌+◌, ◌<◌}
 use Rattle.piece.specs.Row.{nil, grow}
 use Rattle.tree.specs.Tree.{Tree, In, Distinct}
-use Rattle.table.proofs.Everywhere.{sum, rowSum, everywhere}
+use Rattle.table.proofs.Everywhere.{sum, row_sum, everywhere}
 use Rattle.walks.specs.Walk.{gathered}
 use Rattle.walks.specs.Order.{preorder}
 use Rattle.walks.specs.Along.{below}
@@ -19,7 +19,7 @@ module _ (m : List ℕ → ℕ) (m_nil : m [] ≡ 0) (m-append : (a b : List ℕ
   along-below zero = m_nil
   along-below (suc n) = ap m (gathered-last g (below n) n) ∙ m-append (gathered g (below n)) (g n) ∙ rw (along-below n) refl
 
-  along-row : (w : Tree) → m (gathered g (preorder w)) ≡ rowSum (λ i. m (g i)) w
+  along-row : (w : Tree) → m (gathered g (preorder w)) ≡ row_sum (λ i. m (g i)) w
   along-row nil = m_nil
   along-row (grow p d k r) =
       m-append (g p) (gathered g (preorder k ++ preorder r))

@@ -15,7 +15,7 @@ use Rattle.table.specs.declared.Node.{Node}
 use Rattle.table.specs.Table.{at, head, Rep}
 use Rattle.table.proofs.Rep.{Shows, shows}
 use Rattle.table.proofs.Unique.{holds-room}
-use Rattle.walks.specs.Order.{itself, childrenFirst}
+use Rattle.walks.specs.Order.{itself, children_first}
 use Rattle.walks.specs.Columns.{order_in}
 use Rattle.walks.specs.Inner.{Hangs}
 use Rattle.walks.proofs.Written.{Left, begin, piece, as_long}
@@ -39,11 +39,11 @@ module _ (limit : ℕ) (t : List Node) (x : ℕ) where
   -- what is written on it, and the turns that this takes before x: a row is gone down to and written
   abbrev back : ℕ → List Tree → List ℕ
   back p [] = itself x
-  back p (r ∷ rs) = p ∷ (childrenFirst r ++ back (at t p).parent rs)
+  back p (r ∷ rs) = p ∷ (children_first r ++ back (at t p).parent rs)
 
-  abbrev turnsBack : List Tree → ℕ
-  turnsBack [] = 0
-  turnsBack (r ∷ rs) = 1 + ((count r + count r) + turnsBack rs)
+  abbrev turns_back : List Tree → ℕ
+  turns_back [] = 0
+  turns_back (r ∷ rs) = 1 + ((count r + count r) + turns_back rs)
 
   -- where the walk stands: the row that begins at `down`, under `up`, is still to be written, and then what is on the way
   pub record Stand (all l₀ : List ℕ) (k₀ : ℕ) (l : List ℕ) (k up down turns : ℕ) : Type 0 where
@@ -53,16 +53,16 @@ module _ (limit : ℕ) (t : List Node) (x : ℕ) where
     begins : down ≡ head limit row
     under : Under up before row
     leads : Way up way
-    enough : (count row + count row) + turnsBack way ≤ turns
-    yet : Left all l₀ k₀ (childrenFirst row ++ back up way) l k
+    enough : (count row + count row) + turns_back way ≤ turns
+    yet : Left all l₀ k₀ (children_first row ++ back up way) l k
 
   -- a piece's parent is the one that it hangs under
   hung : {n m : Node} → n ≡ m → n.parent ≡ m.parent
   hung e = ap (λ (n : Node). n.parent) e
 
   -- the row of a piece is what is below it, the piece, and its later siblings
-  split : (p : ℕ) (b r : Tree) (z : List ℕ) → ((childrenFirst b ++ (p ∷ [])) ++ childrenFirst r) ++ z ≡ childrenFirst b ++ (p ∷ (childrenFirst r ++ z))
-  split p b r z = append_assoc (childrenFirst b ++ (p ∷ [])) (childrenFirst r) z ∙ append_assoc (childrenFirst b) (p ∷ []) (childrenFirst r ++ z)
+  split : (p : ℕ) (b r : Tree) (z : List ℕ) → ((children_first b ++ (p ∷ [])) ++ children_first r) ++ z ≡ children_first b ++ (p ∷ (children_first r ++ z))
+  split p b r z = append_assoc (children_first b ++ (p ∷ [])) (children_first r) z ∙ append_assoc (children_first b) (p ∷ []) (children_first r ++ z)
 
   -- x is left on every way
   some_back : (p : ℕ) (way : List Tree) → 0 < length (back p way)
@@ -74,15 +74,15 @@ module _ (limit : ℕ) (t : List Node) (x : ℕ) where
     pub room : (k < length l₀) × (length l ≡ length l₀)
     room =
         let long = as_long _ s.yet in
-        let more = length-append (childrenFirst s.row) (back up s.way) in
+        let more = length-append (children_first s.row) (back up s.way) in
         (omega (arith, s.yet.room, more, some_back up s.way, long), long)
 
     -- a piece begins the row: the walk goes down to the row below it
     pub gone-down : down < limit → Stand all l₀ k₀ l k down (at t down).first (turns - 1)
     gone-down = rw s.begins (go s.row s.under s.enough s.yet)
       where
-        go : (row : Tree) → Under up s.before row → (count row + count row) + turnsBack s.way ≤ turns
-            → Left all l₀ k₀ (childrenFirst row ++ back up s.way) l k → head limit row < limit
+        go : (row : Tree) → Under up s.before row → (count row + count row) + turns_back s.way ≤ turns
+            → Left all l₀ k₀ (children_first row ++ back up s.way) l k → head limit row < limit
             → Stand all l₀ k₀ l k (head limit row) (at t (head limit row)).first (turns - 1)
         go nil e c y h = let none : ⊥ = omega arith in absurd none
         go (grow p d b r) e c y h =
@@ -107,7 +107,7 @@ module _ (limit : ℕ) (t : List Node) (x : ℕ) where
     over : limit ≤ down → Left all l₀ k₀ (back up s.way) l k
     over h = go s.row s.under s.yet (rw (← s.begins) h)
       where
-        go : (row : Tree) → Under up s.before row → Left all l₀ k₀ (childrenFirst row ++ back up s.way) l k → limit ≤ head limit row
+        go : (row : Tree) → Under up s.before row → Left all l₀ k₀ (children_first row ++ back up s.way) l k → limit ≤ head limit row
             → Left all l₀ k₀ (back up s.way) l k
         go nil e y h = y
         go (grow p d b r) e y h = let none : ⊥ = omega arith in absurd none
@@ -121,7 +121,7 @@ module _ (limit : ℕ) (t : List Node) (x : ℕ) where
       pub gone-up : Up
       gone-up = go s.way s.leads (omega (arith, s.enough)) (over h)
         where
-          go : (way : List Tree) → Way up way → turnsBack way ≤ turns → Left all l₀ k₀ (back up way) l k → Up
+          go : (way : List Tree) → Way up way → turns_back way ≤ turns → Left all l₀ k₀ (back up way) l k → Up
           go [] e c y = absurd (other e)
           go (r ∷ rs) e c y =
               record {
@@ -134,7 +134,7 @@ module _ (limit : ℕ) (t : List Node) (x : ℕ) where
                   under = e.3;
                   leads = e.4;
                   enough = omega arith;
-                  yet = piece (itself up) (childrenFirst r ++ back (at t up).parent rs) y refl refl;
+                  yet = piece (itself up) (children_first r ++ back (at t up).parent rs) y refl refl;
                 };
               }
 
@@ -150,8 +150,8 @@ module _ (limit : ℕ) (t : List Node) (x : ℕ) where
     pub never : turns ≤ 0 → Left all l₀ k₀ (itself x) l k
     never h = go s.row s.way s.enough s.yet
       where
-        go : (row : Tree) (way : List Tree) → (count row + count row) + turnsBack way ≤ turns
-            → Left all l₀ k₀ (childrenFirst row ++ back up way) l k → Left all l₀ k₀ (itself x) l k
+        go : (row : Tree) (way : List Tree) → (count row + count row) + turns_back way ≤ turns
+            → Left all l₀ k₀ (children_first row ++ back up way) l k → Left all l₀ k₀ (itself x) l k
         go nil [] c y = y
         go nil (r ∷ rs) c y = let none : ⊥ = omega arith in absurd none
         go (grow p d b r) way c y = let none : ⊥ = omega arith in absurd none

@@ -8,10 +8,10 @@ use native.Mathlib.Omega.{arith}
 use lib.ListN.{length, set}
 use lib.Seq.{sets}
 use Rattle.piece.specs.declared.node.Datum.{Datum}
-use Rattle.piece.specs.Kinds.{isPart}
-use Rattle.tree.specs.Snapshot.{twoThen, fourThen, nodeBytes}
-use Rattle.walks.specs.Snapshot.{bytesOfNode}
-use Rattle.walks.specs.Along.{partNumber}
+use Rattle.piece.specs.Kinds.{is_part}
+use Rattle.tree.specs.Snapshot.{two_then, four_then, node_bytes}
+use Rattle.walks.specs.Snapshot.{bytes_of_node}
+use Rattle.walks.specs.Along.{part_number}
 
 -- ---- bytes written one by one
 
@@ -27,10 +27,10 @@ module _ (l : List ℕ) (x : ℕ) where
 
   -- a node's: level, kind and cut, then its three numbers, and what was eaten behind it
   pub node-stored : (level kind cut number width height eaten : ℕ) (l₁ l₂ l₃ : List ℕ)
-      → l₁ ≡ sets (set (set (set l x level) (x + 1) kind) (x + 2) cut) (x + 3) (twoThen number [])
-      → l₂ ≡ sets l₁ (x + 5) (fourThen width [])
-      → l₃ ≡ sets l₂ (x + 9) (fourThen height [])
-      → set l₃ (x + 13) eaten ≡ sets l x (bytesOfNode level kind cut number width height eaten)
+      → l₁ ≡ sets (set (set (set l x level) (x + 1) kind) (x + 2) cut) (x + 3) (two_then number [])
+      → l₂ ≡ sets l₁ (x + 5) (four_then width [])
+      → l₃ ≡ sets l₂ (x + 9) (four_then height [])
+      → set l₃ (x + 13) eaten ≡ sets l x (bytes_of_node level kind cut number width height eaten)
   node-stored level kind cut number width height eaten l₁ l₂ l₃ e f g =
       let e₂ : x + 2 ≡ suc (suc x) = omega arith in
       let e₃ : x + 3 ≡ suc (suc (suc x)) = omega arith in
@@ -41,18 +41,18 @@ module _ (l : List ℕ) (x : ℕ) where
 
 -- ---- how many there are
 
-pub length-node : (d : Datum) (r : List ℕ) → length (nodeBytes d r) ≡ 14 + length r
-unfolding nodeBytes
+pub length-node : (d : Datum) (r : List ℕ) → length (node_bytes d r) ≡ 14 + length r
+unfolding node_bytes
 length-node d r = omega arith
 
 -- the bytes of a node before what a walk writes of its children, with nothing after them, and before those of its later siblings
-pub node-before : (d : Datum) (k r : List ℕ) → (nodeBytes d [] ++ (k ++ [])) ++ r ≡ nodeBytes d (k ++ r)
-unfolding nodeBytes
+pub node-before : (d : Datum) (k r : List ℕ) → (node_bytes d [] ++ (k ++ [])) ++ r ≡ node_bytes d (k ++ r)
+unfolding node_bytes
 node-before d k r = rw (append-nil k) refl
 
 number-one : (b : Bool) (v : ℕ) → length (cond b (v ∷ []) []) ≤ 1
 number-one true v = omega arith
 number-one false v = omega arith
 
-pub number-most : (d : Datum) → length (partNumber d) ≤ 1
-number-most d = number-one (isPart d.kind) d.number
+pub number-most : (d : Datum) → length (part_number d) ≤ 1
+number-most d = number-one (is_part d.kind) d.number

@@ -10,7 +10,7 @@ use lib.Ieee.{Float, binary64, add, mul, div, in_float}
 use borrow.Author.Tests.{ne_eqb}
 use Rattle.tree.specs.Figures.{nought, one}
 use Rattle.walks.specs.Chain.{siblings}
-use Rattle.walks.specs.Usage.{weight, summed, usageAlong}
+use Rattle.walks.specs.Usage.{weight, summed, usage_along}
 use Rattle.walks.proofs.Chain.{less_one, siblings-more}
 
 -- an area is cast to f64 without loss
@@ -21,32 +21,32 @@ in-float a h = le→leb a (2 ^ 53) h
 module _ (limit : ℕ) (first next kind area : List ℕ) where
   -- the sum s with what the children from c on add to it
   abbrev pub sum : (left turns c : ℕ) → Float → Float
-  sum left turns c s = summed (usageAlong limit first next kind area (left - 1)) area (siblings limit next turns c) s
+  sum left turns c s = summed (usage_along limit first next kind area (left - 1)) area (siblings limit next turns c) s
 
   -- a turn adds the child c, whose usage is u
-  pub sum_more : (left turns c : ℕ) (s u : Float) → 0 < turns → c < limit → u ≡ usageAlong limit first next kind area (left - 1) c
+  pub sum_more : (left turns c : ℕ) (s u : Float) → 0 < turns → c < limit → u ≡ usage_along limit first next kind area (left - 1) c
       → sum left (turns - 1) (get_or next c 0) (add binary64 s (mul binary64 (weight area c) u)) ≡ sum left turns c s
   sum_more left turns c s u more held e = rw (siblings-more limit next c turns more held, e)
 
-  pub usage-none : (n x : ℕ) → n ≡ 0 → usageAlong limit first next kind area n x ≡ nought
-  unfolding usageAlong
+  pub usage-none : (n x : ℕ) → n ≡ 0 → usage_along limit first next kind area n x ≡ nought
+  unfolding usage_along
   usage-none n x e = rw e
 
   -- by the kind
   usage-some : (n x : ℕ) → (n ≡ 0 → ⊥)
-      → usageAlong limit first next kind area n x
+      → usage_along limit first next kind area n x
       ≡ cond (eqb (get_or kind x 0) 0) nought
       (cond (eqb (get_or kind x 0) 1) one (div binary64 (sum n (n - 1) (get_or first x 0) nought) (weight area x)))
-  unfolding usageAlong
+  unfolding usage_along
   usage-some zero x h = absurd (h refl)
   usage-some (suc n) x h = rw (less_one n)
 
-  pub usage-free : (n x : ℕ) → (n ≡ 0 → ⊥) → get_or kind x 0 ≡ 0 → usageAlong limit first next kind area n x ≡ nought
+  pub usage-free : (n x : ℕ) → (n ≡ 0 → ⊥) → get_or kind x 0 ≡ 0 → usage_along limit first next kind area n x ≡ nought
   usage-free n x h k = usage-some n x h ∙ rw k
 
-  pub usage-part : (n x : ℕ) → (n ≡ 0 → ⊥) → get_or kind x 0 ≡ 1 → usageAlong limit first next kind area n x ≡ one
+  pub usage-part : (n x : ℕ) → (n ≡ 0 → ⊥) → get_or kind x 0 ≡ 1 → usage_along limit first next kind area n x ≡ one
   usage-part n x h k = usage-some n x h ∙ rw k
 
   pub usage-more : (n x : ℕ) → (n ≡ 0 → ⊥) → (get_or kind x 0 ≡ 0 → ⊥) → (get_or kind x 0 ≡ 1 → ⊥)
-      → usageAlong limit first next kind area n x ≡ div binary64 (sum n (n - 1) (get_or first x 0) nought) (weight area x)
+      → usage_along limit first next kind area n x ≡ div binary64 (sum n (n - 1) (get_or first x 0) nought) (weight area x)
   usage-more n x h k j = usage-some n x h ∙ rw (ne_eqb (get_or kind x 0) 0 k, ne_eqb (get_or kind x 0) 1 j)

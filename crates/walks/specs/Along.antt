@@ -5,7 +5,7 @@ use Rattle.std.specs.Prelude.{◌≡◌, List, [], ◌∷◌, ◌++◌, cond, �
 use Rattle.piece.specs.declared.node.Datum.{Datum}
 use Rattle.piece.specs.declared.node.Kind.TheVariants.{Part}
 use Rattle.piece.specs.Row.{nil, grow}
-use Rattle.piece.specs.Kinds.{isPart}
+use Rattle.piece.specs.Kinds.{is_part}
 use Rattle.tree.specs.Tree.{Tree}
 use Rattle.table.specs.declared.Node.{Node}
 use Rattle.table.specs.Table.{at}
@@ -17,14 +17,14 @@ below zero = []
 below (suc n) = below n ++ (n ∷ [])
 
 -- the number of a part; another piece has none
-abbrev pub partNumber : Datum → List ℕ
-partNumber d = cond (isPart d.kind) (d.number ∷ []) []
+abbrev pub part_number : Datum → List ℕ
+part_number d = cond (is_part d.kind) (d.number ∷ []) []
 
 abbrev pub number_at : List Node → ℕ → List ℕ
-number_at t p = partNumber (at t p).datum
+number_at t p = part_number (at t p).datum
 
-abbrev pub numbersAlong : List Node → List ℕ → List ℕ
-numbersAlong t order = gathered (number_at t) order
+abbrev pub numbers_along : List Node → List ℕ → List ℕ
+numbers_along t order = gathered (number_at t) order
 
 -- how often a number stands in a list
 abbrev pub occurrences : ℕ → List ℕ → ℕ
@@ -34,7 +34,7 @@ occurrences v (x ∷ l) = cond (eqb x v) 1 0 + occurrences v l
 -- how many parts a row has, with those below it
 abbrev pub parts : Tree → ℕ
 parts nil = 0
-parts (grow p d k r) = cond (isPart d.kind) 1 0 + (parts k + parts r)
+parts (grow p d k r) = cond (is_part d.kind) 1 0 + (parts k + parts r)
 
 -- this holds of each piece of a row, and of those below: of its place, its datum and its children
 abbrev pub Each : (ℕ → Datum → Tree → Type 0) → Tree → Type 0

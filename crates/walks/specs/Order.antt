@@ -13,9 +13,9 @@ abbrev pub order_of : ℕ → (first next : List ℕ) → ℕ → ℕ → List �
 order_of limit first next left x = walk_of limit first next nothing itself left x
 
 -- the places of a row, each after those below it
-abbrev pub childrenFirst : {A : Type 0} → Row A → List ℕ
-childrenFirst nil = []
-childrenFirst (grow p d k r) = (childrenFirst k ++ (p ∷ [])) ++ childrenFirst r
+abbrev pub children_first : {A : Type 0} → Row A → List ℕ
+children_first nil = []
+children_first (grow p d k r) = (children_first k ++ (p ∷ [])) ++ children_first r
 
 -- in tree order
 abbrev pub preorder : {A : Type 0} → Row A → List ℕ

@@ -16,9 +16,9 @@ summed g area [] s = s
 summed g area (c ∷ l) s = summed g area l (add binary64 s (mul binary64 (weight area c) (g c)))
 
 -- the usage of the subtree of x, down to so many nodes; kinds are numbered as in a snapshot: 0 free, 1 part, 2 structure
-unfoldable pub usageAlong : ℕ → (first next kind area : List ℕ) → ℕ → ℕ → Float
-usageAlong limit first next kind area zero x = nought
-usageAlong limit first next kind area (suc n) x =
-    let s = summed (usageAlong limit first next kind area n) area (siblings limit next n (get_or first x 0)) nought in
+unfoldable pub usage_along : ℕ → (first next kind area : List ℕ) → ℕ → ℕ → Float
+usage_along limit first next kind area zero x = nought
+usage_along limit first next kind area (suc n) x =
+    let s = summed (usage_along limit first next kind area n) area (siblings limit next n (get_or first x 0)) nought in
     let r = div binary64 s (weight area x) in
     cond (eqb (get_or kind x 0) 0) nought (cond (eqb (get_or kind x 0) 1) one r)

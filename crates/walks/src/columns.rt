@@ -1,7 +1,7 @@
 // The columns of a table that a walk down the tree is lent: the two links that it follows, what a snapshot says of a node, and its area. They are taken
 // out of the nodes once.
 ghost use Rattle.std.specs.Prelude.{◌≡◌};
-ghost use Rattle.walks.specs.Columns.{columnsOf};
+ghost use Rattle.walks.specs.Columns.{columns_of};
 
 use table::{LIMIT, Node};
 
@@ -20,7 +20,7 @@ pub struct Columns {
 }
 
 pub fn columns_of(nodes: [Node; LIMIT]) -> Columns
-    ensures { result ≡ columnsOf nodes }
+    ensures { result ≡ columns_of nodes }
 {
     let mut first = [0u16; LIMIT];
     let mut next = [0u16; LIMIT];

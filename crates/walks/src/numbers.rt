@@ -3,7 +3,7 @@
 ghost use Rattle.std.specs.Prelude.{◌≡◌, ◌+◌, ◌≤◌, length};
 ghost use Rattle.std.proofs.lemmas.List.Edits.{sets};
 ghost use Rattle.lists.specs.Lists.{entries, limit};
-ghost use Rattle.walks.specs.Along.{below, partNumber, numbersAlong};
+ghost use Rattle.walks.specs.Along.{below, part_number, numbers_along};
 ghost use Rattle.walks.specs.Inner.{Placed};
 
 use piece::node::Datum;
@@ -11,7 +11,7 @@ use table::{LIMIT, Node};
 
 // How many numbers a piece has: a part has one, another piece none.
 fn count_number(d: Datum) -> usize
-    ensures { result ≡ length (partNumber d) }
+    ensures { result ≡ length (part_number d) }
 {
     let kind = d.kind;
     if kind.is_part() { 1 } else { 0 }
@@ -19,9 +19,9 @@ fn count_number(d: Datum) -> usize
 
 // Writes the number of a part at n, and nothing for another piece; gives the next index.
 fn put_number(d: Datum, out: &mut [u16], n: usize) -> usize
-    requires { n + length (partNumber d) ≤ length out.old }
-    ensures written { out.new ≡ sets out.old n (partNumber d) }
-    ensures counted { result ≡ n + length (partNumber d) }
+    requires { n + length (part_number d) ≤ length out.old }
+    ensures written { out.new ≡ sets out.old n (part_number d) }
+    ensures counted { result ≡ n + length (part_number d) }
 {
     let kind = d.kind;
     if kind.is_part() {
@@ -35,7 +35,7 @@ fn put_number(d: Datum, out: &mut [u16], n: usize) -> usize
 // How many parts there are among the nodes at the first `count` places of the order: the room that `put_numbers` asks.
 pub fn count_numbers(nodes: [Node; LIMIT], order: &[u16; LIMIT], count: usize) -> usize
     requires { (count ≤ limit) × Placed limit count order.now }
-    ensures { result ≡ length (numbersAlong nodes (entries count order.now)) }
+    ensures { result ≡ length (numbers_along nodes (entries count order.now)) }
 {
     let mut found: usize = 0;
     let mut i: usize = 0;
@@ -56,10 +56,10 @@ pub fn put_numbers(
     count: usize,
     out: &mut [u16],
 ) -> usize
-    requires { (count ≤ limit) × (length (numbersAlong nodes (entries count order.now)) ≤ length out.old)
+    requires { (count ≤ limit) × (length (numbers_along nodes (entries count order.now)) ≤ length out.old)
         × Placed limit count order.now }
-    ensures written { out.new ≡ sets out.old 0 (numbersAlong nodes (entries count order.now)) }
-    ensures counted { result ≡ length (numbersAlong nodes (entries count order.now)) }
+    ensures written { out.new ≡ sets out.old 0 (numbers_along nodes (entries count order.now)) }
+    ensures counted { result ≡ length (numbers_along nodes (entries count order.now)) }
 {
     let mut n: usize = 0;
     let mut i: usize = 0;

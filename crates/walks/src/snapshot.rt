@@ -2,16 +2,16 @@
 // values with those of its children, and its `from_node`; document 01, "Tree snapshot", says the bytes.
 ghost use Rattle.std.specs.Prelude.{◌≡◌, [], ◌+◌, ◌≤◌, ◌<◌, length};
 ghost use Rattle.std.proofs.lemmas.List.Edits.{sets};
-ghost use Rattle.tree.specs.Snapshot.{twoThen, fourThen};
+ghost use Rattle.tree.specs.Snapshot.{two_then, four_then};
 ghost use Rattle.lists.specs.Lists.{limit};
-ghost use Rattle.walks.specs.Snapshot.{bytesOfNode, bytes_at, snapshotOf};
+ghost use Rattle.walks.specs.Snapshot.{bytes_of_node, bytes_at, snapshot_of};
 
 use table::{LIMIT, NONE};
 
 // The two bytes of a number, the highest first.
 pub fn put_two(v: u16, out: &mut [u8], at: usize)
     requires { at + 2 ≤ length out.old }
-    ensures { out.new ≡ sets out.old at (twoThen v []) }
+    ensures { out.new ≡ sets out.old at (two_then v []) }
 {
     let high = (v / 256 % 256) as u8;
     let low = (v % 256) as u8;
@@ -22,7 +22,7 @@ pub fn put_two(v: u16, out: &mut [u8], at: usize)
 // The four bytes of a number, the highest first.
 pub fn put_four(v: u32, out: &mut [u8], at: usize)
     requires { at + 4 ≤ length out.old }
-    ensures { out.new ≡ sets out.old at (fourThen v []) }
+    ensures { out.new ≡ sets out.old at (four_then v []) }
 {
     out[at] = (v / 16777216 % 256) as u8;
     out[at + 1] = (v / 65536 % 256) as u8;
@@ -46,7 +46,7 @@ fn put_node(
     at: usize,
 )
     requires { at + 14 ≤ length out.old }
-    ensures { out.new ≡ sets out.old at (bytesOfNode level kind cut number width height eaten) }
+    ensures { out.new ≡ sets out.old at (bytes_of_node level kind cut number width height eaten) }
 {
     out[at] = level;
     out[at + 1] = kind;
@@ -76,13 +76,13 @@ pub fn put_subtree<'a>(
     at: usize,
 ) -> usize
     requires { (x < limit)
-        × (at + length (snapshotOf limit first.now next.now
+        × (at + length (snapshot_of limit first.now next.now
         (bytes_at level.now kind.now cut.now number.now width.now height.now eaten.now) left x) ≤ length out.old) }
     ensures written { out.new
-        ≡ sets out.old at (snapshotOf limit first.now next.now
+        ≡ sets out.old at (snapshot_of limit first.now next.now
         (bytes_at level.now kind.now cut.now number.now width.now
         height.now eaten.now) left x) }
-    ensures counted { result ≡ at + length (snapshotOf limit first.now next.now
+    ensures counted { result ≡ at + length (snapshot_of limit first.now next.now
         (bytes_at level.now kind.now cut.now number.now width.now
         height.now eaten.now) left x) }
 {

@@ -1,7 +1,7 @@
 // Tree usage. Rust: `calculate_usage` of core/insertion/node_blueprint.rs.
 ghost use Rattle.std.specs.Prelude.{◌≡◌, ◌<◌};
 ghost use Rattle.lists.specs.Lists.{limit};
-ghost use Rattle.walks.specs.Usage.{usageAlong};
+ghost use Rattle.walks.specs.Usage.{usage_along};
 ghost use Rattle.walks.specs.Inner.{Small};
 
 use table::{LIMIT, NONE};
@@ -17,7 +17,7 @@ pub fn usage_of<'a>(
     left: usize,
 ) -> f64
     requires { (x < limit) × Small area.now }
-    ensures { result ≡ usageAlong limit first.now next.now kind.now area.now left x }
+    ensures { result ≡ usage_along limit first.now next.now kind.now area.now left x }
 {
     if left == 0 {
         return 0.0;

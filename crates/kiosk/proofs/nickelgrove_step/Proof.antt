@@ -44,7 +44,7 @@ use denote.Triple.Table.{entered, cited}
 use denote.Triple.Walked.{says, Stays, stay_ref, stay_none_slice, walk_of, AllGo, Goes-ref, Goes-none_slice, Walks, ends_at, walked, walk_Meets}
 use denote.Exit.{yes}
 use Rattle.session.specs.Session.{longest}
-use Rattle.frames.specs.Requests.{requestOf}
+use Rattle.frames.specs.Requests.{request_of}
 use Rattle.kiosk.specs.Step.{Answered}
 use Rattle.kiosk.specs.declared.SteppedRecord.{SteppedRecord}
 use Rattle.kiosk.specs.declared.records.SessionRecord.{SessionRecord}
@@ -135,7 +135,7 @@ module _ {M : Type 1} {𝓤 : Ura M} (𝓛 : Logic 𝓤) (at_mem : Memory → SP
 
   -- what `stepped` ensures
   abbrev Said : SteppedRecord → Type 0
-  Said r = Answered h (requestOf s.now) r.session r.line r.count
+  Said r = Answered h (request_of s.now) r.session r.line r.count
 
   said : (r : SteppedRecord) → ent 𝓤 (ensured 𝓛 g.ended (g.clauses 𝓛 at_mem run) (κ₁, tt) (h, (s, tt)) tt r) (fact 𝓤 (Said r))
   said r = ex_e 𝓤 _ (λ ws. snd∗ 𝓤 (sem 𝓛 (lasts g.ended (κ₁, tt) (h, (s, tt)) ws)) (fact 𝓤 (Said r)))

@@ -36,7 +36,7 @@ use denote.Triple.Entry.{on_entry}
 use denote.Triple.Spec.{triple_of}
 use denote.Triple.Table.{entered, cited}
 use denote.Triple.Walked.{says, walk_of, ends_at}
-use Rattle.lines.specs.Lines.{charsAt}
+use Rattle.lines.specs.Lines.{chars_at}
 use Rattle.lines.specs.declared.Reader.{Reader}
 use Rattle.lines.proofs.Reader.TheLaws as T'
 use Rattle.lines.proofs.Apart.{Own, values, apart, hears, reader-stays, reader-meets}
@@ -62,7 +62,7 @@ module _ {M : Type 1} {𝓤 : Ura M} (𝓛 : Logic 𝓤) (mem : Memory → SProp
   mach = T'.lowered d
 
   abbrev found : List ℕ
-  found = charsAt d.text.now d.at
+  found = chars_at d.text.now d.at
 
   -- the result's type
   abbrev R : RattleType

@@ -3,13 +3,13 @@ use mathlib.Core.Path.{◌≡◌, refl, sym, ◌∙◌}
 use Prim.Native.Nat.{◌-◌}
 use borrow.Author.Rules.{rules}
 use lib.ListN.{length}
-use Rattle.lines.specs.Lines.{newlineFrom}
+use Rattle.lines.specs.Lines.{newline_from}
 use Rattle.lines.proofs.Ahead.{newline-here, newline-later, newline-none}
 use Rattle.lines.proofs.newline.Statement.{statement}
 use Rattle.lines.proofs.newline.Tie as tie
 
 abbrev invariant-loop : tie.invariant-loop
-invariant-loop text at i₀ i = newlineFrom text i ≡ newlineFrom text at
+invariant-loop text at i₀ i = newline_from text i ≡ newline_from text at
 
 abbrev decreases-loop : tie.decreases-loop
 decreases-loop text at i₀ i = length text - i

@@ -35,7 +35,7 @@ use denote.Triple.Entry.{on_entry}
 use denote.Triple.Spec.{triple_of}
 use denote.Triple.Table.{entered, cited}
 use denote.Triple.Walked.{says, walk_of, ends_at}
-use Rattle.lines.specs.Lines.{charsAt}
+use Rattle.lines.specs.Lines.{chars_at}
 use Rattle.lines.specs.declared.Reader.{Reader}
 use Rattle.lines.specs.contracts.Reader as T
 use Rattle.lines.proofs.Reader.TheLaws as T'
@@ -66,7 +66,7 @@ module _ {M : Type 1} {𝓤 : Ura M} (𝓛 : Logic 𝓤) (mem : Memory → SProp
   open 𝓛 use {H}
 
   abbrev found : List ℕ
-  found = charsAt s.now n
+  found = chars_at s.now n
 
   -- the result's type
   abbrev R : RattleType
@@ -112,12 +112,12 @@ module _ {M : Type 1} {𝓤 : Ura M} (𝓛 : Logic 𝓤) (mem : Memory → SProp
         land ! (from ! (stop !)) (init ! 3 refl ((LL.lawful (T.the_type αᵉ) (T'.the_laws αᵉ) 𝓛).typed r _ is).0) $
         use2 𝓛 (raw ((Line 𝓛 mem run).pre (to-line r u))) (hands-over 𝓛 κ q r u) $
         calls_at ! fm (Line 𝓛 mem run) known-line (to-line r u) (and_then ! (load ! (from ! (stop !)) (look ! 2 refl)) (no_more !)) (λ u'.
-        hears ! tt line.ended (κ, tt) (r, tt) (λ t. t.now ≡ charsAt r.text.now r.at) (λ t e' is'.
+        hears ! tt line.ended (κ, tt) (r, tt) (λ t. t.now ≡ chars_at r.text.now r.at) (λ t e' is'.
         -- [the result; the token; what s owns; _3; …; _2; …; _1; …; room for _0; …]
         land ! (from ! (stop !)) (init ! 9 refl ((shr_slice_Lawful 𝓛 (named 0) κ u8).typed t _ is').0) $
         returns ! (look ! 9 refl) $ forget ! 3 refl $ forget ! 5 refl $ forget ! 7 refl $ forget ! 9 refl $
         move ! (9 ∷ 10 ∷ []) $ free1 ! $ move ! (7 ∷ 8 ∷ []) $ free1 ! $ move ! (5 ∷ 6 ∷ []) $ free1 ! $ move ! (3 ∷ 4 ∷ []) $ free1 ! $ free0 ! $
-        by ! (exits t u' (e' ∙ (ap (λ (x : Bor (List ℕ)). charsAt x.now r.at) e.0 ∙ ap (charsAt s.now) e.1)))))))))))
+        by ! (exits t u' (e' ∙ (ap (λ (x : Bor (List ℕ)). chars_at x.now r.at) e.0 ∙ ap (chars_at s.now) e.1)))))))))))
 
 pub read_spec : {M : Type 1} → stated.statement M
 unfolding code.routine tables_of

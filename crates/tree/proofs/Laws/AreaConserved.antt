@@ -9,11 +9,11 @@ use Rattle.piece.specs.Sides.{area}
 use Rattle.piece.specs.Row.{nil, grow}
 use Rattle.tree.specs.Tree.{Tree}
 use Rattle.tree.specs.Sound.{Sound}
-use Rattle.tree.specs.Figures.{partArea, freeArea, eatenArea}
+use Rattle.tree.specs.Figures.{part_area, free_area, eaten_area}
 use Rattle.tree.proofs.Areas.{row-held, filled-area}
 
 pub area-conserved : {limit : ℕ} {settings : Settings} (t : Tree) → Sound limit settings t
-    → partArea t + freeArea t + eatenArea t ≡ area settings.sheet
+    → part_area t + free_area t + eaten_area t ≡ area settings.sheet
 area-conserved nil s = absurd s.topped
 area-conserved {settings} (grow p d k r) s =
     let top = s.topped.0 in

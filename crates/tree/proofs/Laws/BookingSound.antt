@@ -7,7 +7,7 @@ use native.Mathlib.Omega.{arith}
 use Rattle.piece.specs.declared.node.Datum.{Datum}
 use Rattle.piece.specs.declared.node.Kind.TheVariants.{Free}
 use Rattle.piece.specs.declared.settings.Settings.{Settings}
-use Rattle.piece.specs.Insertion.{newNodes}
+use Rattle.piece.specs.Insertion.{new_nodes}
 use Rattle.tree.specs.Tree.{Tree, At, count}
 use Rattle.tree.specs.Sound.{Sound}
 use Rattle.tree.specs.Booking.{Booking, book}
@@ -17,7 +17,7 @@ use Rattle.tree.proofs.BookKept.{book-topped, book-distinct}
 use Rattle.tree.proofs.Counts.{count-book, in-book}
 
 pub booking-sound : (limit : ℕ) (settings : Settings) (t : Tree) (x : ℕ) (d : Datum) (b : Booking) → Sound limit settings t → At x d t
-    → d.kind ≡ Free → Fitting settings d b → Fresh limit x b t → count t + newNodes b.shape ≤ limit + 1 → Sound limit settings (book x b t)
+    → d.kind ≡ Free → Fitting settings d b → Fresh limit x b t → count t + new_nodes b.shape ≤ limit + 1 → Sound limit settings (book x b t)
 booking-sound limit settings t x d b h i a fit fresh room =
     sound h.domain (book-topped settings x d b t h.topped h.distinct i a fit)
     (omega (arith, count-book limit settings t x d b h i a))

@@ -12,14 +12,14 @@ use Rattle.piece.specs.declared.settings.Settings.{Settings}
 use Rattle.piece.specs.Row.{nil, grow}
 use Rattle.tree.specs.Tree.{Tree, At}
 use Rattle.tree.specs.Sound.{Kinded, Children, Sound}
-use Rattle.tree.specs.Figures.{eatenArea}
+use Rattle.tree.specs.Figures.{eaten_area}
 use Rattle.tree.proofs.Laying.{laid-sided}
-use Rattle.tree.proofs.Areas.{ownStrip, strips, eaten-own}
+use Rattle.tree.proofs.Areas.{own_strip, strips, eaten-own}
 
 no-strip : (n m : ℕ) → 1 ≤ m → n * m ≡ 0 → n ≡ 0
 no-strip n m h e = omega (arith, le-mul_of_pos_right n h)
 
-piece-clean : (κ : Kind) (d : Datum) (k r : Tree) → Kinded κ d k r → (r ≡ nil → d.eaten ≡ 0) → ownStrip d ≡ 0 → d.eaten ≡ 0
+piece-clean : (κ : Kind) (d : Datum) (k r : Tree) → Kinded κ d k r → (r ≡ nil → d.eaten ≡ 0) → own_strip d ≡ 0 → d.eaten ≡ 0
 piece-clean Free d k r f ends e = ends f.last
 piece-clean Part d k r f ends e = no-strip d.eaten _ (laid-sided d.cut f.sided).tall e
 piece-clean Structure d k r f ends e = no-strip d.eaten _ (laid-sided d.cut f.sided).tall e
@@ -43,5 +43,5 @@ clean-strips (grow p d k r) f =
     rw (f p d (inl (refl, refl)), clean-strips k (λ i e y. f i e (inr (inl y))), clean-strips r (λ i e y. f i e (inr (inr y)))) (omega arith)
 
 pub nothing-eaten : {limit : ℕ} {settings : Settings} (t : Tree) → Sound limit settings t
-    → (eatenArea t ≡ 0) ↔ ((i : ℕ) (d : Datum) → At i d t → d.eaten ≡ 0)
+    → (eaten_area t ≡ 0) ↔ ((i : ℕ) (d : Datum) → At i d t → d.eaten ≡ 0)
 nothing-eaten t s = rw (← eaten-own t s) (tree-clean t s, clean-strips t)

@@ -6,7 +6,7 @@ use Prim.Native.Nat.{ℕ}
 use Rattle.piece.specs.declared.node.Datum.{Datum}
 use Rattle.piece.specs.declared.settings.Settings.{Settings}
 use Rattle.tree.specs.Tree.{Tree, At, Inside}
-use Rattle.piece.specs.Kinds.{isFree}
+use Rattle.piece.specs.Kinds.{is_free}
 use Rattle.tree.specs.Sound.{Sound}
 use Rattle.tree.specs.Removal.{remove}
 use Rattle.tree.specs.Apart.{Removable}
@@ -14,6 +14,6 @@ use Rattle.tree.proofs.Stays.{at-cleared}
 use Rattle.tree.proofs.Laws.UntouchedByRemoval.{untouched-by-removal}
 
 pub solid-untouched-by-removal : (limit : ℕ) (settings : Settings) (t : Tree) (x n s i : ℕ) (e : Datum) → Sound limit settings t
-    → Removable x t → At i e t → isFree e.kind ≡ false → (i ≡ x → ⊥) → (Inside x i t → ⊥) → At i e (remove x n s t)
+    → Removable x t → At i e t → is_free e.kind ≡ false → (i ≡ x → ⊥) → (Inside x i t → ⊥) → At i e (remove x n s t)
 solid-untouched-by-removal limit settings t x n s i e h m there solid apart outside =
     untouched-by-removal t x n s i e (at-cleared settings x i e t h.topped m.below solid apart outside there)

@@ -9,7 +9,7 @@ use Rattle.piece.specs.declared.settings.Settings.{Settings}
 use Rattle.tree.specs.Tree.{Tree, In, Distinct}
 use Rattle.tree.specs.Sound.{Sound}
 use Rattle.tree.specs.Snapshot.{Same, shape}
-use Rattle.tree.specs.Removal.{remove, left, cleared, removedNumbers}
+use Rattle.tree.specs.Removal.{remove, left, cleared, removed_numbers}
 use Rattle.tree.specs.Apart.{Removable}
 use Rattle.tree.specs.Tidy.{Untidy, Tidy, Takings, none, taken, empties, tidied}
 use Rattle.tree.proofs.Rows.{at_in}
@@ -23,7 +23,7 @@ use Rattle.tree.proofs.Laws.RemovalSound.{removal-sound}
 pub untidy-removable : (x : ℕ) (t : Tree) → Untidy x t → Removable x t
 untidy-removable = removable
 
-pub untidy-numbers : (x : ℕ) (t : Tree) → Distinct t → Untidy x t → removedNumbers x t ≡ []
+pub untidy-numbers : (x : ℕ) (t : Tree) → Distinct t → Untidy x t → removed_numbers x t ≡ []
 untidy-numbers x t u a = subtree-numbers x t (untidy-bare x t u a)
 
 pub taking-count : {limit : ℕ} {settings : Settings} (x n s : ℕ) (t : Tree) → Sound limit settings t → Untidy x t

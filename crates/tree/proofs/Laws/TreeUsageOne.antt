@@ -7,11 +7,11 @@ use Rattle.piece.specs.Sides.{area}
 use Rattle.piece.specs.Row.{nil, grow}
 use Rattle.tree.specs.Tree.{Tree}
 use Rattle.tree.specs.Sound.{Sound}
-use Rattle.tree.specs.Figures.{freeArea, eatenArea, one, treeUsage}
+use Rattle.tree.specs.Figures.{free_area, eaten_area, one, tree_usage}
 use Rattle.tree.proofs.Usage.{sheet-small, structure-full}
 
-pub tree-usage-one : {limit : ℕ} {settings : Settings} (t : Tree) → Sound limit settings t → freeArea t ≡ 0 → eatenArea t ≡ 0
-    → treeUsage t ≡ one
+pub tree-usage-one : {limit : ℕ} {settings : Settings} (t : Tree) → Sound limit settings t → free_area t ≡ 0 → eaten_area t ≡ 0
+    → tree_usage t ≡ one
 tree-usage-one nil s e u = absurd s.topped
 tree-usage-one {settings} (grow p d k r) s e u =
     let top = s.topped.0 in

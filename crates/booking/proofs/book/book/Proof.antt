@@ -11,8 +11,8 @@ use Rattle.lists.specs.Lists.{limit}
 use Rattle.table.proofs.Appended.{tied-first, tied-next, appended}
 use Rattle.booking.specs.declared.new_nodes.NewNode.{NewNode}
 use Rattle.booking.specs.declared.new_nodes.NewNodes.{NewNodes}
-use Rattle.booking.specs.Book.{newNodesAt}
-use Rattle.booking.specs.NewNodes.{appendEach, noNew}
+use Rattle.booking.specs.Book.{new_nodes_at}
+use Rattle.booking.specs.NewNodes.{append_each, no_new}
 use Rattle.booking.proofs.Runs.{next-entry, none_left}
 use Rattle.booking.proofs.Typed.{all-places, five-new}
 use Rattle.booking.proofs.Together.{new_by, plant-needs, put-needs, enrol-needs, booked-by}
@@ -21,7 +21,7 @@ use Rattle.booking.proofs.book.book.Tie as tie
 
 abbrev invariant-loop : tie.invariant-loop
 invariant-loop nodes x number blade last i old t₀ q up new count list j₀ t j =
-    (j ≤ count) × (appendEach limit t (drop j (take count list)) ≡ appendEach limit t₀ (take count list))
+    (j ≤ count) × (append_each limit t (drop j (take count list)) ≡ append_each limit t₀ (take count list))
 
 abbrev decreases-loop : tie.decreases-loop
 decreases-loop nodes x number blade last i old t₀ q up new count list j₀ t j = count - j
@@ -37,13 +37,13 @@ module _ (c : tie.After-list invariant-loop decreases-loop) where
   abbrev new : NewNodes
   new = c.before.new-at.result
 
-  new_is : let a = begin.args in new ≡ newNodesAt a.nodes.nodes gone.unlink.result a.x a.shape a.size a.number a.blade a.last
+  new_is : let a = begin.args in new ≡ new_nodes_at a.nodes.nodes gone.unlink.result a.x a.shape a.size a.number a.blade a.last
   new_is =
       let a = begin.args in
       new_by a.nodes a.x a.shape a.size a.number a.blade a.last gone.unlink.result c.before.before.before.new-places.ensures
       c.before.before.site-of.ensures c.before.new-at.ensures
 
-  placed : (new.count ≤ 5) × ((i : ℕ) → i < new.count → ((get_or new.list i noNew).under < limit) × ((get_or new.list i noNew).place < limit))
+  placed : (new.count ≤ 5) × ((i : ℕ) → i < new.count → ((get_or new.list i no_new).under < limit) × ((get_or new.list i no_new).place < limit))
   placed =
       let a = begin.args in
       plant-needs a.nodes a.x a.shape a.size a.number a.blade a.last begin.pre gone.unlink.ensures new_is
@@ -51,7 +51,7 @@ module _ (c : tie.After-list invariant-loop decreases-loop) where
 -- the next one to be planted
 module _ (c : tie.In-loop invariant-loop decreases-loop) where
   abbrev node : NewNode
-  node = get_or (new c.before.before).list c.before.loop.j noNew
+  node = get_or (new c.before.before).list c.before.loop.j no_new
 
   low : (node.under < limit) × (node.place < limit)
   low = (placed c.before.before).1 c.before.loop.j c.loop-test.true
@@ -102,7 +102,7 @@ loop-again c =
     c.before.before.if1.branch
     in
     let more = appended limit l.t n.under n.place n.datum leaf tied c.with-last.ensures in
-    (search rules, rw more (rw (next-entry (new o).list (new o).count noNew few l.j i.loop-test.true) at l.invariant.1))
+    (search rules, rw more (rw (next-entry (new o).list (new o).count no_new few l.j i.loop-test.true) at l.invariant.1))
 
 put-frees-requires : tie.Need-put-frees-requires invariant-loop decreases-loop
 put-frees-requires c κs =
@@ -112,7 +112,7 @@ put-frees-requires c κs =
     c.before.omit.ensures
 
 less-parent-requires : tie.Need-less-parent-requires invariant-loop decreases-loop
-less-parent-requires c κs = (begin c.before.before.before.before.before.before.before.before).pre.removableKept
+less-parent-requires c κs = (begin c.before.before.before.before.before.before.before.before).pre.removable_kept
 
 enrol-requires : tie.Need-enrol-requires invariant-loop decreases-loop
 enrol-requires c κs =

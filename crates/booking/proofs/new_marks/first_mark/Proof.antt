@@ -3,7 +3,7 @@ use mathlib.Core.Path.{refl, ◌∙◌}
 use Prim.Native.Nat.{◌≤◌}
 use lib.ListN.{length}
 use borrow.Author.Rules.{rules}
-use Rattle.booking.specs.NewNodes.{noNew}
+use Rattle.booking.specs.NewNodes.{no_new}
 use Rattle.booking.proofs.Runs.{next-entry, none_left}
 use Rattle.booking.proofs.Typed.{five-new}
 use Rattle.booking.proofs.new_marks.first_mark.Statement.{statement}
@@ -14,7 +14,7 @@ returns c =
     let s = c.before.before.before.before in
     let n = s.args.new in
     let few : n.count ≤ length n.list = rw (five-new n _ s.well-formed.1.0) s.requires in
-    c.mark_of.ensures ∙ rw (next-entry n.list n.count noNew few 0 c.before.before.if1.true) refl
+    c.mark_of.ensures ∙ rw (next-entry n.list n.count no_new few 0 c.before.before.if1.true) refl
 
 returns-2 : tie.Need-returns-2
 returns-2 c =

@@ -7,7 +7,7 @@ use Prim.Native.Nat.{◌≤◌, ◌<◌, ◌-◌, ◌+◌}
 use native.Mathlib.Omega.{arith}
 use lib.ListN.{length, drop, take, get_or}
 use borrow.Author.Rules.{rules}
-use Rattle.booking.specs.NewNodes.{noNew, those}
+use Rattle.booking.specs.NewNodes.{no_new, those}
 use Rattle.booking.proofs.Runs.{next-entry, none_left}
 use Rattle.booking.proofs.Typed.{five-new}
 use Rattle.booking.proofs.Marked.{Noted, noted-none, noted-free, noted_other, noted-room, noted-all, free-marks-count}
@@ -24,13 +24,13 @@ decreases-loop number new list count frees₀ found₀ i₀ frees found i = coun
 coming : (c : tie.In-loop invariant-loop decreases-loop) →
     let l = c.before.loop in
     let n = c.before.before.before.before.args.new in
-    Noted c.before.before.before.before.args.number (those n) (get_or n.list l.i noNew ∷ drop (l.i + 1) (those n)) l.frees l.found
+    Noted c.before.before.before.before.args.number (those n) (get_or n.list l.i no_new ∷ drop (l.i + 1) (those n)) l.frees l.found
 coming c =
     let l = c.before.loop in
     let s = c.before.before.before.before in
     let n = s.args.new in
     let few : n.count ≤ length n.list = rw (five-new n _ s.well-formed.1.0) s.requires.0 in
-    rw (next-entry n.list n.count noNew few l.i c.loop-test.true) at l.invariant.1
+    rw (next-entry n.list n.count no_new few l.i c.loop-test.true) at l.invariant.1
 
 -- a free piece finds room
 low : (c : tie.After-mark-of invariant-loop decreases-loop) → c.before.before.before.before.before.loop.found < 2
@@ -40,7 +40,7 @@ low c =
     let n = s.args.new in
     let l = i.before.loop in
     let free = sym c.before.before.is_free.ensures ∙ c.before.if1.true in
-    let m = get_or n.list l.i noNew in
+    let m = get_or n.list l.i no_new in
     let room = noted-room s.args.number (those n) m (drop (l.i + 1) (those n)) l.frees l.found (coming i) free in
     omega (arith, free-marks-count s.args.number (those n), s.requires.1)
 
@@ -62,7 +62,7 @@ loop-again c =
     let s = i.before.before.before.before in
     let n = s.args.new in
     let l = i.before.loop in
-    let m = get_or n.list l.i noNew in
+    let m = get_or n.list l.i no_new in
     let rest = drop (l.i + 1) (those n) in
     let is = sym c.before.is_free.ensures in (
       search rules,

@@ -4,9 +4,9 @@ use mathlib.Core.Path.{◌≡◌, sym, ◌∙◌}
 use Prim.Native.Nat.{◌≤◌, ◌-◌}
 use lib.ListN.{length, drop, take}
 use borrow.Author.Rules.{rules}
-use Rattle.piece.specs.Kinds.{isPart}
-use Rattle.booking.specs.NewNodes.{noNew}
-use Rattle.booking.specs.Marks.{headMark, marksOf}
+use Rattle.piece.specs.Kinds.{is_part}
+use Rattle.booking.specs.NewNodes.{no_new}
+use Rattle.booking.specs.Marks.{head_mark, marks_of}
 use Rattle.booking.proofs.Runs.{next-entry, none_left}
 use Rattle.booking.proofs.Typed.{five-new}
 use Rattle.booking.proofs.new_marks.part_mark.Statement.{statement}
@@ -15,7 +15,7 @@ use Rattle.booking.proofs.new_marks.part_mark.Tie as tie
 abbrev invariant-loop : tie.invariant-loop
 invariant-loop number list count i₀ i =
     (i ≤ count)
-    × (headMark (marksOf number isPart (drop i (take count list))) ≡ headMark (marksOf number isPart (take count list)))
+    × (head_mark (marks_of number is_part (drop i (take count list))) ≡ head_mark (marks_of number is_part (take count list)))
 
 abbrev decreases-loop : tie.decreases-loop
 decreases-loop number list count i₀ i = count - i
@@ -28,7 +28,7 @@ returns c =
     let few : n.count ≤ length n.list = rw (five-new n _ s.well-formed.1.0) s.requires in
     let part = sym c.before.before.is-part.ensures ∙ c.before.if1.true in
     c.mark_of.ensures
-    ∙ (rw (next-entry n.list n.count noNew few l.i c.before.before.before.before.loop-test.true, part) at l.invariant.1)
+    ∙ (rw (next-entry n.list n.count no_new few l.i c.before.before.before.before.loop-test.true, part) at l.invariant.1)
 
 loop-again : tie.Need-loop-preserved invariant-loop decreases-loop
 loop-again c =
@@ -38,7 +38,7 @@ loop-again c =
     let few : n.count ≤ length n.list = rw (five-new n _ s.well-formed.1.0) s.requires in
     let other = sym c.before.is-part.ensures ∙ c.if1.false in (
       search rules,
-      rw (next-entry n.list n.count noNew few l.i c.before.before.before.loop-test.true, other) at l.invariant.1,
+      rw (next-entry n.list n.count no_new few l.i c.before.before.before.loop-test.true, other) at l.invariant.1,
     )
 
 returns-2 : tie.Need-returns-2 invariant-loop decreases-loop

@@ -6,13 +6,13 @@ use mathlib.Core.Logic.{⊎_elim}
 use Prim.Native.Nat.{ℕ, ◌+◌, ◌-◌, ◌≤◌}
 use lib.ListN.{length, drop, take, get_or}
 use borrow.Author.Rules.{rules}
-use Rattle.piece.specs.Kinds.{isPart}
+use Rattle.piece.specs.Kinds.{is_part}
 use Rattle.tree.specs.Enrolment.{when}
 use Rattle.layout_nodes.specs.declared.listing.Listing.{Listing}
-use Rattle.layout_nodes.specs.Listings.{entriesOf}
+use Rattle.layout_nodes.specs.Listings.{entries_of}
 use Rattle.booking.specs.declared.new_nodes.NewNode.{NewNode}
 use Rattle.booking.specs.declared.new_nodes.NewNodes.{NewNodes}
-use Rattle.booking.specs.NewNodes.{enrolments, noNew, those}
+use Rattle.booking.specs.NewNodes.{enrolments, no_new, those}
 use Rattle.booking.proofs.Runs.{next-entry, none_left}
 use Rattle.booking.proofs.Typed.{five-new}
 use Rattle.booking.proofs.Growing.{Coming, coming-start, coming-end, coming-room, coming-more, coming-so, coming-not, push-grows}
@@ -21,7 +21,7 @@ use Rattle.booking.proofs.new_nodes.enrol.Tie as tie
 
 abbrev invariant-loop : tie.invariant-loop
 invariant-loop count list l₀ i₀ l i =
-    (i ≤ count) × Coming ◌++◌ (entriesOf l₀ ++ enrolments (take count list)) (enrolments (drop i (take count list))) l
+    (i ≤ count) × Coming ◌++◌ (entries_of l₀ ++ enrolments (take count list)) (enrolments (drop i (take count list))) l
 
 abbrev decreases-loop : tie.decreases-loop
 decreases-loop count list l₀ i₀ l i = count - i
@@ -32,7 +32,7 @@ module _ (c : tie.In-loop invariant-loop decreases-loop) where
   new = c.before.before.before.args.new
 
   abbrev node : NewNode
-  node = get_or new.list c.before.loop.i noNew
+  node = get_or new.list c.before.loop.i no_new
 
   abbrev rest : List ℕ
   rest = enrolments (drop (c.before.loop.i + 1) (those new))
@@ -41,27 +41,27 @@ module _ (c : tie.In-loop invariant-loop decreases-loop) where
   parents = when node.eldest node.under ++ rest
 
   abbrev Brings : List ℕ → Listing → Type 0
-  Brings = Coming ◌++◌ (entriesOf c.before.before.before.args.removable ++ enrolments (those new))
+  Brings = Coming ◌++◌ (entries_of c.before.before.before.args.removable ++ enrolments (those new))
 
-  next : Brings (when (isPart node.datum.kind) node.place ++ parents) c.before.loop.l
+  next : Brings (when (is_part node.datum.kind) node.place ++ parents) c.before.loop.l
   next =
       let l = c.before.loop in
       let s = c.before.before.before in
       let few : new.count ≤ length new.list = rw (five-new new _ s.well-formed.1.0) s.requires.1 in
-      rw (next-entry new.list new.count noNew few l.i c.loop-test.true) at l.invariant.1
+      rw (next-entry new.list new.count no_new few l.i c.loop-test.true) at l.invariant.1
 
 -- it is a part
 part : (c : tie.Then1 invariant-loop decreases-loop) → let i = c.before.before.before in Brings i ((node i).place ∷ parents i) i.before.loop.l
 part c =
     let i = c.before.before.before in
-    coming-so (isPart (node i).datum.kind) (node i).place (parents i) (next i) (sym c.before.is-part.ensures ∙ c.if1.true)
+    coming-so (is_part (node i).datum.kind) (node i).place (parents i) (next i) (sym c.before.is-part.ensures ∙ c.if1.true)
 
 -- when it has come, if it is one
 joined : (c : tie.Joined1 invariant-loop decreases-loop) → let i = c.before.before.before in Brings i (parents i) c.if1.l
 joined c =
     let i = c.before.before.before in
     ⊎_elim (λ w. coming-more push-grows (part record { before = c.before; if1 = w.0 }) (w.2 ∙ w.1.ensures))
-    (λ w. coming-not (isPart (node i).datum.kind) (node i).place (parents i) (next i) (sym c.before.is-part.ensures ∙ w.0.left) w.1)
+    (λ w. coming-not (is_part (node i).datum.kind) (node i).place (parents i) (next i) (sym c.before.is-part.ensures ∙ w.0.left) w.1)
     c.if1.branch
 
 -- it is the first child

@@ -4,7 +4,7 @@ use mathlib.Core.Path.{◌≡◌, refl}
 use Prim.Native.Nat.{◌≤◌, ◌-◌}
 use lib.ListN.{drop, take, length}
 use Rattle.piece.specs.Insertion.{no_node}
-use Rattle.booking.specs.NewNodes.{addAll, noneNew}
+use Rattle.booking.specs.NewNodes.{add_all, none_new}
 use Rattle.booking.proofs.Runs.{next-entry, none_left}
 use Rattle.booking.proofs.Typed.{five-nodes}
 use Rattle.booking.proofs.new_nodes.new_nodes.Statement.{statement}
@@ -13,7 +13,7 @@ use borrow.Author.Rules.{rules}
 
 abbrev invariant-loop : tie.invariant-loop
 invariant-loop site count nodes new₀ i₀ new i =
-    (i ≤ count) × (new.count ≡ i) × (addAll site new (drop i (take count nodes)) ≡ addAll site noneNew (take count nodes))
+    (i ≤ count) × (new.count ≡ i) × (add_all site new (drop i (take count nodes)) ≡ add_all site none_new (take count nodes))
 
 abbrev decreases-loop : tie.decreases-loop
 decreases-loop site count nodes new₀ i₀ new i = count - i

@@ -4,7 +4,7 @@ use native.Mathlib.Omega.{arith}
 use lib.ListN.{length}
 use lib.Seq.{take_all, length-take-le}
 use Rattle.session.proofs.Given.{pending-sized}
-use Rattle.desk_frames.specs.Requests.{deskRequestOf}
+use Rattle.desk_frames.specs.Requests.{desk_request_of}
 use Rattle.desk_frames.proofs.Stepping.{desk-asks}
 use borrow.Author.Rules.{rules}
 use Rattle.desk_frames.proofs.listener.answer.Statement.{statement}
@@ -18,7 +18,7 @@ returns c =
     let r = c.before.before in
     let s = r.before.before.before.before.before.before in
     let p = s.args.pending in
-    desk-asks (ap deskRequestOf (take_all p.count p.bytes (omega (arith, sixty-four s)))) r.step.ensures
+    desk-asks (ap desk_request_of (take_all p.count p.bytes (omega (arith, sixty-four s)))) r.step.ensures
 
 array-share-prefix-bytes : tie.Need-array-share-prefix-bytes
 array-share-prefix-bytes c = omega (arith, sixty-four c.before.before.before)

@@ -1,16 +1,16 @@
 -- `read::why_not` meets its contract. Assumes nothing.
 use borrow.Author.Tests.{le-leb, lt-leb}
 use borrow.Author.Rules.{rules}
-use Rattle.desk_frames.specs.Requests.{readWhyNot}
+use Rattle.desk_frames.specs.Requests.{read_why_not}
 use Rattle.desk_frames.proofs.read.why_not.Statement.{statement}
 use Rattle.desk_frames.proofs.read.why_not.Tie as tie
 
 returns : tie.Need-returns
-unfolding readWhyNot
+unfolding read_why_not
 returns c = simp (c.no.ensures, lt-leb _ _ c.before.if1.true)
 
 returns-2 : tie.Need-returns-2
-unfolding readWhyNot
+unfolding read_why_not
 returns-2 c = simp (le-leb _ _ c.before.before.if1.false, c.before.mark-at.ensures, c.part_at.ensures)
 
 pub why-not-spec : {M : Type 1} → statement M

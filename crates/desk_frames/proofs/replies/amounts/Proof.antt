@@ -2,10 +2,10 @@
 use native.Mathlib.Omega.{arith}
 use Rattle.layout.specs.Check.{limit}
 use Rattle.layout.proofs.Typed.{typed-sized}
-use Rattle.saw.specs.Written.{amountBytes}
+use Rattle.saw.specs.Written.{amount_bytes}
 use Rattle.saw.proofs.Layouts.{amounts-length}
 use Rattle.desk_frames.specs.declared.Question.TheVariants.{Amounts}
-use Rattle.desk_frames.specs.Answers.{amountsFound, foundIn}
+use Rattle.desk_frames.specs.Answers.{amounts_found, found_in}
 use Rattle.desk_frames.proofs.Told.{told, refusal-told, sound-found, unsound-found, counted-bytes, lent-count, lent-refused, amounts-fit}
 use borrow.Author.Rules.{rules}
 use Rattle.desk_frames.proofs.replies.amounts.Statement.{statement}
@@ -17,30 +17,30 @@ entries-requires c κs =
     let o = k.before.before.before in
     let s = o.before.before.before in
     let l = s.args.layout in
-    let w = lent-count l (amountBytes l) limit _ o.amounts.ensures.1 o.amounts.ensures.0 k.n.given.1 in
+    let w = lent-count l (amount_bytes l) limit _ o.amounts.ensures.1 o.amounts.ensures.0 k.n.given.1 in
     (w.2, omega (arith, s.requires, w.1, amounts-fit l (typed-sized l _ s.well-formed.0) w.0))
 
 returns : tie.Need-returns
-unfolding foundIn
+unfolding found_in
 returns c =
     let e = c.before.before in
     let k = e.before.before.before.before in
     let o = k.before.before.before in
     let s = o.before.before.before in
     let l = s.args.layout in
-    let w = lent-count l (amountBytes l) limit _ o.amounts.ensures.1 o.amounts.ensures.0 k.n.given.1 in
+    let w = lent-count l (amount_bytes l) limit _ o.amounts.ensures.1 o.amounts.ensures.0 k.n.given.1 in
     told l Amounts (sound-found l w.0 (counted-bytes (omega (arith, w.1, amounts-length l)) w.3)) e.entries.ensures
 
 returns-2 : tie.Need-returns-2
-unfolding foundIn
+unfolding found_in
 returns-2 c =
     let k = c.before.before.before.before.before in
     let o = k.before.before.before in
     let s = o.before.before.before in
     let l = s.args.layout in
-    let w = lent-refused l (amountBytes l) limit _ o.amounts.ensures.1 o.amounts.ensures.0
+    let w = lent-refused l (amount_bytes l) limit _ o.amounts.ensures.1 o.amounts.ensures.0
     (λ h. omega (arith, amounts-fit l (typed-sized l _ s.well-formed.0) h)) k.refusal.given.1 in
-    refusal-told l Amounts (unsound-found l (amountsFound l) w.0 w.1) c.before.before.refused.ensures
+    refusal-told l Amounts (unsound-found l (amounts_found l) w.0 w.1) c.before.before.refused.ensures
 
 pub amounts-spec : {M : Type 1} → statement M
 amounts-spec =

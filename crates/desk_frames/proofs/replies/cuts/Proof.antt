@@ -3,10 +3,10 @@ use Prim.Native.Nat.{◌*◌}
 use native.Mathlib.Omega.{arith}
 use Rattle.layout.specs.Check.{limit}
 use Rattle.layout.proofs.Typed.{typed-sized}
-use Rattle.saw.specs.Written.{sawBytes}
+use Rattle.saw.specs.Written.{saw_bytes}
 use Rattle.saw.proofs.Layouts.{list_length}
 use Rattle.desk_frames.specs.declared.Question.TheVariants.{Cuts}
-use Rattle.desk_frames.specs.Answers.{cutsFound, foundIn}
+use Rattle.desk_frames.specs.Answers.{cuts_found, found_in}
 use Rattle.desk_frames.proofs.Told.{told, refusal-told, sound-found, unsound-found, counted-bytes, lent-count, lent-refused, cuts_fit}
 use borrow.Author.Rules.{rules}
 use Rattle.desk_frames.proofs.replies.cuts.Statement.{statement}
@@ -18,30 +18,30 @@ entries-requires c κs =
     let o = k.before.before.before in
     let s = o.before.before.before in
     let l = s.args.layout in
-    let w = lent-count l (sawBytes l) (9 * limit) _ o.cuts.ensures.1 o.cuts.ensures.0 k.n.given.1 in
+    let w = lent-count l (saw_bytes l) (9 * limit) _ o.cuts.ensures.1 o.cuts.ensures.0 k.n.given.1 in
     (w.2, omega (arith, s.requires, w.1, cuts_fit l (typed-sized l _ s.well-formed.0) w.0))
 
 returns : tie.Need-returns
-unfolding foundIn
+unfolding found_in
 returns c =
     let e = c.before.before in
     let k = e.before.before.before.before in
     let o = k.before.before.before in
     let s = o.before.before.before in
     let l = s.args.layout in
-    let w = lent-count l (sawBytes l) (9 * limit) _ o.cuts.ensures.1 o.cuts.ensures.0 k.n.given.1 in
+    let w = lent-count l (saw_bytes l) (9 * limit) _ o.cuts.ensures.1 o.cuts.ensures.0 k.n.given.1 in
     told l Cuts (sound-found l w.0 (counted-bytes (omega (arith, w.1, list_length l)) w.3)) e.entries.ensures
 
 returns-2 : tie.Need-returns-2
-unfolding foundIn
+unfolding found_in
 returns-2 c =
     let k = c.before.before.before.before.before in
     let o = k.before.before.before in
     let s = o.before.before.before in
     let l = s.args.layout in
-    let w = lent-refused l (sawBytes l) (9 * limit) _ o.cuts.ensures.1 o.cuts.ensures.0
+    let w = lent-refused l (saw_bytes l) (9 * limit) _ o.cuts.ensures.1 o.cuts.ensures.0
     (λ h. omega (arith, cuts_fit l (typed-sized l _ s.well-formed.0) h)) k.refusal.given.1 in
-    refusal-told l Cuts (unsound-found l (cutsFound l) w.0 w.1) c.before.before.refused.ensures
+    refusal-told l Cuts (unsound-found l (cuts_found l) w.0 w.1) c.before.before.refused.ensures
 
 pub cuts-spec : {M : Type 1} → statement M
 cuts-spec =

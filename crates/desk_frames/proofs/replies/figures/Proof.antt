@@ -6,27 +6,27 @@ use Prim.Native.Nat.{ℕ}
 use lib.Ieee.{binary64, to_bits}
 use borrow.Author.Rules.{rules}
 use Rattle.piece.specs.Sides.{area}
-use Rattle.tree.specs.Figures.{partArea, sheetUsage, treeUsage}
+use Rattle.tree.specs.Figures.{part_area, sheet_usage, tree_usage}
 use Rattle.marks.specs.declared.Refusal.TheVariants.{NotSound}
 use Rattle.layout.specs.declared.layout.Layout.{Layout}
-use Rattle.layout.specs.Check.{tree, soundB}
+use Rattle.layout.specs.Check.{tree, sound_b}
 use Rattle.layout.specs.SoundLayout.{SoundLayout}
 use Rattle.layout.proofs.Typed.{typed-sized}
 use Rattle.layout.proofs.Exactly.{sound-says}
 use Rattle.questions.proofs.Usage.{sheet-usage-number, tree-usage-number}
 use Rattle.frames.specs.Writing.{LinePut}
 use Rattle.desk_frames.specs.declared.Question.TheVariants.{Figures}
-use Rattle.desk_frames.specs.Answers.{refusedWith, figuresBytes, yesNo, figuresOf, foundIn, contentFor, Tells}
+use Rattle.desk_frames.specs.Answers.{refused_with, figures_bytes, yes_no, figures_of, found_in, content_for, Tells}
 use Rattle.desk_frames.proofs.Told.{told, sound-found, unsound-found}
 use Rattle.desk_frames.proofs.Figured.{used-is, free-is, nodes-is, empty-is, sheet-is, tree_is, used-not, free-not, nodes-not, empty-not, sheet-not, tree-not}
 use Rattle.desk_frames.proofs.replies.figures.Statement.{statement}
 use Rattle.desk_frames.proofs.replies.figures.Tie as tie
 
 -- refused, since the layout isn't sound
-refused-figures : (l : Layout) → soundB l ≡ false → {before after : List ℕ} {n : ℕ} → LinePut before (contentFor 22 (refusedWith NotSound)) after n
+refused-figures : (l : Layout) → sound_b l ≡ false → {before after : List ℕ} {n : ℕ} → LinePut before (content_for 22 (refused_with NotSound)) after n
     → Tells l Figures before after n
-unfolding foundIn
-refused-figures l h y = told l Figures (unsound-found l (figuresBytes (figuresOf l)) h refl) y
+unfolding found_in
+refused-figures l h y = told l Figures (unsound-found l (figures_bytes (figures_of l)) h refl) y
 
 returns : tie.Need-returns
 returns c =
@@ -90,16 +90,16 @@ module _ (c : tie.After-yes-no) where
   abbrev the-layout : Layout
   the-layout = begun.args.layout
 
-  used : (soundB the-layout ≡ true) × (with-used.used.given.0.0 ≡ partArea (tree the-layout))
+  used : (sound_b the-layout ≡ true) × (with-used.used.given.0.0 ≡ part_area (tree the-layout))
   used = used-is the-layout with-used.before.before.used-area.ensures with-used.used.given.1
 
   stands : SoundLayout the-layout
   stands = sound-says the-layout (typed-sized the-layout _ begun.good.0) used.0
 
-  sheet : with-sheet.sheet.given.0.0 ≡ sheetUsage (partArea (tree the-layout)) (area the-layout.settings.sheet)
+  sheet : with-sheet.sheet.given.0.0 ≡ sheet_usage (part_area (tree the-layout)) (area the-layout.settings.sheet)
   sheet = (sheet-is the-layout with-sheet.before.before.sheet-usage.ensures with-sheet.sheet.given.1).1
 
-  usage : with-tree.tree.given.0.0 ≡ treeUsage (tree the-layout)
+  usage : with-tree.tree.given.0.0 ≡ tree_usage (tree the-layout)
   usage = (tree_is the-layout with-tree.before.before.tree-usage.ensures with-tree.tree.given.1).1
 
 float-to-bits-t30 : tie.Need-float-to-bits-t30
@@ -109,18 +109,18 @@ float-to-bits-t31 : tie.Need-float-to-bits-t31
 float-to-bits-t31 c = rw (usage c) (tree-usage-number (the-layout c) (stands c))
 
 returns-7 : tie.Need-returns-7
-unfolding foundIn
+unfolding found_in
 returns-7 c =
     let y = c.before.before.before in
     let l = the-layout y in
     let free = (free-is l (with-free y).before.before.free-area.ensures (with-free y).free.given.1).1 in
     let nodes = (nodes-is l (with-nodes y).before.before.nodes-held.ensures (with-nodes y).nodes.given.1).1 in
-    let empty = y.yes-no.ensures ∙ ap yesNo (empty-is l (with-empty y).before.before.is-empty.ensures (with-empty y).empty.given.1).1 in
+    let empty = y.yes-no.ensures ∙ ap yes_no (empty-is l (with-empty y).before.before.is-empty.ensures (with-empty y).empty.given.1).1 in
     let sheet-bits = ap (to_bits binary64) (sheet y) in
     let tree-bits = ap (to_bits binary64) (usage y) in
     told l Figures
     (sound-found l (used y).0
-    (ap figuresBytes
+    (ap figures_bytes
     (λ i. record { used = (used y).1 i; free = free i; nodes = nodes i; empty = empty i; sheet = sheet-bits i; tree = tree-bits i })))
     c.before.before.figures.ensures
 

@@ -3,9 +3,9 @@ use Prim.Native.Nat.{◌*◌}
 use native.Mathlib.Omega.{arith}
 use Rattle.layout.specs.Check.{limit}
 use Rattle.layout.proofs.Typed.{typed-sized}
-use Rattle.questions.specs.Written.{snapshotBytes}
+use Rattle.questions.specs.Written.{snapshot_bytes}
 use Rattle.desk_frames.specs.declared.Question.TheVariants.{Snapshot}
-use Rattle.desk_frames.specs.Answers.{snapshotFound, foundIn}
+use Rattle.desk_frames.specs.Answers.{snapshot_found, found_in}
 use Rattle.desk_frames.proofs.Told.{told, refusal-told, sound-found, unsound-found, counted-bytes, lent-count, lent-refused, snapshot-count}
 use borrow.Author.Rules.{rules}
 use Rattle.desk_frames.proofs.replies.snapshot.Statement.{statement}
@@ -17,30 +17,30 @@ entries-requires c κs =
     let o = k.before.before.before in
     let s = o.before.before.before in
     let l = s.args.layout in
-    let w = lent-count l (snapshotBytes l) (14 * limit) _ o.snapshot.ensures.1 o.snapshot.ensures.0 k.n.given.1 in
+    let w = lent-count l (snapshot_bytes l) (14 * limit) _ o.snapshot.ensures.1 o.snapshot.ensures.0 k.n.given.1 in
     (w.2, omega (arith, s.requires, w.1, snapshot-count l (typed-sized l _ s.well-formed.0) w.0))
 
 returns : tie.Need-returns
-unfolding foundIn
+unfolding found_in
 returns c =
     let e = c.before.before in
     let k = e.before.before.before.before in
     let o = k.before.before.before in
     let s = o.before.before.before in
     let l = s.args.layout in
-    let w = lent-count l (snapshotBytes l) (14 * limit) _ o.snapshot.ensures.1 o.snapshot.ensures.0 k.n.given.1 in
+    let w = lent-count l (snapshot_bytes l) (14 * limit) _ o.snapshot.ensures.1 o.snapshot.ensures.0 k.n.given.1 in
     told l Snapshot (sound-found l w.0 (counted-bytes (omega (arith, w.1, snapshot-count l (typed-sized l _ s.well-formed.0) w.0)) w.3)) e.entries.ensures
 
 returns-2 : tie.Need-returns-2
-unfolding foundIn
+unfolding found_in
 returns-2 c =
     let k = c.before.before.before.before.before in
     let o = k.before.before.before in
     let s = o.before.before.before in
     let l = s.args.layout in
-    let w = lent-refused l (snapshotBytes l) (14 * limit) _ o.snapshot.ensures.1 o.snapshot.ensures.0
+    let w = lent-refused l (snapshot_bytes l) (14 * limit) _ o.snapshot.ensures.1 o.snapshot.ensures.0
     (λ h. omega (arith, snapshot-count l (typed-sized l _ s.well-formed.0) h)) k.refusal.given.1 in
-    refusal-told l Snapshot (unsound-found l (snapshotFound l) w.0 w.1) c.before.before.refused.ensures
+    refusal-told l Snapshot (unsound-found l (snapshot_found l) w.0 w.1) c.before.before.refused.ensures
 
 pub snapshot-spec : {M : Type 1} → statement M
 snapshot-spec =

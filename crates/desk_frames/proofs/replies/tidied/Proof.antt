@@ -1,5 +1,5 @@
 -- `replies::tidied` meets its contract. Assumes nothing.
-use Rattle.frames.specs.Answers.{contentOf}
+use Rattle.frames.specs.Answers.{content_of}
 use borrow.Author.Rules.{rules}
 use Rattle.desk_frames.proofs.replies.tidied.Statement.{statement}
 use Rattle.desk_frames.proofs.replies.tidied.Tie as tie
@@ -8,7 +8,7 @@ returns : tie.Need-returns
 returns c = rw c.before.before.before.before.enum_told.given.1 c.before.before.count.ensures
 
 returns-2 : tie.Need-returns-2
-unfolding contentOf
+unfolding content_of
 returns-2 c = rw c.before.before.before.before.before.outcome.given.1 c.before.before.refused.ensures
 
 pub tidied-spec : {M : Type 1} → statement M

@@ -1,11 +1,11 @@
 -- `replies::unsound` meets its contract. Assumes nothing.
-use Rattle.frames.specs.Answers.{contentOf}
+use Rattle.frames.specs.Answers.{content_of}
 use borrow.Author.Rules.{rules}
 use Rattle.desk_frames.proofs.replies.unsound.Statement.{statement}
 use Rattle.desk_frames.proofs.replies.unsound.Tie as tie
 
 returns : tie.Need-returns
-unfolding contentOf
+unfolding content_of
 returns c = c.before.before.refused.ensures
 
 pub unsound-spec : {M : Type 1} → statement M

@@ -1,13 +1,13 @@
 -- `replies::why_not` meets its contract. Assumes nothing.
 use Rattle.desk_frames.specs.declared.Question.TheVariants.{WhyNot}
-use Rattle.desk_frames.specs.Answers.{foundIn}
+use Rattle.desk_frames.specs.Answers.{found_in}
 use Rattle.desk_frames.proofs.Told.{told, refusal-told, reasons-found, why-refused}
 use borrow.Author.Rules.{rules}
 use Rattle.desk_frames.proofs.replies.why_not.Statement.{statement}
 use Rattle.desk_frames.proofs.replies.why_not.Tie as tie
 
 returns : tie.Need-returns
-unfolding foundIn
+unfolding found_in
 returns c =
     let p = c.before.before in
     let rotated = p.before in
@@ -19,7 +19,7 @@ returns c =
     (reasons-found w.why-not.ensures k.enum_told.given.1 default.number.ensures rotated.number2.ensures) p.pair.ensures
 
 returns-2 : tie.Need-returns-2
-unfolding foundIn
+unfolding found_in
 returns-2 c =
     let k = c.before.before.before.before.before in
     let w = k.before.before in

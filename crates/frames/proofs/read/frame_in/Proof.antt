@@ -1,4 +1,4 @@
--- `read::frame_in` meets its contract: each exit is a clause of `isFrame`. Assumes nothing.
+-- `read::frame_in` meets its contract: each exit is a clause of `is_frame`. Assumes nothing.
 use Rattle.std.proofs.Common.{sym, ◌∙◌, rules}
 use Rattle.frames.proofs.Requests.{too_long, odd, no_digit, wrong-sum, a-frame, reads_none, reads-one}
 use Rattle.frames.proofs.read.frame_in.Statement.{statement}

@@ -1,26 +1,26 @@
 -- `read::insert` meets its contract. Assumes nothing.
 use Rattle.std.proofs.Common.{rules, le-leb}
 use borrow.Author.Tests.{lt-leb}
-use Rattle.frames.specs.Requests.{readInsert}
+use Rattle.frames.specs.Requests.{read_insert}
 use Rattle.frames.proofs.Fields.{insert-read}
 use Rattle.frames.proofs.read.insert.Statement.{statement}
 use Rattle.frames.proofs.read.insert.Tie as tie
 
 returns : tie.Need-returns
-unfolding readInsert
+unfolding read_insert
 returns c = simp (lt-leb _ _ c.if1.true)
 
 returns-2 : tie.Need-returns-2
-unfolding readInsert
+unfolding read_insert
 returns-2 c = simp (le-leb _ _ c.before.if1.false, lt-leb _ _ c.if2.true)
 
 returns-3 : tie.Need-returns-3
-unfolding readInsert
+unfolding read_insert
 returns-3 c =
     simp (le-leb _ _ c.before.before.if1.false, le-leb _ _ c.before.if2.false, lt-leb _ _ c.if3.true)
 
 returns-4 : tie.Need-returns-4
-unfolding readInsert
+unfolding read_insert
 returns-4 c =
     simp (
       le-leb _ _ c.before.before.before.if1.false,

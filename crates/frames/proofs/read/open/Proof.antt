@@ -1,16 +1,16 @@
 -- `read::open` meets its contract. Assumes nothing.
 use Rattle.std.proofs.Common.{rules, le-leb}
 use borrow.Author.Tests.{lt-leb}
-use Rattle.frames.specs.Requests.{readOpen}
+use Rattle.frames.specs.Requests.{read_open}
 use Rattle.frames.proofs.read.open.Statement.{statement}
 use Rattle.frames.proofs.read.open.Tie as tie
 
 returns : tie.Need-returns
-unfolding readOpen
+unfolding read_open
 returns c = simp (lt-leb _ _ c.if1.true)
 
 returns-2 : tie.Need-returns-2
-unfolding readOpen
+unfolding read_open
 returns-2 c =
     let s = c.before in
     let n = s.before.before.before in

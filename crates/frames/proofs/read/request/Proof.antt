@@ -1,24 +1,24 @@
--- `read::request` meets its contract: each exit is a clause of `lineAsks`, by the counter's forms. Assumes nothing.
+-- `read::request` meets its contract: each exit is a clause of `line_asks`, by the counter's forms. Assumes nothing.
 use Rattle.std.proofs.Common.{sym, ◌∙◌, rules}
 use Rattle.frames.specs.declared.Request.TheVariants.{Malformed}
-use Rattle.frames.specs.Requests.{form_of, length_of, askedBy, requestOf}
+use Rattle.frames.specs.Requests.{form_of, length_of, asked_by, request_of}
 use Rattle.frames.proofs.Requests.{no-frame, wrong-length, well}
 use Rattle.frames.proofs.read.request.Statement.{statement}
 use Rattle.frames.proofs.read.request.Tie as tie
 
 returns : tie.Need-returns
-unfolding requestOf
+unfolding request_of
 returns c = no-frame Malformed form_of _ (sym c.before.frame-in.ensures.good ∙ c.if1.false)
 
 returns-2 : tie.Need-returns-2
-unfolding requestOf length_of
+unfolding request_of length_of
 returns-2 c =
     let l = c.before.before in
     let t = l.before.before in
     wrong-length Malformed form_of _ t.before.frame-in.ensures t.if1.true (λ h. c.if2.true (h ∙ sym l.length-of.ensures))
 
 returns-3 : tie.Need-returns-3
-unfolding requestOf length_of askedBy
+unfolding request_of length_of asked_by
 returns-3 c =
     let e = c.before.before in
     let l = e.before.before in

@@ -1,7 +1,7 @@
 -- `write::inserted` meets its contract. Assumes nothing.
 use Rattle.std.proofs.Common.{ℕ, ◌≤◌, ◌∷◌, ◌++◌, length, take, refl, ap, arith, length-take-le, rules}
-use Rattle.frames.specs.Answers.{each, contentOf}
-use Rattle.frames.specs.Fields.{markBytes}
+use Rattle.frames.specs.Answers.{each, content_of}
+use Rattle.frames.specs.Fields.{mark_bytes}
 use Rattle.frames.proofs.Writing.{answered, and_then, length_taken, end-room}
 use Rattle.frames.proofs.write.inserted.Statement.{statement}
 use Rattle.frames.proofs.write.inserted.Tie as tie
@@ -17,10 +17,10 @@ end-requires c κs =
     let b = f.before.before.before.before in
     let s = b.before.before.before in
     end-room (and_then b.begin.ensures (and_then f.put-mark.ensures (and_then p.put-mark2.ensures o.put-marks.ensures)))
-    (omega (arith, s.requires, length_taken markBytes 7 (λ x. refl) s.args.frees s.args.count (two-frees s)))
+    (omega (arith, s.requires, length_taken mark_bytes 7 (λ x. refl) s.args.frees s.args.count (two-frees s)))
 
 returns : tie.Need-returns
-unfolding contentOf
+unfolding content_of
 returns c =
     let e = c.before.before in
     let o = e.before.before.before.before in
@@ -30,7 +30,7 @@ returns c =
     let s = b.before.before.before in
     let a = s.args in
     answered
-    (ap (λ (n : ℕ). 3 ∷ 0 ∷ (markBytes a.first ++ (markBytes a.part ++ (n ∷ each markBytes (take a.count a.frees)))))
+    (ap (λ (n : ℕ). 3 ∷ 0 ∷ (mark_bytes a.first ++ (mark_bytes a.part ++ (n ∷ each mark_bytes (take a.count a.frees)))))
     (length-take-le a.count a.frees (two-frees s)))
     (and_then b.begin.ensures (and_then f.put-mark.ensures (and_then p.put-mark2.ensures o.put-marks.ensures)))
     e.end.ensures

@@ -1,12 +1,12 @@
 -- `write::malformed` meets its contract. Assumes nothing.
 use Rattle.std.proofs.Common.{refl, rules}
-use Rattle.frames.specs.Answers.{contentOf}
+use Rattle.frames.specs.Answers.{content_of}
 use Rattle.frames.proofs.Writing.{answered}
 use Rattle.frames.proofs.write.malformed.Statement.{statement}
 use Rattle.frames.proofs.write.malformed.Tie as tie
 
 pub malformed-spec : {M : Type 1} → statement M
-unfolding contentOf
+unfolding content_of
 malformed-spec =
     tie.close
     (tie.spec

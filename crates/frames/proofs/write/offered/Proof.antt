@@ -1,7 +1,7 @@
 -- `write::offered` meets its contract. Assumes nothing.
 use Rattle.std.proofs.Common.{◌≡◌, ℕ, ◌≤◌, ◌∷◌, length, take, sym, refl, ap, ◌∙◌, arith, length-take-le, rules}
 use lib.ListN.{length-map}
-use Rattle.frames.specs.Answers.{each, offerBytes, contentOf}
+use Rattle.frames.specs.Answers.{each, offer_bytes, content_of}
 use Rattle.frames.proofs.Writing.{answered, and_then, length_taken, end-room}
 use Rattle.frames.proofs.write.offered.Statement.{statement}
 use Rattle.frames.proofs.write.offered.Tie as tie
@@ -17,10 +17,10 @@ end-requires c κs =
     let b = o.before.before.before.before in
     let s = b.before.before.before in
     end-room (and_then b.begin.ensures o.put-offers.ensures)
-    (omega (arith, s.requires, length_taken offerBytes 2 (λ x. refl) s.args.offers.list s.args.offers.count (four-offers s)))
+    (omega (arith, s.requires, length_taken offer_bytes 2 (λ x. refl) s.args.offers.list s.args.offers.count (four-offers s)))
 
 returns : tie.Need-returns
-unfolding contentOf
+unfolding content_of
 returns c =
     let e = c.before.before in
     let o = e.before.before.before.before in
@@ -28,7 +28,7 @@ returns c =
     let s = b.before.before.before in
     let x = s.args.offers in
     answered
-    (ap (λ (n : ℕ). 2 ∷ 0 ∷ n ∷ each offerBytes (take x.count x.list)) (length-take-le x.count x.list (four-offers s)))
+    (ap (λ (n : ℕ). 2 ∷ 0 ∷ n ∷ each offer_bytes (take x.count x.list)) (length-take-le x.count x.list (four-offers s)))
     (and_then b.begin.ensures o.put-offers.ensures)
     e.end.ensures
 

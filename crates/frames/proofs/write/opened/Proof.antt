@@ -1,12 +1,12 @@
 -- `write::opened` meets its contract. Assumes nothing.
 use Rattle.std.proofs.Common.{refl, rules}
-use Rattle.frames.specs.Answers.{contentOf}
+use Rattle.frames.specs.Answers.{content_of}
 use Rattle.frames.proofs.Writing.{answered, and_then}
 use Rattle.frames.proofs.write.opened.Statement.{statement}
 use Rattle.frames.proofs.write.opened.Tie as tie
 
 returns : tie.Need-returns
-unfolding contentOf
+unfolding content_of
 returns c =
     let e = c.before.before in
     let m = e.before.before.before.before in

@@ -1,12 +1,12 @@
 -- `write::put_marks` meets its contract. The loop has written the first i marks, of two. Assumes nothing.
 use Rattle.std.proofs.Common.{◌-◌, ◌≤◌, length, refl, arith}
-use Rattle.frames.specs.Fields.{markBytes}
+use Rattle.frames.specs.Fields.{mark_bytes}
 use Rattle.frames.proofs.Writing.{and_then, none_yet, turn, whole, same-room, Turns, next-room}
 use Rattle.frames.proofs.write.put_marks.Statement.{statement}
 use Rattle.frames.proofs.write.put_marks.Tie as tie
 
 abbrev invariant-loop : tie.invariant-loop
-invariant-loop out₀ count marks next₀ i₀ out next i = Turns markBytes marks count out₀ next₀ i out next
+invariant-loop out₀ count marks next₀ i₀ out next i = Turns mark_bytes marks count out₀ next₀ i out next
 
 abbrev decreases-loop : tie.decreases-loop
 decreases-loop out₀ count marks next₀ i₀ out next i = count - i

@@ -1,13 +1,13 @@
 -- `write::put_offers` meets its contract. The loop has written the first i offers, of four. Assumes nothing.
 use Rattle.std.proofs.Common.{◌≡◌, ◌-◌, ◌≤◌, length, sym, refl, ◌∙◌, arith}
 use lib.ListN.{length-map}
-use Rattle.frames.specs.Answers.{offerBytes}
+use Rattle.frames.specs.Answers.{offer_bytes}
 use Rattle.frames.proofs.Writing.{and_then, none_yet, turn, whole, same-room, Turns, next-room}
 use Rattle.frames.proofs.write.put_offers.Statement.{statement}
 use Rattle.frames.proofs.write.put_offers.Tie as tie
 
 abbrev invariant-loop : tie.invariant-loop
-invariant-loop out₀ offers count next₀ i₀ out next i = Turns offerBytes offers.list count out₀ next₀ i out next
+invariant-loop out₀ offers count next₀ i₀ out next i = Turns offer_bytes offers.list count out₀ next₀ i out next
 
 abbrev decreases-loop : tie.decreases-loop
 decreases-loop out₀ offers count next₀ i₀ out next i = count - i

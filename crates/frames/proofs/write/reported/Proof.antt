@@ -1,12 +1,12 @@
 -- `write::reported` meets its contract. Assumes nothing.
 use Rattle.std.proofs.Common.{refl, rules}
-use Rattle.frames.specs.Answers.{contentOf}
+use Rattle.frames.specs.Answers.{content_of}
 use Rattle.frames.proofs.Writing.{answered, and_then}
 use Rattle.frames.proofs.write.reported.Statement.{statement}
 use Rattle.frames.proofs.write.reported.Tie as tie
 
 returns : tie.Need-returns
-unfolding contentOf
+unfolding content_of
 returns c =
     let e = c.before.before in
     let bits = e.before.before.before.before in

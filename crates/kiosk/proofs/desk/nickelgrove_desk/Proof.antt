@@ -43,8 +43,8 @@ use denote.Triple.Spec.{Meets, triple_of}
 use denote.Triple.Table.{entered, cited}
 use denote.Triple.Walked.{says, Stays, stay_ref, stay_none_slice, walk_of, AllGo, Goes-ref, Goes-none_slice, Walks, ends_at, walked, walk_Meets}
 use denote.Exit.{yes}
-use Rattle.desk_frames.specs.Requests.{deskRequestOf}
-use Rattle.desk_frames.specs.Desk.{deskLongest}
+use Rattle.desk_frames.specs.Requests.{desk_request_of}
+use Rattle.desk_frames.specs.Desk.{desk_longest}
 use Rattle.kiosk.specs.Desk.{DeskAnswered}
 use Rattle.kiosk.specs.declared.desk.DeskRecord.{DeskRecord}
 use Rattle.kiosk.specs.declared.records.SessionRecord.{SessionRecord}
@@ -66,13 +66,13 @@ abbrev R : RattleType
 R = T.the_row
 
 abbrev L : RattleType
-L = Array u8 deskLongest
+L = Array u8 desk_longest
 
 abbrev U : RattleType
 U = S.the_row
 
 abbrev line-slot : Slot 3
-line-slot = array_of (plain (λ _. u8)) deskLongest
+line-slot = array_of (plain (λ _. u8)) desk_longest
 
 abbrev stayed : Stays (f.ended).signature.params (f.ended).kept
 stayed =
@@ -135,7 +135,7 @@ module _ {M : Type 1} {𝓤 : Ura M} (𝓛 : Logic 𝓤) (at_mem : Memory → SP
 
   -- what `desk_stepped` ensures
   abbrev Said : DeskRecord → Type 0
-  Said r = DeskAnswered h (deskRequestOf s.now) r.session r.line r.count
+  Said r = DeskAnswered h (desk_request_of s.now) r.session r.line r.count
 
   said : (r : DeskRecord) → ent 𝓤 (ensured 𝓛 g.ended (g.clauses 𝓛 at_mem run) (κ₁, tt) (h, (s, tt)) tt r) (fact 𝓤 (Said r))
   said r = ex_e 𝓤 _ (λ ws. snd∗ 𝓤 (sem 𝓛 (lasts g.ended (κ₁, tt) (h, (s, tt)) ws)) (fact 𝓤 (Said r)))
@@ -184,13 +184,13 @@ module _ {M : Type 1} {𝓤 : Ura M} (𝓛 : Logic 𝓤) (at_mem : Memory → SP
         (store_raw ! 3 refl ((LL.lawful T.the_type T'.the_laws 𝓛).typed r.session (of-session r.session) (session-is r w is)).0) $
         -- the answer's borrow is opened, and the line is stored
         move ! (9 ∷ 10 ∷ 7 ∷ []) $
-        opens ! tt L {h = l} b₂ o₂ (λ vs₂. spelt ! L (Is L) (shows 𝓛 L) of-line (Array-Tells u8 (uint_vals w8) (uint_Tells w8) deskLongest) full_share l vs₂ b₂ o₂ $
+        opens ! tt L {h = l} b₂ o₂ (λ vs₂. spelt ! L (Is L) (shows 𝓛 L) of-line (Array-Tells u8 (uint_vals w8) (uint_Tells w8) desk_longest) full_share l vs₂ b₂ o₂ $
         -- [the answer's cell; what it owns; the open borrow; obs; auth; the result; the line's token; the line; the session's cell; the open borrow; obs; auth; true; true; _5; …]
         assigns ! (of_opd ! (load ! (from ! (fld ! refl (stop !))) (look_in ! 16 (sub ! 1 refl (whole !))))) (from ! (hop ! (look ! 18 refl) (stop !)))
-        (store_raw ! 0 refl ((Array-Lawful 𝓛 u8 (uint_Lawful 𝓛 w8) deskLongest).typed r.line (of-line r.line) (line-is r w is)).0) $
+        (store_raw ! 0 refl ((Array-Lawful 𝓛 u8 (uint_Lawful 𝓛 w8) desk_longest).typed r.line (of-line r.line) (line-is r w is)).0) $
         assigns ! (of_opd ! (load ! (from ! (fld ! refl (stop !))) (look_in ! 16 (sub ! 2 refl (whole !))))) (from ! (stop !)) (init ! 24 refl (tt, record { fits = count-is r w is })) $
         -- both borrows are closed, the answer's first
-        move ! (1 ∷ []) $ drop ! $ owned ! L (Is L) (Array-Makes 𝓛 u8 (uint_Makes 𝓛 w8) deskLongest) r.line (of-line r.line) (line-is r w is) $ move ! (1 ∷ 0 ∷ []) $ closes ! tt L r.line (of-line r.line) b₂ o₂ $
+        move ! (1 ∷ []) $ drop ! $ owned ! L (Is L) (Array-Makes 𝓛 u8 (uint_Makes 𝓛 w8) desk_longest) r.line (of-line r.line) (line-is r w is) $ move ! (1 ∷ 0 ∷ []) $ closes ! tt L r.line (of-line r.line) b₂ o₂ $
         move ! (6 ∷ 7 ∷ 8 ∷ 9 ∷ []) $ owned ! R (Is R) (LL.makes T.the_type T'.the_plain 𝓛) r.session (of-session r.session) (session-is r w is) $ move ! (1 ∷ 0 ∷ []) $ closes ! tt R r.session (of-session r.session) b o $
         -- [the session's obs; its borrow; its token; the answer's obs; its borrow; its token; the result; the line's token; the line; true; true; _5; …; _4; …; _3; …; _2; …; _1; …; _0; …]
         returns ! (look ! 21 refl) $ forget ! 11 refl $ forget ! 13 refl $ forget ! 15 refl $ forget ! 17 refl $ forget ! 19 refl $ forget ! 21 refl $

@@ -11,12 +11,12 @@ use Rattle.lists.specs.Lists.{limit}
 use Rattle.lists.specs.Search.{every}
 use Rattle.lists.proofs.Scan.{every-none, every_more, every-fails}
 use Rattle.kiosk.specs.declared.records.NodeRecord.{NodeRecord}
-use Rattle.kiosk.specs.Records.{listedB, allListedB, noRecord}
+use Rattle.kiosk.specs.Records.{listed_b, all_listed_b, no_record}
 use Rattle.kiosk.proofs.records.all_listed.Statement.{statement}
 use Rattle.kiosk.proofs.records.all_listed.Tie as tie
 
 abbrev listed_at : List NodeRecord → ℕ → Bool
-listed_at rs i = listedB (get_or rs i noRecord)
+listed_at rs i = listed_b (get_or rs i no_record)
 
 abbrev invariant-loop : tie.invariant-loop
 invariant-loop records i₀ i = (i ≤ limit) × (every (listed_at records) i ≡ true)
@@ -28,7 +28,7 @@ loop-holds : tie.Need-loop-init invariant-loop decreases-loop
 loop-holds c = (omega arith, every-none (listed_at c.args.t1))
 
 returns : tie.Need-returns invariant-loop decreases-loop
-unfolding allListedB
+unfolding all_listed_b
 returns c =
     let s = c.before.before.before.before.before in
     let l = c.before.before.before.before.loop in
@@ -45,7 +45,7 @@ loop-again c =
     (omega arith, every_more (listed_at s.args.t1) l.i l.invariant.1 z)
 
 returns-2 : tie.Need-returns-2 invariant-loop decreases-loop
-unfolding allListedB
+unfolding all_listed_b
 returns-2 c =
     let s = c.before.before in
     let l = c.before.loop in

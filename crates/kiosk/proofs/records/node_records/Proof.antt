@@ -6,13 +6,13 @@ use lib.ListN.{length, replicate}
 use borrow.Author.Rules.{rules}
 use Rattle.lists.specs.Lists.{limit}
 use Rattle.lists.proofs.Fill.{filled, fill_more, fill-column}
-use Rattle.table.specs.Table.{zeroNode}
-use Rattle.kiosk.specs.Records.{noRecord, nodeRecord, nodeRecords}
+use Rattle.table.specs.Table.{zero_node}
+use Rattle.kiosk.specs.Records.{no_record, node_record, node_records}
 use Rattle.kiosk.proofs.records.node_records.Statement.{statement}
 use Rattle.kiosk.proofs.records.node_records.Tie as tie
 
 abbrev invariant-loop : tie.invariant-loop
-invariant-loop nodes records₀ i₀ records i = (i ≤ limit) × (records ≡ filled (replicate limit noRecord) (nodeRecords nodes) i)
+invariant-loop nodes records₀ i₀ records i = (i ≤ limit) × (records ≡ filled (replicate limit no_record) (node_records nodes) i)
 
 abbrev decreases-loop : tie.decreases-loop
 decreases-loop nodes records₀ i₀ records i = limit - i
@@ -27,7 +27,7 @@ loop-again c =
     let t = s.args.t1 in
     let len : length t ≡ limit = s.well-formed.0.1.0.1 in
     let h : l.i < limit = omega arith in
-    (omega arith, fill_more nodeRecord t len zeroNode (replicate limit noRecord) l.records l.i _ l.invariant.1 h c.node-record.ensures)
+    (omega arith, fill_more node_record t len zero_node (replicate limit no_record) l.records l.i _ l.invariant.1 h c.node-record.ensures)
 
 returns : tie.Need-returns invariant-loop decreases-loop
 returns c =
@@ -35,7 +35,7 @@ returns c =
     let s = c.before.before.before in
     let t = s.args.t1 in
     let len : length t ≡ limit = s.well-formed.0.1.0.1 in
-    fill-column nodeRecord t len (replicate limit noRecord) refl l.records l.i l.invariant.1 (omega arith)
+    fill-column node_record t len (replicate limit no_record) refl l.records l.i l.invariant.1 (omega arith)
 
 pub node-records-spec : {M : Type 1} → statement M
 node-records-spec =

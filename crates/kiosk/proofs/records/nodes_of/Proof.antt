@@ -6,13 +6,13 @@ use lib.ListN.{length, replicate}
 use borrow.Author.Rules.{rules}
 use Rattle.lists.specs.Lists.{limit}
 use Rattle.lists.proofs.Fill.{filled, fill_more, fill-column}
-use Rattle.table.specs.Table.{zeroNode}
-use Rattle.kiosk.specs.Records.{noRecord, nodeOfRecord, nodesOfRecords}
+use Rattle.table.specs.Table.{zero_node}
+use Rattle.kiosk.specs.Records.{no_record, node_of_record, nodes_of_records}
 use Rattle.kiosk.proofs.records.nodes_of.Statement.{statement}
 use Rattle.kiosk.proofs.records.nodes_of.Tie as tie
 
 abbrev invariant-loop : tie.invariant-loop
-invariant-loop records nodes₀ i₀ nodes i = (i ≤ limit) × (nodes ≡ filled (replicate limit zeroNode) (nodesOfRecords records) i)
+invariant-loop records nodes₀ i₀ nodes i = (i ≤ limit) × (nodes ≡ filled (replicate limit zero_node) (nodes_of_records records) i)
 
 abbrev decreases-loop : tie.decreases-loop
 decreases-loop records nodes₀ i₀ nodes i = limit - i
@@ -27,7 +27,7 @@ loop-again c =
     let t = s.args.t1 in
     let len : length t ≡ limit = s.well-formed.0.1.0.1 in
     let h : l.i < limit = omega arith in
-    (omega arith, fill_more nodeOfRecord t len noRecord (replicate limit zeroNode) l.nodes l.i _ l.invariant.1 h c.node_of.ensures)
+    (omega arith, fill_more node_of_record t len no_record (replicate limit zero_node) l.nodes l.i _ l.invariant.1 h c.node_of.ensures)
 
 returns : tie.Need-returns invariant-loop decreases-loop
 returns c =
@@ -35,7 +35,7 @@ returns c =
     let s = c.before.before.before in
     let t = s.args.t1 in
     let len : length t ≡ limit = s.well-formed.0.1.0.1 in
-    fill-column nodeOfRecord t len (replicate limit zeroNode) refl l.nodes l.i l.invariant.1 (omega arith)
+    fill-column node_of_record t len (replicate limit zero_node) refl l.nodes l.i l.invariant.1 (omega arith)
 
 pub nodes-of-spec : {M : Type 1} → statement M
 nodes-of-spec =

@@ -1,4 +1,4 @@
--- `part_ok` meets its contract: each way out is one outcome of the tests of `partB`.
+-- `part_ok` meets its contract: each way out is one outcome of the tests of `part_b`.
 use borrow.Author.Rules.{rules}
 use Rattle.sound.proofs.Chain.{pass-by, stop-by}
 use Rattle.layout.proofs.asked.part_ok.Statement.{statement}

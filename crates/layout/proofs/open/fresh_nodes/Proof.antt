@@ -2,13 +2,13 @@
 use mathlib.Core.Path.{refl}
 use borrow.Author.Rules.{rules}
 use Rattle.table.specs.Table.{append}
-use Rattle.table.specs.Steps.{topOnly}
-use Rattle.layout.specs.Open.{freshNodes}
+use Rattle.table.specs.Steps.{top_only}
+use Rattle.layout.specs.Open.{fresh_nodes}
 use Rattle.layout.proofs.open.fresh_nodes.Statement.{statement}
 use Rattle.layout.proofs.open.fresh_nodes.Tie as tie
 
 returns : tie.Need-returns
-unfolding freshNodes append topOnly
+unfolding fresh_nodes append top_only
 returns c = rw (← c.before.rotate.ensures, c.empty-table.ensures) refl
 
 pub fresh-nodes-spec : {M : Type 1} → statement M

@@ -6,7 +6,7 @@ use native.Mathlib.Omega.{arith}
 use borrow.Author.Rules.{rules}
 use Rattle.lists.specs.Lists.{limit}
 use Rattle.lists.specs.Search.{every}
-use Rattle.lists.specs.Flags.{newAt}
+use Rattle.lists.specs.Flags.{new_at}
 use Rattle.lists.proofs.Scan.{every-none, every_more}
 use Rattle.lists.proofs.Named.{Flagged, flagged-none, flagged-more, flag-stands, flag-missing, past_bound}
 use Rattle.lists.proofs.Named.{too_long, not_new, all_new, flags-all, refused}
@@ -15,7 +15,7 @@ use Rattle.lists.proofs.flags.flags_of.Tie as tie
 
 abbrev invariant-loop : tie.invariant-loop
 invariant-loop list count flag₀ i₀ flag i =
-    (i ≤ count) × (every (newAt limit list) i ≡ true) × Flagged limit list flag i
+    (i ≤ count) × (every (new_at limit list) i ≡ true) × Flagged limit list flag i
 
 abbrev decreases-loop : tie.decreases-loop
 decreases-loop list count flag₀ i₀ flag i = count - i
@@ -28,7 +28,7 @@ returns c =
 loop-holds : tie.Need-loop-init invariant-loop decreases-loop
 loop-holds c =
     let t = c.before.args.list.now in
-    (omega arith, every-none (newAt limit t), flagged-none limit t)
+    (omega arith, every-none (new_at limit t), flagged-none limit t)
 
 returns-2 : tie.Need-returns-2 invariant-loop decreases-loop
 returns-2 c =
@@ -57,7 +57,7 @@ loop-again c =
     let h = rw w.ensures at c.before.if2.false in
     let e = flag-missing limit t l.flag l.i l.invariant.2 h (rw w.ensures at c.if3.false) in (
       omega arith,
-      every_more (newAt limit t) l.i l.invariant.1 e,
+      every_more (new_at limit t) l.i l.invariant.1 e,
       rw w.ensures (flagged-more limit t l.flag l.i l.invariant.2 h),
     )
 

@@ -7,7 +7,7 @@ use Prim.Native.Nat.{ℕ, ◌+◌, ◌-◌, ◌≤◌}
 use native.Mathlib.Omega.{arith}
 use borrow.Author.Rules.{rules}
 use Rattle.lists.specs.Lists.{limit}
-use Rattle.lists.specs.Inner.{class_at, inClass, lastBelow}
+use Rattle.lists.specs.Inner.{class_at, in_class, last_below}
 use Rattle.lists.proofs.Chains.{Leads, last-leads}
 use Rattle.lists.proofs.Visits.{Done, done_none, done_more, done_all}
 use Rattle.lists.proofs.Visits.{Visited, visited-none, visited-on, visited-zero, visited-more, visited-twice}
@@ -54,7 +54,7 @@ next-leads c =
     let s = w.before.before.before.before.before.before in
     let t = s.args.s.now in
     let p = l.c - 1 in
-    let same = ap (λ (k : ℕ). lastBelow (inClass t k) p) (l.invariant.3 p (omega arith)) in
+    let same = ap (λ (k : ℕ). last_below (in_class t k) p) (l.invariant.3 p (omega arith)) in
     last-leads t o.h p (c.wide2.ensures ∙ s.requires.1.links p (omega arith) ∙ same)
 
 loop-less : tie.Need-loop-smaller invariant-loop decreases-loop invariant-all decreases-all

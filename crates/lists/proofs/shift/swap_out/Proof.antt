@@ -1,11 +1,11 @@
 -- `lists::shift::swap_out` meets its contract, which is its two stores. Assumes nothing.
 use borrow.Author.Rules.{rules}
-use Rattle.lists.specs.Lists.{swapOut}
+use Rattle.lists.specs.Lists.{swap_out}
 use Rattle.lists.proofs.shift.swap_out.Statement.{statement}
 use Rattle.lists.proofs.shift.swap_out.Tie as tie
 
 returns : tie.Need-returns
-unfolding swapOut
+unfolding swap_out
 returns c = search rules
 
 pub swap-out-spec : {M : Type 1} → statement M

@@ -1,11 +1,11 @@
 -- `across_current_cut` meets its contract: its nodes are that row of the table, whichever the cut.
 use borrow.Author.Rules.{rules}
-use Rattle.piece.specs.Insertion.{laidOut, asBlueprint, table}
+use Rattle.piece.specs.Insertion.{laid_out, as_blueprint, table}
 use Rattle.piece.proofs.insertion_blueprint.across_current_cut.Statement.{statement}
 use Rattle.piece.proofs.insertion_blueprint.across_current_cut.Tie as tie
 
 returns : tie.Need-returns
-unfolding laidOut asBlueprint table
+unfolding laid_out as_blueprint table
 returns c =
     simp (
       c.node3.ensures,

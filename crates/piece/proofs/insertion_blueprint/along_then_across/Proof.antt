@@ -1,11 +1,11 @@
 -- `along_then_across` meets its contract: its nodes are that row of the table, whichever the cut.
 use borrow.Author.Rules.{rules}
-use Rattle.piece.specs.Insertion.{laidOut, asBlueprint, table}
+use Rattle.piece.specs.Insertion.{laid_out, as_blueprint, table}
 use Rattle.piece.proofs.insertion_blueprint.along_then_across.Statement.{statement}
 use Rattle.piece.proofs.insertion_blueprint.along_then_across.Tie as tie
 
 returns : tie.Need-returns
-unfolding laidOut asBlueprint table
+unfolding laid_out as_blueprint table
 returns c =
     simp (
       c.node4.ensures,

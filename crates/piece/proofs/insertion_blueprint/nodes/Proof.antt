@@ -1,23 +1,23 @@
 -- `nodes` meets its contract: each shape has its function, over the sides as the table writes them.
 use borrow.Author.Rules.{rules}
-use Rattle.piece.specs.Insertion.{blueprintOf, block_of, laidOut}
+use Rattle.piece.specs.Insertion.{blueprint_of, block_of, laid_out}
 use Rattle.piece.proofs.insertion_blueprint.nodes.Statement.{statement}
 use Rattle.piece.proofs.insertion_blueprint.nodes.Tie as tie
 
 returns : tie.Need-returns
-unfolding blueprintOf block_of laidOut
+unfolding blueprint_of block_of laid_out
 returns c = cc
 
 returns-2 : tie.Need-returns-2
-unfolding blueprintOf block_of laidOut
+unfolding blueprint_of block_of laid_out
 returns-2 c = cc
 
 returns-3 : tie.Need-returns-3
-unfolding blueprintOf block_of laidOut
+unfolding blueprint_of block_of laid_out
 returns-3 c = cc
 
 returns-4 : tie.Need-returns-4
-unfolding blueprintOf block_of laidOut
+unfolding blueprint_of block_of laid_out
 returns-4 c = cc
 
 pub nodes-spec : {M : Type 1} → statement M

@@ -5,13 +5,13 @@ use Prim.Native.Nat.{◌-◌, ◌≤◌}
 use native.Mathlib.Omega.{arith}
 use borrow.Author.Rules.{rules}
 use lib.ListN.{length, take, length-map}
-use Rattle.piece.specs.Offered.{amongB}
+use Rattle.piece.specs.Offered.{among_b}
 use Rattle.piece.proofs.Offering.{among-at, among-more}
 use Rattle.piece.proofs.insertion_option.is_among.Statement.{statement}
 use Rattle.piece.proofs.insertion_option.is_among.Tie as tie
 
 abbrev invariant-loop : tie.invariant-loop
-invariant-loop rotation shape offers count i₀ i = (i ≤ count) × (amongB rotation shape (take i offers.list) ≡ false)
+invariant-loop rotation shape offers count i₀ i = (i ≤ count) × (among_b rotation shape (take i offers.list) ≡ false)
 
 abbrev decreases-loop : tie.decreases-loop
 decreases-loop rotation shape offers count i₀ i = count - i

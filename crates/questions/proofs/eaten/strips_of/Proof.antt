@@ -1,16 +1,16 @@
--- The sum after i places is `stripsOf` of these, and no more than that of all.
+-- The sum after i places is `strips_of` of these, and no more than that of all.
 use mathlib.Core.Path.{◌≡◌, sym}
 use Prim.Native.Nat.{◌+◌, ◌-◌, ◌≤◌}
 use native.Mathlib.Omega.{arith}
 use borrow.Author.Rules.{rules}
 use Rattle.lists.specs.Lists.{limit}
-use Rattle.questions.specs.Eaten.{stripsOf}
+use Rattle.questions.specs.Eaten.{strips_of}
 use Rattle.questions.proofs.EatenSum.{strips-none, strips-more, strips-grow}
 use Rattle.questions.proofs.eaten.strips_of.Statement.{statement}
 use Rattle.questions.proofs.eaten.strips_of.Tie as tie
 
 abbrev invariant-loop : tie.invariant-loop
-invariant-loop nodes sum₀ i₀ sum i = (i ≤ limit) × (sum ≡ stripsOf nodes i)
+invariant-loop nodes sum₀ i₀ sum i = (i ≤ limit) × (sum ≡ strips_of nodes i)
 
 abbrev decreases-loop : tie.decreases-loop
 decreases-loop nodes sum₀ i₀ sum i = limit - i

@@ -3,7 +3,7 @@ use mathlib.Core.Path.{ap, ◌∙◌}
 use borrow.Author.Rules.{rules}
 use Rattle.layout.specs.SoundLayout.{SoundLayout}
 use Rattle.questions.specs.declared.replies.AreaAnswer.TheVariants.{Area}
-use Rattle.questions.specs.Answers.{eatenAreaOf}
+use Rattle.questions.specs.Answers.{eaten_area_of}
 use Rattle.questions.proofs.SizedBy.{sound-by}
 use Rattle.questions.proofs.Figured.{answered, refused}
 use Rattle.questions.proofs.EatenSum.{strips-are, strips-small}
@@ -11,7 +11,7 @@ use Rattle.questions.proofs.figures.eaten_area.Statement.{statement}
 use Rattle.questions.proofs.figures.eaten_area.Tie as tie
 
 returns : tie.Need-returns
-unfolding eatenAreaOf
+unfolding eaten_area_of
 returns c = refused _ c.before.sound.ensures c.if1.false
 
 -- past refusal 1 the layout is sound
@@ -24,7 +24,7 @@ strips-of-requires : tie.Need-strips-of-requires
 strips-of-requires c κs = strips-small _ (sound-here c.before)
 
 returns-2 : tie.Need-returns-2
-unfolding eatenAreaOf
+unfolding eaten_area_of
 returns-2 c =
     let t = c.before.before in
     answered _ t.before.sound.ensures t.if1.true (ap Area (c.strips-of.ensures ∙ strips-are _ (sound-here t)))

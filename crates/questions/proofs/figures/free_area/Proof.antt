@@ -4,14 +4,14 @@ use native.Mathlib.Omega.{arith}
 use borrow.Author.Rules.{rules}
 use Rattle.layout.specs.SoundLayout.{SoundLayout}
 use Rattle.questions.specs.declared.replies.AreaAnswer.TheVariants.{Area}
-use Rattle.questions.specs.Answers.{freeAreaOf}
+use Rattle.questions.specs.Answers.{free_area_of}
 use Rattle.questions.proofs.SizedBy.{sound-by}
 use Rattle.questions.proofs.Figured.{answered, refused, free-small, free-area-is}
 use Rattle.questions.proofs.figures.free_area.Statement.{statement}
 use Rattle.questions.proofs.figures.free_area.Tie as tie
 
 returns : tie.Need-returns
-unfolding freeAreaOf
+unfolding free_area_of
 returns c = refused _ c.before.sound.ensures c.if1.false
 
 -- past refusal 1 the layout is sound
@@ -28,7 +28,7 @@ free-sum-requires c κs =
     omega (arith, free-area-is l s k.columns_of.result k.columns_of.ensures, free-small l s)
 
 returns-2 : tie.Need-returns-2
-unfolding freeAreaOf
+unfolding free_area_of
 returns-2 c =
     let k = c.before.before.before.before.before in
     let t = k.before.before in

@@ -2,18 +2,18 @@
 use Prim.Native.Nat.{◌^◌, ◌≤◌}
 use native.Mathlib.Omega.{arith}
 use borrow.Author.Rules.{rules}
-use Rattle.tree.specs.Figures.{sheetUsage}
+use Rattle.tree.specs.Figures.{sheet_usage}
 use Rattle.layout.specs.SoundLayout.{SoundLayout}
 use Rattle.layout.proofs.Areas.{used-small}
 use Rattle.questions.specs.declared.replies.UsageAnswer.TheVariants.{Usage}
-use Rattle.questions.specs.Answers.{sheetUsageOf}
+use Rattle.questions.specs.Answers.{sheet_usage_of}
 use Rattle.questions.proofs.SizedBy.{sound-by}
 use Rattle.questions.proofs.Figured.{answered, refused, in-float}
 use Rattle.questions.proofs.figures.sheet_usage.Statement.{statement}
 use Rattle.questions.proofs.figures.sheet_usage.Tie as tie
 
 returns : tie.Need-returns
-unfolding sheetUsageOf
+unfolding sheet_usage_of
 returns c = refused _ c.before.sound.ensures c.if1.false
 
 -- past refusal 1 the layout is sound
@@ -36,12 +36,12 @@ int-to-float-t8 : tie.Need-int-to-float-t8
 int-to-float-t8 c = in-float _ (omega (arith, small-here c.before.before))
 
 returns-2 : tie.Need-returns-2
-unfolding sheetUsageOf sheetUsage
+unfolding sheet_usage_of sheet_usage
 returns-2 c =
     let k = c.before.before in
     let t = k.before.before in
     let s = sound-here t in
-    answered _ t.before.sound.ensures t.if1.true (λ i. Usage (sheetUsage (s.used i) (k.area.ensures i)))
+    answered _ t.before.sound.ensures t.if1.true (λ i. Usage (sheet_usage (s.used i) (k.area.ensures i)))
 
 pub sheet-usage-spec : {M : Type 1} → statement M
 sheet-usage-spec =

@@ -4,14 +4,14 @@ use native.Mathlib.Omega.{arith}
 use borrow.Author.Rules.{rules}
 use Rattle.layout.specs.SoundLayout.{SoundLayout}
 use Rattle.questions.specs.declared.replies.UsageAnswer.TheVariants.{Usage}
-use Rattle.questions.specs.Answers.{treeUsageOf}
+use Rattle.questions.specs.Answers.{tree_usage_of}
 use Rattle.questions.proofs.SizedBy.{sound-by}
 use Rattle.questions.proofs.Figured.{answered, refused, areas-small, usage-is}
 use Rattle.questions.proofs.figures.tree_usage.Statement.{statement}
 use Rattle.questions.proofs.figures.tree_usage.Tie as tie
 
 returns : tie.Need-returns
-unfolding treeUsageOf
+unfolding tree_usage_of
 returns c = refused _ c.before.sound.ensures c.if1.false
 
 -- past refusal 1 the layout is sound
@@ -27,7 +27,7 @@ usage-of-requires c κs =
     (omega arith, areas-small t.before.before.args.layout (sound-here t) k.columns_of.result k.columns_of.ensures)
 
 returns-2 : tie.Need-returns-2
-unfolding treeUsageOf
+unfolding tree_usage_of
 returns-2 c =
     let k = c.before.before.before.before.before.before.before.before.before.before in
     let t = k.before.before in

@@ -1,4 +1,4 @@
--- `mark_at` meets its contract: each way out is one outcome of the tests of `markAt`. Assumes nothing.
+-- `mark_at` meets its contract: each way out is one outcome of the tests of `mark_at`. Assumes nothing.
 use mathlib.Core.Path.{refl, sym, ap, ◌∙◌}
 use Prim.Native.Nat.{◌<◌}
 use native.Mathlib.Omega.{arith}

@@ -1,11 +1,11 @@
--- `reason_in` meets its contract: its five tests are those of `reasonIn`, the part turned.
+-- `reason_in` meets its contract: its five tests are those of `reason_in`, the part turned.
 use borrow.Author.Rules.{rules}
-use Rattle.questions.specs.Reasons.{reasonIn}
+use Rattle.questions.specs.Reasons.{reason_in}
 use Rattle.questions.proofs.reason.reason_in.Statement.{statement}
 use Rattle.questions.proofs.reason.reason_in.Tie as tie
 
 returns : tie.Need-returns
-unfolding reasonIn
+unfolding reason_in
 returns c = cc
 
 pub reason-in-spec : {M : Type 1} → statement M

@@ -7,17 +7,17 @@ use Rattle.layout.specs.declared.layout.Layout.{Layout}
 use Rattle.layout.specs.declared.replies.Outcome.TheVariants as outcomes
 use Rattle.layout.specs.declared.replies.Sought.{Sought}
 use Rattle.questions.specs.declared.replies.OffersAnswer.{OffersAnswer}
-use Rattle.questions.specs.Answers.{offeredFor, offersCall}
+use Rattle.questions.specs.Answers.{offered_for, offers_call}
 use Rattle.questions.proofs.room.offers.Statement.{statement}
 use Rattle.questions.proofs.room.offers.Tie as tie
 
 -- the piece or the refusal that the callee t gives is what the contract seeks
-as-sought : {r : OffersAnswer} {x y t : Sought} (l : Layout) (p : PartType) → t ≡ y → t ≡ x → r ≡ offeredFor l p x
-    → r ≡ offeredFor l p y
-as-sought l p f e h = h ∙ ap (offeredFor l p) (sym e ∙ f)
+as-sought : {r : OffersAnswer} {x y t : Sought} (l : Layout) (p : PartType) → t ≡ y → t ≡ x → r ≡ offered_for l p x
+    → r ≡ offered_for l p y
+as-sought l p f e h = h ∙ ap (offered_for l p) (sym e ∙ f)
 
 returns : tie.Need-returns
-unfolding offersCall
+unfolding offers_call
 returns c =
     let k = c.before.before in
     let t = k.before.before in
@@ -25,7 +25,7 @@ returns c =
     as-sought a.layout a.part t.free-piece.ensures k.refusal.given.1 c.refused-offers.ensures
 
 returns-2 : tie.Need-returns-2
-unfolding offersCall
+unfolding offers_call
 returns-2 c =
     let k = c.before.before in
     let t = k.before.before in

@@ -1,4 +1,4 @@
--- `refused_offers` meets its contract: the list is `noOffers`.
+-- `refused_offers` meets its contract: the list is `no_offers`.
 use mathlib.Core.Path.{ap}
 use borrow.Author.Rules.{rules}
 use Rattle.piece.specs.declared.insertion_option.OfferList.{OfferList}

@@ -5,17 +5,17 @@ use Rattle.piece.specs.declared.parttype.PartType.{PartType}
 use Rattle.layout.specs.declared.layout.Layout.{Layout}
 use Rattle.layout.specs.declared.replies.Sought.{Sought}
 use Rattle.questions.specs.declared.why_not.WhyAnswer.{WhyAnswer}
-use Rattle.questions.specs.WhyNot.{whyFor, whyCall}
+use Rattle.questions.specs.WhyNot.{why_for, why_call}
 use Rattle.questions.proofs.why_not.why_not.Statement.{statement}
 use Rattle.questions.proofs.why_not.why_not.Tie as tie
 
 -- the piece or the refusal that the callee t gives is what the contract seeks
-as-sought : {r : WhyAnswer} {x y t : Sought} (l : Layout) (p : PartType) → t ≡ y → t ≡ x → r ≡ whyFor l p x
-    → r ≡ whyFor l p y
-as-sought l p f e h = h ∙ ap (whyFor l p) (sym e ∙ f)
+as-sought : {r : WhyAnswer} {x y t : Sought} (l : Layout) (p : PartType) → t ≡ y → t ≡ x → r ≡ why_for l p x
+    → r ≡ why_for l p y
+as-sought l p f e h = h ∙ ap (why_for l p) (sym e ∙ f)
 
 returns : tie.Need-returns
-unfolding whyCall
+unfolding why_call
 returns c =
     let k = c.before.before in
     let t = k.before.before in
@@ -23,7 +23,7 @@ returns c =
     as-sought a.layout a.part t.free-piece.ensures k.refusal.given.1 c.refused_why.ensures
 
 returns-2 : tie.Need-returns-2
-unfolding whyCall
+unfolding why_call
 returns-2 c =
     let k = c.before.before in
     let t = k.before.before in

@@ -5,17 +5,17 @@ use native.Mathlib.Omega.{arith}
 use borrow.Author.Rules.{rules}
 use lib.ListN.{length}
 use lib.Seq.{sets}
-use Rattle.layout.specs.Check.{soundB}
+use Rattle.layout.specs.Check.{sound_b}
 use Rattle.layout.specs.SoundLayout.{SoundLayout}
 use Rattle.layout.proofs.Exactly.{sound-says}
 use Rattle.layout.proofs.Typed.{typed-sized}
-use Rattle.questions.specs.Written.{heldNumbers}
+use Rattle.questions.specs.Written.{held_numbers}
 use Rattle.questions.proofs.Lent.{not_sound, too_short, done, every-placed, numbers-are, numbers-room}
 use Rattle.questions.proofs.written.part_numbers.Statement.{statement}
 use Rattle.questions.proofs.written.part_numbers.Tie as tie
 
 -- past the first test
-checked : (c : tie.Then1) → soundB c.before.before.before.args.layout ≡ true
+checked : (c : tie.Then1) → sound_b c.before.before.before.args.layout ≡ true
 checked c = sym c.before.sound.ensures ∙ c.if1.true
 
 stands : (c : tie.Then1) → SoundLayout c.before.before.before.args.layout
@@ -24,14 +24,14 @@ stands c = let s = c.before.before.before in sound-says s.args.layout (typed-siz
 returns : tie.Need-returns
 returns c =
     let a = c.before.before.before.args in
-    not_sound a.layout (heldNumbers a.layout) a.out.now (sym c.before.sound.ensures ∙ c.if1.false)
+    not_sound a.layout (held_numbers a.layout) a.out.now (sym c.before.sound.ensures ∙ c.if1.false)
 
 count-numbers-requires : tie.Need-count-numbers-requires
 count-numbers-requires c κs = (omega arith, every-placed c.before.every-place.ensures)
 
 -- the count is the length of what is to be written
 count-is : (c : tie.After-count-numbers)
-    → c.count-numbers.result ≡ length (heldNumbers c.before.before.before.before.before.before.before.args.layout)
+    → c.count-numbers.result ≡ length (held_numbers c.before.before.before.before.before.before.before.args.layout)
 count-is c =
     let a = c.before.before.before.before.before.before.before.args in
     c.count-numbers.ensures ∙ ap length (numbers-are c.before.before.every-place.ensures a.layout)
@@ -40,7 +40,7 @@ returns-2 : tie.Need-returns-2
 returns-2 c =
     let c1 = c.before.before.before.before.before in
     let a = c1.before.before.before.args in
-    too_short a.layout (heldNumbers a.layout) a.out.now (checked c1)
+    too_short a.layout (held_numbers a.layout) a.out.now (checked c1)
     (omega (arith, count-is c.before, c.if2.true))
 
 put-numbers-requires : tie.Need-put-numbers-requires
@@ -63,7 +63,7 @@ returns-3 c =
     let c1 = c2.before.before.before.before.before in
     let a = c1.before.before.before.args in
     let n = count-is c2.before in
-    done a.layout (heldNumbers a.layout) a.out.now (checked c1)
+    done a.layout (held_numbers a.layout) a.out.now (checked c1)
     (omega (arith, n, c2.if2.false)) n
     (c.before.before.put-numbers.ensures.0
     ∙ ap (sets a.out.now 0) (numbers-are c2.before.before.before.every-place.ensures a.layout))

@@ -5,17 +5,17 @@ use native.Mathlib.Omega.{arith}
 use borrow.Author.Rules.{rules}
 use lib.ListN.{length}
 use lib.Seq.{sets}
-use Rattle.layout.specs.Check.{soundB}
+use Rattle.layout.specs.Check.{sound_b}
 use Rattle.layout.specs.SoundLayout.{SoundLayout}
 use Rattle.layout.proofs.Exactly.{sound-says}
 use Rattle.layout.proofs.Typed.{typed-sized}
-use Rattle.questions.specs.Written.{snapshotBytes}
+use Rattle.questions.specs.Written.{snapshot_bytes}
 use Rattle.questions.proofs.Lent.{not_sound, too_short, done, held-room, bytes-length, written_is}
 use Rattle.questions.proofs.written.snapshot.Statement.{statement}
 use Rattle.questions.proofs.written.snapshot.Tie as tie
 
 -- past the first test
-checked : (c : tie.Then1) → soundB c.before.before.before.args.layout ≡ true
+checked : (c : tie.Then1) → sound_b c.before.before.before.args.layout ≡ true
 checked c = sym c.before.sound.ensures ∙ c.if1.true
 
 stands : (c : tie.Then1) → SoundLayout c.before.before.before.args.layout
@@ -24,13 +24,13 @@ stands c = let s = c.before.before.before in sound-says s.args.layout (typed-siz
 returns : tie.Need-returns
 returns c =
     let a = c.before.before.before.args in
-    not_sound a.layout (snapshotBytes a.layout) a.out.now (sym c.before.sound.ensures ∙ c.if1.false)
+    not_sound a.layout (snapshot_bytes a.layout) a.out.now (sym c.before.sound.ensures ∙ c.if1.false)
 
 returns-2 : tie.Need-returns-2
 returns-2 c =
     let c1 = c.before.before in
     let a = c1.before.before.before.args in
-    too_short a.layout (snapshotBytes a.layout) a.out.now (checked c1)
+    too_short a.layout (snapshot_bytes a.layout) a.out.now (checked c1)
     (omega (arith, bytes-length a.layout (stands c1), c.if2.true))
 
 -- the columns are taken, and the lent buffer is long enough
@@ -62,7 +62,7 @@ returns-3 c =
     let a = c1.before.before.before.args in
     let l = a.layout in
     let n = bytes-length l (stands c1) in
-    done l (snapshotBytes l) a.out.now (checked c1) (omega (arith, n, c2.if2.left)) (omega (arith, n))
+    done l (snapshot_bytes l) a.out.now (checked c1) (omega (arith, n, c2.if2.left)) (omega (arith, n))
     (c4.put-subtree.ensures.0 ∙ ap (sets a.out.now 0) (written_is l (stands c1) c3.columns_of.ensures))
 
 pub snapshot-spec : {M : Type 1} → statement M

@@ -5,13 +5,13 @@ use Prim.Native.Nat.{ℕ, ◌-◌, ◌≤◌}
 use native.Mathlib.Omega.{arith}
 use borrow.Author.Rules.{rules}
 use Rattle.lists.specs.Lists.{entries}
-use Rattle.removal.specs.Going.{areaAlong}
+use Rattle.removal.specs.Going.{area_along}
 use Rattle.removal.proofs.Turns.{area-more, area-most}
 use Rattle.removal.proofs.remove.area_along.Statement.{statement}
 use Rattle.removal.proofs.remove.area_along.Tie as tie
 
 abbrev invariant-loop : tie.invariant-loop
-invariant-loop nodes order count sum₀ i₀ sum i = (i ≤ count) × (sum ≡ areaAlong nodes (entries i order))
+invariant-loop nodes order count sum₀ i₀ sum i = (i ≤ count) × (sum ≡ area_along nodes (entries i order))
 
 abbrev decreases-loop : tie.decreases-loop
 decreases-loop nodes order count sum₀ i₀ sum i = count - i
@@ -47,7 +47,7 @@ returns c =
     let a = c.before.before.before.args in
     let l = c.before.loop in
     let e : l.i ≡ a.g.count = omega arith in
-    l.invariant.1 ∙ ap (λ (i : ℕ). areaAlong a.t1 (entries i a.g.order)) e
+    l.invariant.1 ∙ ap (λ (i : ℕ). area_along a.t1 (entries i a.g.order)) e
 
 pub area-along-spec : {M : Type 1} → statement M
 area-along-spec =

@@ -3,7 +3,7 @@ use mathlib.Core.Path.{refl, ◌∙◌}
 use Prim.Native.Nat.{◌+◌, ◌≤◌}
 use native.Mathlib.Omega.{arith}
 use Rattle.tree.specs.Removal.{board}
-use Rattle.removal.specs.Remove.{ifFree}
+use Rattle.removal.specs.Remove.{if_free}
 use Rattle.removal.proofs.Boards.{board-fits}
 use borrow.Author.Rules.{rules}
 use Rattle.removal.proofs.remove.board_with.Statement.{statement}
@@ -15,7 +15,7 @@ sum_fits : (c : tie.After-struct-known2) →
 sum_fits c =
     let b = c.before.before.before in
     let s = b.before.before in
-    rw (b.laid.ensures, c.before.Spare-of.ensures) (board-fits s.args.d (ifFree s.args.end) s.requires.0 s.requires.1)
+    rw (b.laid.ensures, c.before.Spare-of.ensures) (board-fits s.args.d (if_free s.args.end) s.requires.0 s.requires.1)
 
 add-t9 : tie.Need-overflow-add-t9
 add-t9 c = omega (arith, sum_fits c)

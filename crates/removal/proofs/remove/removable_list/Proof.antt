@@ -5,18 +5,18 @@ use Prim.Native.Nat.{ℕ, ◌<◌}
 use lib.ListN.{length}
 use native.Mathlib.Omega.{arith}
 use Rattle.lists.specs.Lists.{limit}
-use Rattle.layout_nodes.specs.Listings.{entriesOf}
+use Rattle.layout_nodes.specs.Listings.{entries_of}
 use Rattle.layout_nodes.proofs.Listed.{kept-as}
 use Rattle.removal.specs.Going.{places}
 use Rattle.removal.proofs.Struck.{stays, struck-kept, struck-room, comes_back}
 use borrow.Author.Rules.{rules}
-use Rattle.tree.specs.ListSteps.{strikeAll}
+use Rattle.tree.specs.ListSteps.{strike_all}
 use Rattle.removal.proofs.remove.removable_list.Statement.{statement}
 use Rattle.removal.proofs.remove.removable_list.Tie as tie
 
 -- what the order leaves of the list
 abbrev left : tie.After-strike-all → List ℕ
-left c = let a = c.before.before.before.args in strikeAll (entriesOf a.removable) (places a.g)
+left c = let a = c.before.before.before.args in strike_all (entries_of a.removable) (places a.g)
 
 room : (c : tie.After-strike-all) → length (left c) < limit
 room c = c.before.before.before.requires.2

@@ -1,8 +1,8 @@
 -- `remove` meets its contract: each step is the one that the definition names. Assumes nothing.
 use mathlib.Core.Path.{refl}
-use Rattle.table.specs.Steps.{freeLastDatum}
+use Rattle.table.specs.Steps.{free_last_datum}
 use Rattle.removal.specs.Going.{places}
-use Rattle.removal.specs.Remove.{newFree, removedNodes, removedFrom}
+use Rattle.removal.specs.Remove.{new_free, removed_nodes, removed_from}
 use Rattle.removal.specs.Inner.{Clearable}
 use borrow.Author.Rules.{rules}
 use Rattle.removal.proofs.remove.remove.Statement.{statement}
@@ -16,7 +16,7 @@ asked : (c : tie.After-struct-known) → let a = (start c).args in Clearable a.n
 asked c = (start c).requires.1
 
 new-free-requires : tie.Need-new-free-requires
-unfolding newFree freeLastDatum
+unfolding new_free free_last_datum
 new-free-requires c κs = let p = asked c.before in (p.wide, p.tall, p.spent)
 
 append-requires : tie.Need-append-requires
@@ -29,10 +29,10 @@ removable-list-requires : tie.Need-removable-list-requires
 removable-list-requires c κs =
     let b = c.before.before.before.before.before.before.before in
     let p = asked b in
-    (p.removableKept, (start b).requires.0, p.removableRoom, p.removableSingle)
+    (p.removable_kept, (start b).requires.0, p.removable_room, p.removable_single)
 
 returns : tie.Need-returns
-unfolding removedNodes removedFrom newFree freeLastDatum
+unfolding removed_nodes removed_from new_free free_last_datum
 returns c =
     let c2 = c.before.before in
     let c5 = c2.before.before.before in

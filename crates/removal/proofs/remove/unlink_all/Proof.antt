@@ -7,7 +7,7 @@ use native.Mathlib.Omega.{arith}
 use borrow.Author.Rules.{rules}
 use lib.ListN.{get_or}
 use Rattle.lists.specs.Lists.{limit, entries}
-use Rattle.table.specs.Steps.{unlinkAll}
+use Rattle.table.specs.Steps.{unlink_all}
 use Rattle.table.specs.Table.{at}
 use Rattle.table.proofs.Unlinked.{first-joined, next-joined, last-joined, prev-joined, unlinked}
 use Rattle.removal.proofs.Turns.{goes_at, unlink-more}
@@ -15,7 +15,7 @@ use Rattle.removal.proofs.remove.unlink_all.Statement.{statement}
 use Rattle.removal.proofs.remove.unlink_all.Tie as tie
 
 abbrev invariant-loop : tie.invariant-loop
-invariant-loop order count zero t₀ k₀ t k = (k ≤ count) × (t ≡ unlinkAll limit t₀ (entries k order))
+invariant-loop order count zero t₀ k₀ t k = (k ≤ count) × (t ≡ unlink_all limit t₀ (entries k order))
 
 abbrev decreases-loop : tie.decreases-loop
 decreases-loop order count zero t₀ k₀ t k = count - k
@@ -62,7 +62,7 @@ returns c =
     let l = c.before.loop in
     let a = c.before.before.before.before.args in
     let e : l.k ≡ a.g.count = omega arith in
-    l.invariant.1 ∙ ap (λ (k : ℕ). unlinkAll limit a.nodes (entries k a.g.order)) e
+    l.invariant.1 ∙ ap (λ (k : ℕ). unlink_all limit a.nodes (entries k a.g.order)) e
 
 pub unlink-all-spec : {M : Type 1} → statement M
 unlink-all-spec =

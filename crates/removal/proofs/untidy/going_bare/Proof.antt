@@ -1,21 +1,21 @@
 -- `going_bare` meets its contract: by whether the last piece of the row is free. Assumes nothing.
 use mathlib.Core.Path.{refl}
-use Rattle.table.specs.Steps.{freeLastPlace}
-use Rattle.removal.specs.Untidy.{bareGoing}
+use Rattle.table.specs.Steps.{free_last_place}
+use Rattle.removal.specs.Untidy.{bare_going}
 use Rattle.removal.proofs.Gone.{bare-gone}
 use borrow.Author.Rules.{rules}
 use Rattle.removal.proofs.untidy.going_bare.Statement.{statement}
 use Rattle.removal.proofs.untidy.going_bare.Tie as tie
 
 returns : tie.Need-returns
-unfolding bareGoing freeLastPlace
+unfolding bare_going free_last_place
 returns c =
     let s = c.before.before.before.before.before.before.before in
     bare-gone s.args.t1 s.args.x s.requires.0 s.requires.2 s.requires.3
     (rw (← c.before.is_free.ensures, c.if1.true) refl) (rw (← c.before.is_free.ensures, c.if1.true) refl)
 
 returns-2 : tie.Need-returns-2
-unfolding bareGoing freeLastPlace
+unfolding bare_going free_last_place
 returns-2 c =
     let s = c.before.before.before.before.before.before.before in
     bare-gone s.args.t1 s.args.x s.requires.0 s.requires.2 s.requires.3

@@ -7,13 +7,13 @@ use Prim.Native.Nat.{◌-◌}
 use native.Mathlib.Omega.{arith}
 use borrow.Author.Rules.{rules}
 use Rattle.lists.specs.Lists.{limit}
-use Rattle.removal.specs.Untidy.{lowestUntidy, untidyIn}
-use Rattle.removal.proofs.Bare.{untidyFrom, no-first, not-bare, is-untidy, from_start, from_past, from-here, from_on}
+use Rattle.removal.specs.Untidy.{lowest_untidy, untidy_in}
+use Rattle.removal.proofs.Bare.{untidy_from, no-first, not-bare, is-untidy, from_start, from_past, from-here, from_on}
 use Rattle.removal.proofs.untidy.lowest_untidy.Statement.{statement}
 use Rattle.removal.proofs.untidy.lowest_untidy.Tie as tie
 
 abbrev invariant-loop : tie.invariant-loop
-invariant-loop nodes i₀ i = untidyFrom nodes i ≡ lowestUntidy nodes
+invariant-loop nodes i₀ i = untidy_from nodes i ≡ lowest_untidy nodes
 
 abbrev decreases-loop : tie.decreases-loop
 decreases-loop nodes i₀ i = limit - i
@@ -25,7 +25,7 @@ loop-again : tie.Need-loop-preserved invariant-loop decreases-loop
 loop-again c =
     let l = c.before.before.before.loop in
     let t = c.before.before.before.before.args.t1 in
-    let not-here : untidyIn t l.i ≡ false =
+    let not-here : untidy_in t l.i ≡ false =
     ⊎_elim (λ w. not-bare t l.i (sym w.2.ensures ∙ w.3.left)) (λ w. no-first t l.i (search rules)) c.if2.branch
     in
     sym (from_on t l.i (omega arith) not-here) ∙ l.invariant

@@ -3,9 +3,9 @@ use mathlib.Core.Path.{refl}
 use Prim.Native.Nat.{◌≤◌}
 use native.Mathlib.Omega.{arith}
 use Rattle.lists.specs.Lists.{limit}
-use Rattle.table.specs.Steps.{freeLastDatum}
+use Rattle.table.specs.Steps.{free_last_datum}
 use Rattle.removal.specs.Going.{places}
-use Rattle.removal.specs.Remove.{newFree, removedNodes, removedFrom}
+use Rattle.removal.specs.Remove.{new_free, removed_nodes, removed_from}
 use Rattle.removal.specs.Inner.{Clearable}
 use borrow.Author.Rules.{rules}
 use Rattle.removal.proofs.untidy.remove_bare.Statement.{statement}
@@ -23,7 +23,7 @@ few : (s : tie.Start) → s.args.g.count ≤ limit
 few s = omega (arith, s.requires.1)
 
 new-free-requires : tie.Need-new-free-requires
-unfolding newFree freeLastDatum
+unfolding new_free free_last_datum
 new-free-requires c κs = let p = asked c.before in (p.wide, p.tall, p.spent)
 
 append-requires : tie.Need-append-requires
@@ -36,16 +36,16 @@ free-list-requires : tie.Need-free-list-requires
 free-list-requires c κs =
     let b = c.before.before.before.before.before.before in
     let p = asked b in
-    (p.freeKept, few (start b), p.freeRoom, p.freeSingle)
+    (p.free_kept, few (start b), p.free_room, p.free_single)
 
 removable-list-requires : tie.Need-removable-list-requires
 removable-list-requires c κs =
     let b = c.before.before.before.before.before.before.before in
     let p = asked b in
-    (p.removableKept, few (start b), p.removableRoom, p.removableSingle)
+    (p.removable_kept, few (start b), p.removable_room, p.removable_single)
 
 returns : tie.Need-returns
-unfolding removedNodes removedFrom newFree freeLastDatum
+unfolding removed_nodes removed_from new_free free_last_datum
 returns c =
     let c2 = c.before.before in
     let c5 = c2.before.before.before in

@@ -5,7 +5,7 @@ use native.Mathlib.Omega.{arith}
 use borrow.Author.Rules.{rules}
 use lib.ListN.{get_or}
 use Rattle.lists.specs.Lists.{limit, entries}
-use Rattle.table.specs.Steps.{unlinkAll}
+use Rattle.table.specs.Steps.{unlink_all}
 use Rattle.table.specs.Table.{at}
 use Rattle.removal.proofs.Turns.{goes_at}
 use Rattle.removal.proofs.untidy.unlink_bare.Statement.{statement}
@@ -15,7 +15,7 @@ use Rattle.removal.proofs.untidy.unlink_bare.Tie as tie
 turn : (s : tie.Start) (i : ℕ) → i < s.args.g.count →
     let a = s.args in
     let x = get_or a.g.order i 0 in
-    (x < limit) × ((at (unlinkAll limit a.nodes (entries i a.g.order)) x).parent < limit)
+    (x < limit) × ((at (unlink_all limit a.nodes (entries i a.g.order)) x).parent < limit)
 turn s i h = let a = s.args in goes_at limit a.nodes a.g.order a.g.count i h s.requires.2
 
 unlink-requires : tie.Need-unlink-requires

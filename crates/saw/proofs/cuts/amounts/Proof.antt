@@ -6,19 +6,19 @@ use borrow.Author.Rules.{rules}
 use lib.ListN.{length}
 use lib.Seq.{sets}
 use Rattle.layout.specs.declared.layout.Layout.{Layout}
-use Rattle.layout.specs.Check.{soundB}
+use Rattle.layout.specs.Check.{sound_b}
 use Rattle.layout.specs.SoundLayout.{SoundLayout}
 use Rattle.layout.proofs.Exactly.{sound-says}
 use Rattle.layout.proofs.Typed.{typed-sized}
 use Rattle.questions.proofs.Lent.{not_sound, too_short, done}
-use Rattle.saw.specs.Written.{amountBytes}
+use Rattle.saw.specs.Written.{amount_bytes}
 use Rattle.saw.proofs.Layouts.{amounts-length}
 use Rattle.saw.proofs.Call.{ListMade, list-made}
 use Rattle.saw.proofs.cuts.amounts.Statement.{statement}
 use Rattle.saw.proofs.cuts.amounts.Tie as tie
 
 -- past the first test
-checked : (c : tie.Then1) → soundB c.before.before.before.args.layout ≡ true
+checked : (c : tie.Then1) → sound_b c.before.before.before.args.layout ≡ true
 checked c = sym c.before.sound.ensures ∙ c.if1.true
 
 stands : (c : tie.Then1) → SoundLayout c.before.before.before.args.layout
@@ -35,19 +35,19 @@ made : (c : tie.After-list-of) → ListMade (the-layout c) c.list_of.new.1.0 c.l
 made c = list-made (the-layout c) (stands (past c)) c.list_of.ensures.0 c.list_of.ensures.1
 
 -- as many bytes as there is to write
-bytes-are : (c : tie.After-list-of) → c.list_of.result ≡ length (amountBytes (the-layout c))
+bytes-are : (c : tie.After-list-of) → c.list_of.result ≡ length (amount_bytes (the-layout c))
 bytes-are c = omega (arith, c.list_of.ensures.1, amounts-length (the-layout c))
 
 returns : tie.Need-returns
 returns c =
     let a = c.before.before.before.args in
-    not_sound a.layout (amountBytes a.layout) a.out.now (sym c.before.sound.ensures ∙ c.if1.false)
+    not_sound a.layout (amount_bytes a.layout) a.out.now (sym c.before.sound.ensures ∙ c.if1.false)
 
 returns-2 : tie.Need-returns-2
 returns-2 c =
     let l = c.before in
     let a = (past l).before.before.before.args in
-    too_short a.layout (amountBytes a.layout) a.out.now (checked (past l)) (omega (arith, bytes-are l, c.if2.true))
+    too_short a.layout (amount_bytes a.layout) a.out.now (checked (past l)) (omega (arith, bytes-are l, c.if2.true))
 
 put-tenths-requires : tie.Need-put-tenths-requires
 put-tenths-requires c κs =
@@ -61,7 +61,7 @@ returns-3 c =
     let e = z.before.before.before in
     let l = e.before in
     let a = (past l).before.before.before.args in
-    done a.layout (amountBytes a.layout) a.out.now (checked (past l)) (omega (arith, bytes-are l, e.if2.false)) (bytes-are l)
+    done a.layout (amount_bytes a.layout) a.out.now (checked (past l)) (omega (arith, bytes-are l, e.if2.false)) (bytes-are l)
     (z.put-tenths.ensures ∙ ap (sets a.out.now 0) (made l).tenths)
 
 pub amounts-spec : {M : Type 1} → statement M

@@ -7,19 +7,19 @@ use borrow.Author.Rules.{rules}
 use lib.ListN.{length}
 use lib.Seq.{sets}
 use Rattle.layout.specs.declared.layout.Layout.{Layout}
-use Rattle.layout.specs.Check.{soundB}
+use Rattle.layout.specs.Check.{sound_b}
 use Rattle.layout.specs.SoundLayout.{SoundLayout}
 use Rattle.layout.proofs.Exactly.{sound-says}
 use Rattle.layout.proofs.Typed.{typed-sized}
 use Rattle.questions.proofs.Lent.{not_sound, too_short, done}
-use Rattle.saw.specs.Written.{sawBytes}
+use Rattle.saw.specs.Written.{saw_bytes}
 use Rattle.saw.proofs.Layouts.{list_length}
 use Rattle.saw.proofs.Call.{ListMade, list-made}
 use Rattle.saw.proofs.cuts.cuts.Statement.{statement}
 use Rattle.saw.proofs.cuts.cuts.Tie as tie
 
 -- past the first test
-checked : (c : tie.Then1) → soundB c.before.before.before.args.layout ≡ true
+checked : (c : tie.Then1) → sound_b c.before.before.before.args.layout ≡ true
 checked c = sym c.before.sound.ensures ∙ c.if1.true
 
 stands : (c : tie.Then1) → SoundLayout c.before.before.before.args.layout
@@ -36,19 +36,19 @@ made : (c : tie.After-list-of) → ListMade (the-layout c) c.list_of.new.1.0 c.l
 made c = list-made (the-layout c) (stands (past c)) c.list_of.ensures.0 c.list_of.ensures.1
 
 -- as many bytes as there is to write
-bytes-are : (c : tie.After-list-of) → 9 * c.list_of.result ≡ length (sawBytes (the-layout c))
+bytes-are : (c : tie.After-list-of) → 9 * c.list_of.result ≡ length (saw_bytes (the-layout c))
 bytes-are c = omega (arith, c.list_of.ensures.1, list_length (the-layout c))
 
 returns : tie.Need-returns
 returns c =
     let a = c.before.before.before.args in
-    not_sound a.layout (sawBytes a.layout) a.out.now (sym c.before.sound.ensures ∙ c.if1.false)
+    not_sound a.layout (saw_bytes a.layout) a.out.now (sym c.before.sound.ensures ∙ c.if1.false)
 
 returns-2 : tie.Need-returns-2
 returns-2 c =
     let l = c.before in
     let a = (past l).before.before.before.args in
-    too_short a.layout (sawBytes a.layout) a.out.now (checked (past l)) (omega (arith, bytes-are l, c.if2.true))
+    too_short a.layout (saw_bytes a.layout) a.out.now (checked (past l)) (omega (arith, bytes-are l, c.if2.true))
 
 put-nines-requires : tie.Need-put-nines-requires
 put-nines-requires c κs =
@@ -62,7 +62,7 @@ returns-3 c =
     let e = z.before.before.before in
     let l = e.before in
     let a = (past l).before.before.before.args in
-    done a.layout (sawBytes a.layout) a.out.now (checked (past l)) (omega (arith, bytes-are l, e.if2.false)) (bytes-are l)
+    done a.layout (saw_bytes a.layout) a.out.now (checked (past l)) (omega (arith, bytes-are l, e.if2.false)) (bytes-are l)
     (z.put-nines.ensures ∙ ap (sets a.out.now 0) (made l).nines)
 
 pub cuts-spec : {M : Type 1} → statement M

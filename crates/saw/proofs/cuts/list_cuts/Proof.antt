@@ -10,7 +10,7 @@ use Rattle.piece.specs.declared.orientation.Orientation.{Orientation}
 use Rattle.piece.specs.declared.orientation.Orientation.TheVariants.{Horizontal, Vertical}
 use Rattle.lists.specs.Lists.{limit}
 use Rattle.saw.specs.declared.cut.Cut.{Cut}
-use Rattle.saw.specs.Listed.{pilesListed, cutsListed, entriesOfCuts}
+use Rattle.saw.specs.Listed.{piles_listed, cuts_listed, entries_of_cuts}
 use Rattle.saw.proofs.cuts.list_cuts.Statement.{statement}
 use Rattle.saw.proofs.cuts.list_cuts.Tie as tie
 
@@ -20,20 +20,20 @@ module _ (cs : Orientation → List Cut) (ps : Orientation → ℕ) (way w : Ori
       → (0 + ps w ≤ limit) × (0 + length (cs w) ≤ limit) × (10 * (0 + length (cs w)) ≤ length out)
   asks p = rw (← is) (omega arith, omega arith, omega arith)
 
-  does : (after : List ℕ) (n : ℕ) → after ≡ sets out 0 (entriesOfCuts (cs w)) → n ≡ 0 + length (cs w)
-      → (after ≡ sets out 0 (entriesOfCuts (cs way))) × (n ≡ length (cs way))
+  does : (after : List ℕ) (n : ℕ) → after ≡ sets out 0 (entries_of_cuts (cs w)) → n ≡ 0 + length (cs w)
+      → (after ≡ sets out 0 (entries_of_cuts (cs way))) × (n ≡ length (cs way))
   does after n e f = rw is (e, omega arith)
 
 -- the cuts by the way, and the pieces, over what is lent
 abbrev cuts-by : tie.Start → Orientation → List Cut
 cuts-by s way =
     let a = s.args in
-    cutsListed limit a.first.now a.next.now a.kind.now a.width.now a.height.now a.eaten.now way a.left 0 a.c
+    cuts_listed limit a.first.now a.next.now a.kind.now a.width.now a.height.now a.eaten.now way a.left 0 a.c
 
 abbrev piles-by : tie.Start → Orientation → ℕ
 piles-by s way =
     let a = s.args in
-    pilesListed limit a.first.now a.next.now a.kind.now a.width.now a.height.now a.eaten.now way a.left a.c
+    piles_listed limit a.first.now a.next.now a.kind.now a.width.now a.height.now a.eaten.now way a.left a.c
 
 list-horizontal-requires : tie.Need-list-horizontal-requires
 list-horizontal-requires c κs =

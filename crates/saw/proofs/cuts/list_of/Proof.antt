@@ -6,7 +6,7 @@ use borrow.Author.Rules.{rules}
 use lib.ListN.{length}
 use lib.Seq.{sets}
 use Rattle.saw.specs.declared.cut.Cut.{Cut}
-use Rattle.saw.specs.Listed.{entriesOfCuts}
+use Rattle.saw.specs.Listed.{entries_of_cuts}
 use Rattle.saw.proofs.Call.{cuts_are, cuts-room, pieces_room}
 use Rattle.saw.proofs.cuts.list_of.Statement.{statement}
 use Rattle.saw.proofs.cuts.list_of.Tie as tie
@@ -29,7 +29,7 @@ returns : tie.Need-returns
 returns c =
     let s = begin c.before in
     let e = cuts_are s.args.layout s.pre (columned c.before).columns_of.ensures in (
-      c.list-cuts.ensures.0 ∙ ap (λ (cs : List Cut). sets s.args.list.now 0 (entriesOfCuts cs)) e,
+      c.list-cuts.ensures.0 ∙ ap (λ (cs : List Cut). sets s.args.list.now 0 (entries_of_cuts cs)) e,
       c.list-cuts.ensures.1 ∙ ap length e,
     )
 

@@ -4,13 +4,13 @@ use Prim.Native.Nat.{ℕ, ◌-◌, ◌≤◌}
 use native.Mathlib.Omega.{arith}
 use lib.ListN.{length}
 use lib.Seq.{sets, length-sets}
-use Rattle.saw.specs.Listed.{ninesOf}
+use Rattle.saw.specs.Listed.{nines_of}
 use Rattle.saw.proofs.CutBytes.{nines-stored}
 use Rattle.saw.proofs.cuts.put_nines.Statement.{statement}
 use Rattle.saw.proofs.cuts.put_nines.Tie as tie
 
 abbrev invariant-loop : tie.invariant-loop
-invariant-loop list n out₀ k₀ out k = (k ≤ n) × (length out ≡ length out₀) × (out ≡ sets out₀ 0 (ninesOf k list))
+invariant-loop list n out₀ k₀ out k = (k ≤ n) × (length out ≡ length out₀) × (out ≡ sets out₀ 0 (nines_of k list))
 
 abbrev decreases-loop : tie.decreases-loop
 decreases-loop list n out₀ k₀ out k = n - k
@@ -28,10 +28,10 @@ returns c =
     let l = c.before in
     let a = l.before.before.before.args in
     let e : l.loop.k ≡ a.n = omega arith in
-    l.loop.invariant.2 ∙ ap (λ (k : ℕ). sets a.out.now 0 (ninesOf k a.list.now)) e
+    l.loop.invariant.2 ∙ ap (λ (k : ℕ). sets a.out.now 0 (nines_of k a.list.now)) e
 
 pub put-nines-spec : {M : Type 1} → statement M
-unfolding ninesOf
+unfolding nines_of
 put-nines-spec =
     tie.close
     (tie.spec

@@ -3,7 +3,7 @@ use mathlib.Core.Path.{◌≡◌, ap, sym}
 use native.Mathlib.Omega.{arith}
 use lib.ListN.{length}
 use lib.Seq.{take_all, length-take-le}
-use Rattle.frames.specs.Requests.{requestOf}
+use Rattle.frames.specs.Requests.{request_of}
 use Rattle.session.proofs.Given.{pending-sized}
 use Rattle.session.proofs.Ways.{asks}
 use borrow.Author.Rules.{rules}
@@ -17,7 +17,7 @@ returns : tie.Need-returns
 returns c =
     let s = c.before.before.before.before in
     let p = s.args.pending in
-    asks (ap requestOf (take_all p.count p.bytes (omega (arith, sixty-four s)))) c.step.ensures
+    asks (ap request_of (take_all p.count p.bytes (omega (arith, sixty-four s)))) c.step.ensures
 
 array-share-prefix-bytes : tie.Need-array-share-prefix-bytes
 array-share-prefix-bytes c = omega (arith, sixty-four c.before.before)

@@ -2,14 +2,14 @@
 use native.Mathlib.Omega.{arith}
 use mathlib.Core.Path.{refl}
 use borrow.Author.Rules.{rules}
-use Rattle.frames.specs.Answers.{contentOf}
+use Rattle.frames.specs.Answers.{content_of}
 use Rattle.frames.specs.Bytes.{two}
 use Rattle.session.proofs.Spoken.{said, each-most}
 use Rattle.session.proofs.say.removed.Statement.{statement}
 use Rattle.session.proofs.say.removed.Tie as tie
 
 returns : tie.Need-returns
-unfolding contentOf
+unfolding content_of
 returns c =
     let s = c.before.before.before.before in
     let a = s.args in

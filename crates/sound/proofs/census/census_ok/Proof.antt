@@ -9,12 +9,12 @@ use lib.ListN.{length}
 use Rattle.lists.specs.Lists.{limit}
 use Rattle.lists.specs.Search.{every}
 use Rattle.lists.proofs.Fill.{filled, fill_more, fill-all}
-use Rattle.table.specs.Table.{zeroNode}
-use Rattle.table.specs.Columns.{areaOf, serialOf}
-use Rattle.sound.specs.Columns.{areasOf, serialsOf, kindsOf}
-use Rattle.sound.specs.Listed.{areaListed}
+use Rattle.table.specs.Table.{zero_node}
+use Rattle.table.specs.Columns.{area_of, serial_of}
+use Rattle.sound.specs.Columns.{areas_of, serials_of, kinds_of}
+use Rattle.sound.specs.Listed.{area_listed}
 use Rattle.sound.proofs.Sums.{held-most}
-use Rattle.sound.proofs.Counted.{passAt, every-next, held_next, area-next}
+use Rattle.sound.proofs.Counted.{pass_at, every-next, held_next, area-next}
 use Rattle.sound.proofs.Counted.{Going, test-passed, test-failed, part-taken, part-over}
 use Rattle.sound.proofs.Counted.{Counting, counting-none, census-passed, census-failed, census-miscounted}
 use Rattle.sound.proofs.census.census_ok.Statement.{statement}
@@ -23,8 +23,8 @@ use Rattle.sound.proofs.census.census_ok.Tie as tie
 abbrev invariant-loop : tie.invariant-loop
 invariant-loop last used held free removable hung serial₀ area₀ nodes ok₀ count₀ left₀ i₀ serial area ok count left i =
     (i ≤ limit)
-    × (serial ≡ filled serial₀ (serialsOf nodes) i)
-    × (area ≡ filled area₀ (areasOf nodes) i)
+    × (serial ≡ filled serial₀ (serials_of nodes) i)
+    × (area ≡ filled area₀ (areas_of nodes) i)
     × Counting limit nodes last used free removable hung ok count left i
 
 abbrev decreases-loop : tie.decreases-loop
@@ -40,7 +40,7 @@ add-count : tie.Need-overflow-add-count invariant-loop decreases-loop
 add-count c =
     let at-loop = c.before.before.before.before.before.before.before.before.before.before.before.before.before in
     let t = at-loop.before.args.t1 in
-    omega (arith, at-loop.loop.invariant.3.counted, held_next t at-loop.loop.i, held-most (serialsOf t) (at-loop.loop.i + 1), c.held_one.ensures)
+    omega (arith, at-loop.loop.invariant.3.counted, held_next t at-loop.loop.i, held-most (serials_of t) (at-loop.loop.i + 1), c.held_one.ensures)
 
 loop-again : tie.Need-loop-preserved invariant-loop decreases-loop
 loop-again c =
@@ -55,9 +55,9 @@ loop-again c =
     let t = a.t1 in
     let len : length t ≡ limit = at-loop.before.well-formed.0.1.0.1 in
     let h : l.i < limit = omega arith in
-    let f = passAt limit t a.last a.free.now a.removable.now a.hung.now in
+    let f = pass_at limit t a.last a.free.now a.removable.now a.hung.now in
     let tests = every f l.i && f l.i in
-    let sum = areaListed 1 (kindsOf t) (areasOf t) l.i in
+    let sum = area_listed 1 (kinds_of t) (areas_of t) l.i in
     let is = node.Node-Ok.ensures in
     let g : Going tests sum a.used tested.if1.type-inv l.left =
     ⊎_elim
@@ -70,8 +70,8 @@ loop-again c =
     (λ w. rw (w.1, w.2) (part-taken g w.0.left))
     taken.if2.branch in (
       omega arith,
-      fill_more serialOf t len zeroNode a.serial.now l.serial l.i _ l.invariant.1 h refl,
-      fill_more areaOf t len zeroNode a.area.now l.area l.i _ l.invariant.2 h worth.area.ensures,
+      fill_more serial_of t len zero_node a.serial.now l.serial l.i _ l.invariant.1 h refl,
+      fill_more area_of t len zero_node a.area.now l.area l.i _ l.invariant.2 h worth.area.ensures,
       record {
         counted = omega (arith, held_next t l.i, c.held_one.ensures, l.invariant.3.counted);
         going = rw (every-next f l.i, area-next t l.i, ← part.used-by.ensures) k;
@@ -88,8 +88,8 @@ returns c =
     let says = census-passed s.args.held (rw full at l.invariant.3) c.before.if3.true c.if4.true in (
       says,
       (
-        fill-all serialOf t len s.args.serial.now l.serial l.i l.invariant.1 (omega arith),
-        fill-all areaOf t len s.args.area.now l.area l.i l.invariant.2 (omega arith),
+        fill-all serial_of t len s.args.serial.now l.serial l.i l.invariant.1 (omega arith),
+        fill-all area_of t len s.args.area.now l.area l.i l.invariant.2 (omega arith),
       ),
     )
 
@@ -107,8 +107,8 @@ returns-2 c =
     c.if3.branch in (
       says,
       (
-        fill-all serialOf t len s.args.serial.now l.serial l.i l.invariant.1 (omega arith),
-        fill-all areaOf t len s.args.area.now l.area l.i l.invariant.2 (omega arith),
+        fill-all serial_of t len s.args.serial.now l.serial l.i l.invariant.1 (omega arith),
+        fill-all area_of t len s.args.area.now l.area l.i l.invariant.2 (omega arith),
       ),
     )
 

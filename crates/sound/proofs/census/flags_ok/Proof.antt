@@ -1,4 +1,4 @@
--- Each answer is `flagsB`, computed by the tests that led to it.
+-- Each answer is `flags_b`, computed by the tests that led to it.
 use borrow.Author.Rules.{rules}
 use Rattle.sound.proofs.Chain.{equals}
 use Rattle.sound.proofs.census.flags_ok.Statement.{statement}

@@ -1,4 +1,4 @@
--- Each answer is `hangsB`, computed by the tests that led to it.
+-- Each answer is `hangs_b`, computed by the tests that led to it.
 use Rattle.sound.proofs.Chain.{equals}
 use Rattle.sound.proofs.census.hangs_ok.Statement.{statement}
 use Rattle.sound.proofs.census.hangs_ok.Tie as tie

@@ -1,4 +1,4 @@
--- Each answer is `heldOne`, computed by the test that led to it.
+-- Each answer is `held_one`, computed by the test that led to it.
 use mathlib.Core.Path.{refl}
 use borrow.Author.Tests.{eq-eqb, ne_eqb}
 use Rattle.sound.proofs.census.held_one.Statement.{statement}

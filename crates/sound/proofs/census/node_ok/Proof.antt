@@ -1,12 +1,12 @@
--- `node_ok` meets its contract: each way out is one outcome of the tests of `nodeB`.
+-- `node_ok` meets its contract: each way out is one outcome of the tests of `node_b`.
 use borrow.Author.Rules.{rules}
 use Rattle.sound.proofs.Chain.{tests}
-use Rattle.sound.specs.Census.{nodeB}
+use Rattle.sound.specs.Census.{node_b}
 use Rattle.sound.proofs.census.node_ok.Statement.{statement}
 use Rattle.sound.proofs.census.node_ok.Tie as tie
 
 pub node-ok-spec : {M : Type 1} → statement M
-unfolding nodeB
+unfolding node_b
 node-ok-spec =
     tie.close
     (tie.spec

@@ -1,4 +1,4 @@
--- Each answer is `usedBy`, computed by the test that led to it.
+-- Each answer is `used_by`, computed by the test that led to it.
 use borrow.Author.Rules.{rules}
 use Rattle.sound.proofs.Chain.{equals}
 use Rattle.sound.proofs.census.used_by.Statement.{statement}

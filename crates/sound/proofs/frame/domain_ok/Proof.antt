@@ -1,4 +1,4 @@
--- `domain_ok` meets its contract: each way out is one outcome of the tests of `domainB`.
+-- `domain_ok` meets its contract: each way out is one outcome of the tests of `domain_b`.
 use borrow.Author.Rules.{rules}
 use Rattle.sound.proofs.Chain.{tests}
 use Rattle.sound.proofs.frame.domain_ok.Statement.{statement}

@@ -1,17 +1,17 @@
--- The sum after i places is `areaListed` of these, and no more than that of all.
+-- The sum after i places is `area_listed` of these, and no more than that of all.
 use mathlib.Core.Path.{◌≡◌, sym}
 use mathlib.Core.Logic.{⊎_elim}
 use Prim.Native.Nat.{◌+◌, ◌-◌, ◌≤◌}
 use native.Mathlib.Omega.{arith}
 use borrow.Author.Rules.{rules}
 use Rattle.lists.specs.Lists.{limit}
-use Rattle.sound.specs.Listed.{areaListed}
+use Rattle.sound.specs.Listed.{area_listed}
 use Rattle.sound.proofs.Sums.{area-none, area-here, area-pass, area-grows}
 use Rattle.sound.proofs.listed.free_sum.Statement.{statement}
 use Rattle.sound.proofs.listed.free_sum.Tie as tie
 
 abbrev invariant-loop : tie.invariant-loop
-invariant-loop kind area sum₀ i₀ sum i = (i ≤ limit) × (sum ≡ areaListed 0 kind area i)
+invariant-loop kind area sum₀ i₀ sum i = (i ≤ limit) × (sum ≡ area_listed 0 kind area i)
 
 abbrev decreases-loop : tie.decreases-loop
 decreases-loop kind area sum₀ i₀ sum i = limit - i
@@ -29,7 +29,7 @@ loop-again c =
     let l = c.before.before.before.loop in
     let k = c.before.before.before.before.args.kind.now in
     let a = c.before.before.before.before.args.area.now in
-    let more : c.if1.sum ≡ areaListed 0 k a (l.i + 1) = ⊎_elim
+    let more : c.if1.sum ≡ area_listed 0 k a (l.i + 1) = ⊎_elim
     (λ w. omega (arith, w.2, area-here 0 k a l.i w.0.taken))
     (λ w. omega (arith, w.1, area-pass 0 k a l.i w.0.left))
     c.if1.branch

@@ -6,14 +6,14 @@ use native.Mathlib.Omega.{arith}
 use borrow.Author.Rules.{rules}
 use borrow.Author.Tests.{not-true, not-false}
 use Rattle.lists.specs.Search.{every}
-use Rattle.sound.specs.Listed.{sortedB}
+use Rattle.sound.specs.Listed.{sorted_b}
 use Rattle.lists.proofs.Scan.{every-none, every_more, every-fails}
-use Rattle.sound.proofs.Lists.{orderedAt, ordered-here, ordered-bad, ordered_end}
+use Rattle.sound.proofs.Lists.{ordered_at, ordered-here, ordered-bad, ordered_end}
 use Rattle.sound.proofs.listed.is_sorted.Statement.{statement}
 use Rattle.sound.proofs.listed.is_sorted.Tie as tie
 
 abbrev invariant-loop : tie.invariant-loop
-invariant-loop area serial list count k₀ k = (k ≤ count) × (every (orderedAt area serial list count) k ≡ true)
+invariant-loop area serial list count k₀ k = (k ≤ count) × (every (ordered_at area serial list count) k ≡ true)
 
 abbrev decreases-loop : tie.decreases-loop
 decreases-loop area serial list count k₀ k = count - k
@@ -25,11 +25,11 @@ is-before-requires c κs =
     (s.requires.1 k (omega arith), s.requires.1 (k + 1) (omega arith))
 
 returns : tie.Need-returns invariant-loop decreases-loop
-unfolding sortedB
+unfolding sorted_b
 returns c =
     let k = c.before.before.before.before.before.loop.k in
     let a = c.before.before.before.before.before.before.args in
-    let f = orderedAt a.area.now a.serial.now a.list.now a.count in
+    let f = ordered_at a.area.now a.serial.now a.list.now a.count in
     let b = c.before.is-before in
     let here = ordered-bad a.area.now a.serial.now a.list.now a.count k b.result (omega arith) b.ensures
     (not-true b.result c.if1.true) in
@@ -39,7 +39,7 @@ loop-again : tie.Need-loop-preserved invariant-loop decreases-loop
 loop-again c =
     let l = c.before.before.before.before.before.loop in
     let a = c.before.before.before.before.before.before.args in
-    let f = orderedAt a.area.now a.serial.now a.list.now a.count in
+    let f = ordered_at a.area.now a.serial.now a.list.now a.count in
     let b = c.before.is-before in
     let here = ordered-here a.area.now a.serial.now a.list.now a.count l.k b.result b.ensures
     (not-false b.result c.if1.false) in
@@ -57,7 +57,7 @@ is-sorted-spec =
     (tie.spec
     invariant-loop
     decreases-loop
-    (λ c. (omega arith, every-none (orderedAt c.args.area.now c.args.serial.now c.args.list.now c.args.count)))  -- loop-holds
+    (λ c. (omega arith, every-none (ordered_at c.args.area.now c.args.serial.now c.args.list.now c.args.count)))  -- loop-holds
     (λ c. search rules)  -- add-loop
     (λ c. search rules)  -- mul-is-before
     (λ c. search rules)  -- element-copy-out-is-before

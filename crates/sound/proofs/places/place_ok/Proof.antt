@@ -1,12 +1,12 @@
 -- `place_ok` meets its contract.
 use borrow.Author.Rules.{rules}
-use Rattle.sound.specs.Places.{placeB}
+use Rattle.sound.specs.Places.{place_b}
 use Rattle.sound.proofs.Chain.{tests}
 use Rattle.sound.proofs.places.place_ok.Statement.{statement}
 use Rattle.sound.proofs.places.place_ok.Tie as tie
 
 pub place-ok-spec : {M : Type 1} → statement M
-unfolding placeB
+unfolding place_b
 place-ok-spec =
     tie.close
     (tie.spec

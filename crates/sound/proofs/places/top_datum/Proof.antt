@@ -1,12 +1,12 @@
--- `top_datum` meets its contract: each way out is one outcome of the tests of `topDatumB`.
+-- `top_datum` meets its contract: each way out is one outcome of the tests of `top_datum_b`.
 use borrow.Author.Rules.{rules}
-use Rattle.sound.specs.Places.{topDatumB}
+use Rattle.sound.specs.Places.{top_datum_b}
 use Rattle.sound.proofs.Chain.{tests}
 use Rattle.sound.proofs.places.top_datum.Statement.{statement}
 use Rattle.sound.proofs.places.top_datum.Tie as tie
 
 pub top-datum-spec : {M : Type 1} → statement M
-unfolding topDatumB
+unfolding top_datum_b
 top-datum-spec =
     tie.close
     (tie.spec

@@ -1,12 +1,12 @@
--- `top_ok` meets its contract: its two tests are those of `topB`.
+-- `top_ok` meets its contract: its two tests are those of `top_b`.
 use borrow.Author.Rules.{rules}
-use Rattle.sound.specs.Places.{topB}
+use Rattle.sound.specs.Places.{top_b}
 use Rattle.sound.proofs.Chain.{tests}
 use Rattle.sound.proofs.places.top_ok.Statement.{statement}
 use Rattle.sound.proofs.places.top_ok.Tie as tie
 
 pub top-ok-spec : {M : Type 1} → statement M
-unfolding topB
+unfolding top_b
 top-ok-spec =
     tie.close
     (tie.spec

@@ -1,12 +1,12 @@
--- `zero_datum` meets its contract: each way out is one outcome of the tests of `zeroDatumB`.
+-- `zero_datum` meets its contract: each way out is one outcome of the tests of `zero_datum_b`.
 use borrow.Author.Rules.{rules}
-use Rattle.sound.specs.Places.{zeroDatumB}
+use Rattle.sound.specs.Places.{zero_datum_b}
 use Rattle.sound.proofs.Chain.{tests}
 use Rattle.sound.proofs.places.zero_datum.Statement.{statement}
 use Rattle.sound.proofs.places.zero_datum.Tie as tie
 
 pub zero-datum-spec : {M : Type 1} → statement M
-unfolding zeroDatumB
+unfolding zero_datum_b
 zero-datum-spec =
     tie.close
     (tie.spec

@@ -1,11 +1,11 @@
--- `zero_links` meets its contract: each way out is one outcome of the tests of `zeroLinksB`.
-use Rattle.sound.specs.Places.{zeroLinksB}
+-- `zero_links` meets its contract: each way out is one outcome of the tests of `zero_links_b`.
+use Rattle.sound.specs.Places.{zero_links_b}
 use Rattle.sound.proofs.Chain.{tests}
 use Rattle.sound.proofs.places.zero_links.Statement.{statement}
 use Rattle.sound.proofs.places.zero_links.Tie as tie
 
 pub zero-links-spec : {M : Type 1} → statement M
-unfolding zeroLinksB
+unfolding zero_links_b
 zero-links-spec =
     tie.close
     (tie.spec

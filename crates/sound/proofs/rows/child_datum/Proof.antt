@@ -1,12 +1,12 @@
--- `child_datum` meets its contract: each way out is one outcome of the tests of `childDatumB`.
+-- `child_datum` meets its contract: each way out is one outcome of the tests of `child_datum_b`.
 use borrow.Author.Rules.{rules}
-use Rattle.sound.specs.Rows.{childDatumB}
+use Rattle.sound.specs.Rows.{child_datum_b}
 use Rattle.sound.proofs.Chain.{pass-by, pass-eq, pass_le, tests}
 use Rattle.sound.proofs.rows.child_datum.Statement.{statement}
 use Rattle.sound.proofs.rows.child_datum.Tie as tie
 
 returns-4 : tie.Need-returns-4
-unfolding childDatumB
+unfolding child_datum_b
 returns-4 c =
     let c3 = c.before.before.before.before.before.before in
     let c2 = c3.before.before.before in
@@ -18,7 +18,7 @@ returns-4 c =
     (cc)))
 
 pub child-datum-spec : {M : Type 1} → statement M
-unfolding childDatumB
+unfolding child_datum_b
 child-datum-spec =
     tie.close
     (tie.spec

@@ -1,12 +1,12 @@
--- `child_ok` meets its contract: its three tests are those of `childB`.
+-- `child_ok` meets its contract: its three tests are those of `child_b`.
 use borrow.Author.Rules.{rules}
-use Rattle.sound.specs.Rows.{childB}
+use Rattle.sound.specs.Rows.{child_b}
 use Rattle.sound.proofs.Chain.{tests}
 use Rattle.sound.proofs.rows.child_ok.Statement.{statement}
 use Rattle.sound.proofs.rows.child_ok.Tie as tie
 
 pub child-ok-spec : {M : Type 1} → statement M
-unfolding childB
+unfolding child_b
 child-ok-spec =
     tie.close
     (tie.spec

@@ -1,12 +1,12 @@
--- `ends_ok` meets its contract: each way out is one outcome of the tests of `endB`.
+-- `ends_ok` meets its contract: each way out is one outcome of the tests of `end_b`.
 use borrow.Author.Rules.{rules}
-use Rattle.sound.specs.Rows.{endB}
+use Rattle.sound.specs.Rows.{end_b}
 use Rattle.sound.proofs.Chain.{pass-eq, tests}
 use Rattle.sound.proofs.rows.ends_ok.Statement.{statement}
 use Rattle.sound.proofs.rows.ends_ok.Tie as tie
 
 pub ends-ok-spec : {M : Type 1} → statement M
-unfolding endB
+unfolding end_b
 ends-ok-spec =
     tie.close
     (tie.spec

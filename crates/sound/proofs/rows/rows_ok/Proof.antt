@@ -10,9 +10,9 @@ use borrow.Author.Tests.{ltb-true, ltb-false}
 use Rattle.lists.specs.Lists.{limit}
 use Rattle.table.specs.Table.{at}
 use Rattle.lists.specs.Search.{every}
-use Rattle.sound.specs.Columns.{nextsOf}
-use Rattle.sound.specs.Rows.{chainB, rowB, rowsB}
-use Rattle.sound.specs.Hung.{markRow, hangRows}
+use Rattle.sound.specs.Columns.{nexts_of}
+use Rattle.sound.specs.Rows.{chain_b, row_b, rows_b}
+use Rattle.sound.specs.Hung.{mark_row, hang_rows}
 use Rattle.lists.proofs.Scan.{every-none, every_more, every-fails}
 use Rattle.sound.proofs.Says.{clash}
 use Rattle.sound.proofs.Marks.{hang-on, hang-over, hang-none, hang-row, hang-skip}
@@ -25,15 +25,15 @@ invariant-loop settings hung₀ nodes ok₀ q up above pv₀ p₀ sum₀ left₀
     (left ≤ limit)
     × (ok ≡ true)
     × (sum + left * 8589934592 ≤ limit * 8589934592)
-    × (chainB limit settings nodes q left pv p sum ≡ chainB limit settings nodes q limit limit (at nodes q).first 0)
-    × (markRow limit (nextsOf nodes) left p hung ≡ markRow limit (nextsOf nodes) limit (at nodes q).first hung₀)
+    × (chain_b limit settings nodes q left pv p sum ≡ chain_b limit settings nodes q limit limit (at nodes q).first 0)
+    × (mark_row limit (nexts_of nodes) left p hung ≡ mark_row limit (nexts_of nodes) limit (at nodes q).first hung₀)
 
 abbrev decreases-loop : tie.decreases-loop
 decreases-loop settings hung₀ nodes ok₀ q up above pv₀ p₀ sum₀ left₀ hung ok pv p sum left = left
 
 abbrev invariant-all : tie.invariant-all
 invariant-all settings hung₀ nodes ok₀ q₀ hung ok q =
-    (q ≤ limit) × (ok ≡ true) × (every (rowB limit settings nodes) q ≡ true) × (hung ≡ hangRows limit nodes q hung₀)
+    (q ≤ limit) × (ok ≡ true) × (every (row_b limit settings nodes) q ≡ true) × (hung ≡ hang_rows limit nodes q hung₀)
 
 abbrev decreases-all : tie.decreases-all
 decreases-all settings hung₀ nodes ok₀ q₀ hung ok q = limit - q
@@ -70,7 +70,7 @@ loop-again c =
       omega arith,
       l.invariant.1,
       omega (arith, c.step_of_lem.ensures.1),
-      ap (λ (s : ℕ). chainB limit a.settings a.t1 o.q (l.left - 1) l.p (at a.t1 l.p).next (l.sum + s)) c.step_of_lem.ensures.0
+      ap (λ (s : ℕ). chain_b limit a.settings a.t1 o.q (l.left - 1) l.p (at a.t1 l.p).next (l.sum + s)) c.step_of_lem.ensures.0
           ∙ sym on
           ∙ l.invariant.3,
       sym (hang-on limit a.t1 l.left l.p l.hung h in_row) ∙ l.invariant.4,
@@ -80,7 +80,7 @@ all-again : tie.Need-all-preserved invariant-loop decreases-loop invariant-all d
 all-again c =
     let o = c.before.before.before.before.all in
     let a = c.before.before.before.before.before.args in
-    let more = every_more (rowB limit a.settings a.t1) o.q o.invariant.2 in
+    let more = every_more (row_b limit a.settings a.t1) o.q o.invariant.2 in
     let parent = c.before.is-parent.ensures in
     ⊎_elim
     (λ w.
@@ -96,7 +96,7 @@ all-again c =
       w.6
           ∙ sym (hang-over limit a.t1 l.left l.p l.hung stopped)
           ∙ l.inv.4
-          ∙ ap (markRow limit (nextsOf a.t1) limit (at a.t1 o.q).first) o.invariant.3
+          ∙ ap (mark_row limit (nexts_of a.t1) limit (at a.t1 o.q).first) o.invariant.3
           ∙ sym (hang-row limit a.t1 o.q a.hung.now parent w.0.taken),
     ))
     (λ w. (
@@ -108,14 +108,14 @@ all-again c =
     c.if1.branch
 
 returns : tie.Need-returns invariant-loop decreases-loop invariant-all decreases-all
-unfolding rowsB
+unfolding rows_b
 returns c =
     let o = c.before.all in
     let full : o.q ≡ limit = omega arith in
     (o.invariant.1 ∙ sym (rw full at o.invariant.2), λ e. rw full at o.invariant.3)
 
 returns-2 : tie.Need-returns-2 invariant-loop decreases-loop invariant-all decreases-all
-unfolding rowsB
+unfolding rows_b
 returns-2 c =
     let t2 = c.before.before.before in
     let l = t2.before.before.loop in
@@ -125,13 +125,13 @@ returns-2 c =
     let bad = chain-bad limit a.settings a.t1 o.q l.left l.pv l.p l.sum t2.before.loop-test.true in
     let row = sym l.invariant.3 ∙ bad c.before.child-ok.ensures c.if3.false in (
       sym
-          (every-fails (rowB limit a.settings a.t1) limit o.q (omega arith)
+          (every-fails (row_b limit a.settings a.t1) limit o.q (omega arith)
           (row_is limit a.settings a.t1 o.q t1.before.is-parent.ensures t1.if1.true row)),
       λ e. absurd (clash e),
     )
 
 returns-3 : tie.Need-returns-3 invariant-loop decreases-loop invariant-all decreases-all
-unfolding rowsB
+unfolding rows_b
 returns-3 c =
     let l = c.before.before.before.loop in
     let t1 = c.before.before.before.before in
@@ -146,7 +146,7 @@ returns-3 c =
     let fails = chain-fails limit a.settings a.t1 o.q l.left l.pv l.p l.sum stopped c.before.ends-ok.ensures failed in
     let row = sym l.invariant.3 ∙ fails in (
       sym
-          (every-fails (rowB limit a.settings a.t1) limit o.q (omega arith)
+          (every-fails (row_b limit a.settings a.t1) limit o.q (omega arith)
           (row_is limit a.settings a.t1 o.q t1.before.is-parent.ensures t1.if1.true row)),
       λ e. absurd (clash e),
     )

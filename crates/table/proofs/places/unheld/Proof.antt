@@ -5,13 +5,13 @@ use Prim.Native.Nat.{◌-◌}
 use borrow.Author.Rules.{rules}
 use borrow.Author.Tests.{eq-eqb, ne_eqb}
 use Rattle.lists.specs.Lists.{limit}
-use Rattle.table.specs.Unheld.{lowestFrom}
+use Rattle.table.specs.Unheld.{lowest_from}
 use Rattle.table.proofs.Unheld.{lowest-past, lowest-here, lowest-on}
 use Rattle.table.proofs.places.unheld.Statement.{statement}
 use Rattle.table.proofs.places.unheld.Tie as tie
 
 abbrev invariant-loop : tie.invariant-loop
-invariant-loop from nodes i₀ i = lowestFrom limit nodes i ≡ lowestFrom limit nodes from
+invariant-loop from nodes i₀ i = lowest_from limit nodes i ≡ lowest_from limit nodes from
 
 abbrev decreases-loop : tie.decreases-loop
 decreases-loop from nodes i₀ i = limit - i

@@ -7,7 +7,7 @@ use borrow.Author.Rules.{rules}
 use lib.ListN.{length, get_or}
 use Rattle.table.specs.Table.{at}
 use Rattle.lists.specs.Lists.{entries}
-use Rattle.walks.specs.Along.{number_at, numbersAlong}
+use Rattle.walks.specs.Along.{number_at, numbers_along}
 use Rattle.walks.proofs.Entries.{length_more}
 use Rattle.walks.proofs.NodeBytes.{number-most}
 use Rattle.walks.proofs.numbers.count_numbers.Statement.{statement}
@@ -15,7 +15,7 @@ use Rattle.walks.proofs.numbers.count_numbers.Tie as tie
 
 abbrev invariant-loop : tie.invariant-loop
 invariant-loop order count nodes found₀ i₀ found i =
-    (i ≤ count) × (found ≤ i) × (found ≡ length (numbersAlong nodes (entries i order)))
+    (i ≤ count) × (found ≤ i) × (found ≡ length (numbers_along nodes (entries i order)))
 
 abbrev decreases-loop : tie.decreases-loop
 decreases-loop order count nodes found₀ i₀ found i = count - i
@@ -44,7 +44,7 @@ returns c =
     let a = c.before.before.args in
     let l = c.before.loop in
     let e : l.i ≡ a.count = omega arith in
-    l.invariant.2 ∙ ap (λ (i : ℕ). length (numbersAlong a.t1 (entries i a.order.now))) e
+    l.invariant.2 ∙ ap (λ (i : ℕ). length (numbers_along a.t1 (entries i a.order.now))) e
 
 pub count-numbers-spec : {M : Type 1} → statement M
 unfolding entries

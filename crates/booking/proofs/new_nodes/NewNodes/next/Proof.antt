@@ -5,12 +5,12 @@ use mathlib.Core.Logic.{⊎_elim}
 use lib.Dec.{eqb}
 use borrow.Author.Rules.{rules}
 use borrow.Author.Tests.{le-leb, lt-leb}
-use Rattle.booking.specs.NewNodes.{nextNode}
+use Rattle.booking.specs.NewNodes.{next_node}
 use Rattle.booking.proofs.new_nodes.NewNodes.next.Statement.{statement}
 use Rattle.booking.proofs.new_nodes.NewNodes.next.Tie as tie
 
 returns : tie.Need-returns
-unfolding nextNode
+unfolding next_node
 returns c =
     let s = c.before.before.before.before.args in
     let first : c.before.if2.first ≡ (s.site.alone && eqb s.t1.count 0) =
@@ -19,7 +19,7 @@ returns c =
     rw c.site-node.ensures (simp (first, le-leb _ _ c.before.before.if1.true))
 
 returns-2 : tie.Need-returns-2
-unfolding nextNode
+unfolding next_node
 returns-2 c =
     c.site-node2.ensures ∙ simp (c.before.deeper.ensures, lt-leb _ _ c.before.before.before.before.if1.false)
 

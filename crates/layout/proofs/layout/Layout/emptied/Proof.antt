@@ -6,8 +6,8 @@ use borrow.Author.Rules.{rules}
 use lib.ListN.{length}
 use Rattle.layout_nodes.specs.declared.LayoutNodes.{LayoutNodes}
 use Rattle.removal.specs.Going.{places}
-use Rattle.removal.specs.Remove.{removedNodes}
-use Rattle.layout.specs.Parts.{nodesOf}
+use Rattle.removal.specs.Remove.{removed_nodes}
+use Rattle.layout.specs.Parts.{nodes_of}
 use Rattle.layout.specs.Inner.{Leaving}
 use Rattle.layout.proofs.TakenOut.{clearable, count_most, lists-room, place_is, next-out}
 use Rattle.layout.proofs.TidyEnds.{bare-asked, bare-few, bare-leaves, bare-used}
@@ -46,12 +46,12 @@ sub-with-nodes c =
 
 -- what `remove_bare` gives
 gave : (c : tie.After-remove-bare) → let b = c.before.before in let a = (start b).args in
-    c.remove-bare.result ≡ removedNodes (nodesOf a.self) (places b.going-bare.result) a.place a.self.serial
+    c.remove-bare.result ≡ removed_nodes (nodes_of a.self) (places b.going-bare.result) a.place a.self.serial
 gave c =
     let b = c.before.before in
     let a = (start b).args in
     c.remove-bare.ensures
-    ∙ ap (λ (n : LayoutNodes). removedNodes n (places b.going-bare.result) a.place a.self.serial) c.before.layout-nodes.ensures
+    ∙ ap (λ (n : LayoutNodes). removed_nodes n (places b.going-bare.result) a.place a.self.serial) c.before.layout-nodes.ensures
 
 with-nodes-requires : tie.Need-with-nodes-requires
 with-nodes-requires c κs =

@@ -2,12 +2,12 @@
 use mathlib.Core.Path.{refl}
 use borrow.Author.Rules.{rules}
 use Rattle.lists.specs.Lists.{padded}
-use Rattle.layout.specs.Open.{freshLayout}
+use Rattle.layout.specs.Open.{fresh_layout}
 use Rattle.layout.proofs.layout.Layout.fresh.Statement.{statement}
 use Rattle.layout.proofs.layout.Layout.fresh.Tie as tie
 
 returns : tie.Need-returns
-unfolding freshLayout padded
+unfolding fresh_layout padded
 returns c = rw c.fresh-nodes.ensures refl
 
 pub fresh-spec : {M : Type 1} → statement M

@@ -1,4 +1,4 @@
--- `insert` meets its contract: each way out is one outcome of the tests of `insertNo`, by proofs/Admitted.antt. Assumes nothing.
+-- `insert` meets its contract: each way out is one outcome of the tests of `insert_no`, by proofs/Admitted.antt. Assumes nothing.
 use mathlib.Core.Path.{◌≡◌, refl, sym, ap, ◌∙◌}
 use mathlib.Core.Option.{Option, none}
 use borrow.Author.Rules.{rules}
@@ -8,7 +8,7 @@ use Rattle.piece.specs.declared.insertion_blueprint.InsertionShape.{InsertionSha
 use Rattle.marks.specs.declared.Refusal.{Refusal}
 use Rattle.layout.specs.declared.layout.Layout.{Layout}
 use Rattle.layout.specs.declared.replies.Sought.{Sought}
-use Rattle.layout.specs.Insert.{insertNo, pieceNo}
+use Rattle.layout.specs.Insert.{insert_no, piece_no}
 use Rattle.layout.proofs.Typed.{typed-sized}
 use Rattle.layout.proofs.Exactly.{sound-says}
 use Rattle.layout.proofs.Marks.{headed}
@@ -18,8 +18,8 @@ use Rattle.layout.proofs.layout.Layout.insert.Tie as tie
 
 -- the piece or the refusal that the callee t gives is what the contract seeks
 as-sought : {o : Option Refusal} {x y t : Sought} (l : Layout) (p : PartType) (r : Rotation) (s : InsertionShape) → t ≡ y → t ≡ x
-    → o ≡ pieceNo l p r s x → o ≡ pieceNo l p r s y
-as-sought l p r s f e h = h ∙ ap (pieceNo l p r s) (sym e ∙ f)
+    → o ≡ piece_no l p r s x → o ≡ piece_no l p r s y
+as-sought l p r s f e h = h ∙ ap (piece_no l p r s) (sym e ∙ f)
 
 may-book-requires : tie.Need-may-book-requires
 may-book-requires c κs =
@@ -33,8 +33,8 @@ may-book-requires c κs =
 -- nothing refuses it where `may_book` says Done
 accepted : (c : tie.After-enum-told)
     → let a = c.before.before.before.before.before.before.before.args in
-    none ≡ insertNo a.self a.mark a.part a.rotation a.shape
-unfolding insertNo
+    none ≡ insert_no a.self a.mark a.part a.rotation a.shape
+unfolding insert_no
 accepted c =
     let o = c.before.before in
     let k = o.before.before in
@@ -50,7 +50,7 @@ booked-requires c κs =
     insertable a.self a.mark a.part a.rotation a.shape (typed-sized a.self _ t.well-formed.0) (sym (accepted c))
 
 returns : tie.Need-returns
-unfolding insertNo
+unfolding insert_no
 returns c =
     let k = c.before.before in
     let t = k.before.before in
@@ -59,7 +59,7 @@ returns c =
     (as-sought a.self a.part a.rotation a.shape t.free-piece.ensures k.refusal.given.1 refl) c.refused-insert.ensures
 
 returns-2 : tie.Need-returns-2
-unfolding insertNo
+unfolding insert_no
 returns-2 c =
     let f = c.before.before in
     let o = f.before.before in

@@ -2,23 +2,23 @@
 use mathlib.Core.Path.{◌≡◌, refl, sym, ◌∙◌}
 use mathlib.Core.Bool.{true, false}
 use borrow.Author.Rules.{rules}
-use Rattle.layout.specs.Check.{domainB}
-use Rattle.layout.specs.Open.{openOf}
+use Rattle.layout.specs.Check.{domain_b}
+use Rattle.layout.specs.Open.{open_of}
 use Rattle.layout.proofs.layout.Layout.open.Statement.{statement}
 use Rattle.layout.proofs.layout.Layout.open.Tie as tie
 
 returns : tie.Need-returns
-unfolding openOf
+unfolding open_of
 returns c =
     let a = c.before.before.before.args in
-    let d : domainB a.opening.settings ≡ false = sym c.before.before.domain-ok.ensures ∙ c.before.if1.false in
+    let d : domain_b a.opening.settings ≡ false = sym c.before.before.domain-ok.ensures ∙ c.before.if1.false in
     rw (d, c.zero.ensures) refl
 
 returns-2 : tie.Need-returns-2
-unfolding openOf
+unfolding open_of
 returns-2 c =
     let a = c.before.before.before.args in
-    let d : domainB a.opening.settings ≡ true = sym c.before.before.domain-ok.ensures ∙ c.before.if1.true in
+    let d : domain_b a.opening.settings ≡ true = sym c.before.before.domain-ok.ensures ∙ c.before.if1.true in
     rw (d, c.fresh.ensures) refl
 
 pub open_spec : {M : Type 1} → statement M

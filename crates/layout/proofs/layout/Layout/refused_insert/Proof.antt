@@ -1,4 +1,4 @@
--- `refused_insert` meets its contract: the marks are `zeroMarks`.
+-- `refused_insert` meets its contract: the marks are `zero_marks`.
 use mathlib.Core.Path.{ap}
 use borrow.Author.Rules.{rules}
 use Rattle.booking.specs.declared.new_marks.NewMarks.{NewMarks}

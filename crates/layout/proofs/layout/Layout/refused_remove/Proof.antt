@@ -1,4 +1,4 @@
--- `refused_remove` meets its contract: the mark is `zeroMark`.
+-- `refused_remove` meets its contract: the mark is `zero_mark`.
 use mathlib.Core.Path.{ap}
 use borrow.Author.Rules.{rules}
 use Rattle.marks.specs.declared.Mark.{Mark}

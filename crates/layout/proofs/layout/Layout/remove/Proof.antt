@@ -1,13 +1,13 @@
--- `remove` meets its contract: each way out is one outcome of the tests of `removeNo`, and past them the piece may be taken out.
+-- `remove` meets its contract: each way out is one outcome of the tests of `remove_no`, and past them the piece may be taken out.
 use mathlib.Core.Path.{◌≡◌, sym, ◌∙◌}
 use mathlib.Core.Bool.{true}
 use mathlib.Core.Option.{none}
 use borrow.Author.Rules.{rules}
 use lib.ListN.{length}
 use Rattle.layout.specs.declared.replies.Sought.TheVariants as sought
-use Rattle.layout.specs.Check.{soundB}
-use Rattle.layout.specs.Asked.{soughtOf}
-use Rattle.layout.specs.Remove.{goNo}
+use Rattle.layout.specs.Check.{sound_b}
+use Rattle.layout.specs.Asked.{sought_of}
+use Rattle.layout.specs.Remove.{go_no}
 use Rattle.layout.proofs.Typed.{typed-sized}
 use Rattle.layout.proofs.Admitted.{outcome-none, outcome-some}
 use Rattle.layout.proofs.RemoveEnds.{not_sound, no-mark, may-not, may-go, refused-so, taken-so, takeable}
@@ -15,18 +15,18 @@ use Rattle.layout.proofs.layout.Layout.remove.Statement.{statement}
 use Rattle.layout.proofs.layout.Layout.remove.Tie as tie
 
 -- past the first test
-checked : (c : tie.Then1) → soundB c.before.before.before.args.self ≡ true
+checked : (c : tie.Then1) → sound_b c.before.before.before.args.self ≡ true
 checked c = sym c.before.sound.ensures ∙ c.if1.true
 
 -- past the mark's tests: the piece
 named : (c : tie.After-piece)
-    → soughtOf c.before.before.before.before.before.before.args.self c.before.before.before.before.before.before.args.mark
+    → sought_of c.before.before.before.before.before.before.args.self c.before.before.before.before.before.before.args.mark
     ≡ sought.Piece c.piece.given.0.0
 named c = sym c.before.before.sought.ensures ∙ c.piece.given.1
 
 -- past its own tests
 allowed : (c : tie.After-enum-told)
-    → goNo c.before.before.before.before.before.before.before.before.before.before.args.self
+    → go_no c.before.before.before.before.before.before.before.before.before.before.args.self
     c.before.before.before.before.before.before.before.before.before.before.args.mark.place
     c.before.before.before.before.piece.given.0.0
     ≡ none

@@ -5,11 +5,11 @@ use borrow.Author.Rules.{rules}
 use Rattle.lists.specs.declared.flags.Flags.{Flags}
 use Rattle.lists.specs.Lists.{limit, zeros}
 use Rattle.lists.proofs.Fill.{fill-over}
-use Rattle.table.specs.Columns.{areaOf, serialOf}
+use Rattle.table.specs.Columns.{area_of, serial_of}
 use Rattle.sound.proofs.Chain.{pass, stop}
-use Rattle.layout.specs.Check.{soundB}
+use Rattle.layout.specs.Check.{sound_b}
 use Rattle.layout.proofs.Typed.{typed-sized}
-use Rattle.layout.proofs.Passes.{restB, serials-low, some_of, sound-is}
+use Rattle.layout.proofs.Passes.{rest_b, serials-low, some_of, sound-is}
 use Rattle.layout.proofs.layout.Layout.sound.Statement.{statement}
 use Rattle.layout.proofs.layout.Layout.sound.Tie as tie
 
@@ -21,9 +21,9 @@ passed :
     let k = r.before.before.before.before in
     let f = k.before.before in
     let l = f.before.before.before.before.before.before.before.before.before.before.args.self in
-    soundB l
+    sound_b l
     ≡ (((((f.flags_of.result.ok && k.flags-of2.result.ok) && r.rows_ok.result) && n.census-ok.result) && c.frame-ok.result)
-    && restB l n.census-ok.new.1.1.1.1.1.1.1.0 n.census-ok.new.1.1.1.1.1.1.1.1.0)
+    && rest_b l n.census-ok.new.1.1.1.1.1.1.1.0 n.census-ok.new.1.1.1.1.1.1.1.1.0)
 passed c =
     let n = c.before in
     let r = n.before.before.before.before.before.before in
@@ -38,8 +38,8 @@ passed c =
     r.rows_ok.ensures.0
     r.rows_ok.ensures.1
     n.census-ok.ensures.0
-    (n.census-ok.ensures.1.0 ∙ fill-over serialOf l.nodes len (zeros limit) refl)
-    (n.census-ok.ensures.1.1 ∙ fill-over areaOf l.nodes len (zeros limit) refl)
+    (n.census-ok.ensures.1.0 ∙ fill-over serial_of l.nodes len (zeros limit) refl)
+    (n.census-ok.ensures.1.1 ∙ fill-over area_of l.nodes len (zeros limit) refl)
     c.frame-ok.ensures
 
 rest-ok-requires : tie.Need-rest-ok-requires
@@ -56,7 +56,7 @@ rest-ok-requires c κs =
     t.if1.true in (
       sym (ap (λ (x : Flags). x.ok) f.flags_of.ensures) ∙ on.0,
       serials-low l _ _ _ n.census-ok.ensures.0
-          (n.census-ok.ensures.1.0 ∙ fill-over serialOf l.nodes (typed-sized l _ s.well-formed.0).nodes (zeros limit) refl)
+          (n.census-ok.ensures.1.0 ∙ fill-over serial_of l.nodes (typed-sized l _ s.well-formed.0).nodes (zeros limit) refl)
           w.frame-ok.ensures on.1 on.2,
     )
 

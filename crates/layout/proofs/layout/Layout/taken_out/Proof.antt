@@ -4,7 +4,7 @@ use native.Mathlib.Omega.{arith}
 use borrow.Author.Rules.{rules}
 use lib.ListN.{length}
 use lib.Seq.{sets}
-use Rattle.layout.specs.Remove.{numbersOut}
+use Rattle.layout.specs.Remove.{numbers_out}
 use Rattle.layout.specs.Inner.{Leaving}
 use Rattle.layout.proofs.TakenOut.{goable, numbers-going}
 use Rattle.layout.proofs.RemoveEnds.{too_short, long-enough}
@@ -32,7 +32,7 @@ count-numbers-requires c κs = let g = leaving c.before.before in (g.room, g.pla
 count-is : (c : tie.After-count-numbers)
     → c.count-numbers.result
     ≡ length
-    (numbersOut c.before.before.before.before.before.before.before.args.self
+    (numbers_out c.before.before.before.before.before.before.before.args.self
     c.before.before.before.before.before.before.before.args.place)
 count-is c =
     let g = c.before.before.before in

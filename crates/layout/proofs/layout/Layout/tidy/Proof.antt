@@ -5,7 +5,7 @@ use mathlib.Core.Bool.{true}
 use native.Mathlib.Omega.{arith}
 use borrow.Author.Rules.{rules}
 use Rattle.tree.specs.Tidy.{Lowest, empties}
-use Rattle.layout.specs.Check.{tree, soundB}
+use Rattle.layout.specs.Check.{tree, sound_b}
 use Rattle.layout.proofs.Typed.{typed-sized}
 use Rattle.layout.proofs.Exactly.{sound-says}
 use Rattle.layout.proofs.TidyEnds.{Taken, emptyable, finds, finds-none, none-taken, one_less, one_more, some_left, unsound-so, spent-so, done-so}
@@ -19,7 +19,7 @@ abbrev decreases-loop : tie.decreases-loop
 decreases-loop self left₀ count₀ left count = empties (tree left)
 
 -- past the first test
-checked : (c : tie.Then1 invariant-loop decreases-loop) → soundB c.before.before.args.self ≡ true
+checked : (c : tie.Then1 invariant-loop decreases-loop) → sound_b c.before.before.args.self ≡ true
 checked c = sym c.before.sound.ensures ∙ c.if1.true
 
 -- a structure was found

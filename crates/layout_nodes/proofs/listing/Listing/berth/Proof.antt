@@ -5,13 +5,13 @@ use native.Mathlib.Omega.{arith}
 use borrow.Author.Rules.{rules}
 use borrow.Author.Tests.{lt-ltb, le-ltb}
 use Rattle.lists.proofs.Scan.{Searching, search-start, search-on, search-found, search-end}
-use Rattle.layout_nodes.specs.Listings.{areaAt}
-use Rattle.layout_nodes.proofs.Listed.{smallerIn, berth-entries}
+use Rattle.layout_nodes.specs.Listings.{area_at}
+use Rattle.layout_nodes.proofs.Listed.{smaller_in, berth-entries}
 use Rattle.layout_nodes.proofs.listing.Listing.berth.Statement.{statement}
 use Rattle.layout_nodes.proofs.listing.Listing.berth.Tie as tie
 
 abbrev invariant-loop : tie.invariant-loop
-invariant-loop areas place list count area i₀ i = Searching (smallerIn (areaAt areas) list area) count i
+invariant-loop areas place list count area i₀ i = Searching (smaller_in (area_at areas) list area) count i
 
 abbrev decreases-loop : tie.decreases-loop
 decreases-loop areas place list count area i₀ i = count - i
@@ -19,7 +19,7 @@ decreases-loop areas place list count area i₀ i = count - i
 loop-holds : tie.Need-loop-init invariant-loop decreases-loop
 loop-holds c =
     let a = c.before.before.args in
-    search-start (smallerIn (areaAt a.areas.now) a.self.list c.area-at.result) a.self.count
+    search-start (smaller_in (area_at a.areas.now) a.self.list c.area-at.result) a.self.count
 
 loop-again : tie.Need-loop-preserved invariant-loop decreases-loop
 loop-again c =
@@ -27,7 +27,7 @@ loop-again c =
     let n = c.before.before.before.before.area-at.result in
     let a = c.before.before.before.before.before.before.args in
     let r = c.before.area-at2 in
-    search-on (smallerIn (areaAt a.areas.now) a.self.list n) a.self.count l.i l.invariant (omega arith)
+    search-on (smaller_in (area_at a.areas.now) a.self.list n) a.self.count l.i l.invariant (omega arith)
     (rw (← r.ensures) (le-ltb r.result n c.if2.false))
 
 returns : tie.Need-returns invariant-loop decreases-loop
@@ -36,8 +36,8 @@ returns c =
     let n = c.before.before.area-at in
     let s = c.before.before.before.before in
     let a = s.args in
-    search-end (smallerIn (areaAt a.areas.now) a.self.list n.result) a.self.count l.i l.invariant c.if1.true
-    ∙ berth-entries s.requires a.place (areaAt a.areas.now) n.ensures
+    search-end (smaller_in (area_at a.areas.now) a.self.list n.result) a.self.count l.i l.invariant c.if1.true
+    ∙ berth-entries s.requires a.place (area_at a.areas.now) n.ensures
 
 returns-2 : tie.Need-returns-2 invariant-loop decreases-loop
 returns-2 c =
@@ -46,9 +46,9 @@ returns-2 c =
     let s = c.before.before.before.before.before.before in
     let a = s.args in
     let r = c.before.area-at2 in
-    search-found (smallerIn (areaAt a.areas.now) a.self.list n.result) a.self.count l.i l.invariant (omega arith)
+    search-found (smaller_in (area_at a.areas.now) a.self.list n.result) a.self.count l.i l.invariant (omega arith)
     (rw (← r.ensures) (lt-ltb r.result n.result c.if2.true))
-    ∙ berth-entries s.requires a.place (areaAt a.areas.now) n.ensures
+    ∙ berth-entries s.requires a.place (area_at a.areas.now) n.ensures
 
 pub berth-spec : {M : Type 1} → statement M
 berth-spec =

@@ -7,7 +7,7 @@ use native.Mathlib.Omega.{arith}
 use borrow.Author.Rules.{rules}
 use lib.ListN.{get_or, take}
 use Rattle.lists.specs.Lists.{limit}
-use Rattle.layout_nodes.specs.Listings.{entriesOf}
+use Rattle.layout_nodes.specs.Listings.{entries_of}
 use Rattle.layout_nodes.proofs.OnePass.{Passed, low, passed_none, passed-room, passed-keep, passed-drop, passed-all}
 use Rattle.layout_nodes.proofs.listing.Listing.omit_all.Statement.{statement}
 use Rattle.layout_nodes.proofs.listing.Listing.omit_all.Tie as tie
@@ -34,7 +34,7 @@ module _ (c : tie.In-loop invariant-loop decreases-loop) where
       passed-room s.args.order.now s.args.count s.requires.0 s.requires.2 l.i c.loop-test.true l.invariant.1
 
 loop-holds : tie.Need-loop-init invariant-loop decreases-loop
-loop-holds c = let a = c.before.before.args in (omega arith, passed_none a.order.now a.count (entriesOf a.self))
+loop-holds c = let a = c.before.before.args in (omega arith, passed_none a.order.now a.count (entries_of a.self))
 
 mul-if1 : tie.Need-overflow-mul-if1 invariant-loop decreases-loop
 mul-if1 c = omega (arith, place-low c.before, c.wide.ensures)

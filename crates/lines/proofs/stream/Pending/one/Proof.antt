@@ -1,12 +1,12 @@
 -- `Pending::one` meets its contract: one test for each case. Assumes nothing.
 use borrow.Author.Tests.{lt-ltb, le-ltb}
-use Rattle.lines.specs.Stream.{addChar}
+use Rattle.lines.specs.Stream.{add_char}
 use borrow.Author.Rules.{rules}
 use Rattle.lines.proofs.stream.Pending.one.Statement.{statement}
 use Rattle.lines.proofs.stream.Pending.one.Tie as tie
 
 pub one_spec : {M : Type 1} → statement M
-unfolding addChar
+unfolding add_char
 one_spec =
     tie.close
     (tie.spec

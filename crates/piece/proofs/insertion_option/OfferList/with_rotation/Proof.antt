@@ -1,16 +1,16 @@
 -- `OfferList::with_rotation` meets its contract: a rotation that is forbidden or does not fit adds nothing, any other its shapes.
 use mathlib.Core.Path.{sym, ◌∙◌}
 use borrow.Author.Rules.{rules}
-use Rattle.piece.specs.Offers.{offersIn}
+use Rattle.piece.specs.Offers.{offers_in}
 use Rattle.piece.proofs.insertion_option.OfferList.with_rotation.Statement.{statement}
 use Rattle.piece.proofs.insertion_option.OfferList.with_rotation.Tie as tie
 
 returns : tie.Need-returns
-unfolding offersIn
+unfolding offers_in
 returns c = simp (sym c.before.allows.ensures ∙ c.if1.false)
 
 returns-2 : tie.Need-returns-2
-unfolding offersIn
+unfolding offers_in
 returns-2 c =
     simp (
       ← c.before.before.size_in.ensures,
@@ -19,7 +19,7 @@ returns-2 c =
     )
 
 returns-3 : tie.Need-returns-3
-unfolding offersIn
+unfolding offers_in
 returns-3 c =
     c.with-shapes.ensures
     ∙ simp (

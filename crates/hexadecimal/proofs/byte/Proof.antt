@@ -1,10 +1,10 @@
--- `hex::byte` meets its contract. Assumes nothing.
+-- `hexadecimal::byte` meets its contract. Assumes nothing.
 use mathlib.Core.Path.{◌≡◌, refl, sym, ap, ap₂, ◌∙◌, subst}
 use Prim.Native.Nat.{ℕ, ◌+◌, ◌*◌, ◌≤◌, ◌<◌}
 use borrow.Author.Rules.{rules}
-use Rattle.hex.proofs.Pairs.{high-bad, low-bad, both-good}
-use Rattle.hex.proofs.byte.Statement.{statement}
-use Rattle.hex.proofs.byte.Tie as tie
+use Rattle.hexadecimal.proofs.Pairs.{high-bad, low-bad, both-good}
+use Rattle.hexadecimal.proofs.byte.Statement.{statement}
+use Rattle.hexadecimal.proofs.byte.Tie as tie
 
 returns : tie.Need-returns
 returns c =

@@ -1,6 +1,6 @@
 // Lower-case hexadecimal, two characters a byte, highest digit first: the letters of frames and of recorded answers. Rests on nothing.
 ghost use Rattle.std.specs.Prelude.{◌≡◌, ◌+◌, ◌*◌, ◌<◌};
-ghost use Rattle.hex.specs.Hex.{digitOf, letterOf, pair_of};
+ghost use Rattle.hexadecimal.specs.Hex.{digit_of, letter_of, pair_of};
 
 // What value() answers for a character that is no digit, and byte() for a pair that is no byte.
 pub const NO_DIGIT: u8 = 16;
@@ -9,7 +9,7 @@ pub const NO_BYTE: u16 = 256;
 
 // The value of a digit.
 pub fn value(letter: u8) -> u8
-    ensures { result ≡ digitOf letter }
+    ensures { result ≡ digit_of letter }
 {
     if letter < 48 {
         return NO_DIGIT;
@@ -44,7 +44,7 @@ pub fn byte(high: u8, low: u8) -> u16
 // The character of a digit.
 pub fn letter(digit: u8) -> u8
     requires { digit < 16 }
-    ensures { result ≡ letterOf digit }
+    ensures { result ≡ letter_of digit }
 {
     if digit < 10 { digit + 48 } else { digit + 87 }
 }

@@ -2,13 +2,13 @@
 use Rattle.std.specs.Prelude.{Bool, true, false, cond, ◌||◌, ℕ, ◌+◌, ◌-◌, ◌*◌, ltb, leb}
 
 -- 0 to 9 are the characters 48 to 57, a to f are 97 to 102; 16 says that it is no digit
-unfoldable pub digitOf : ℕ → ℕ
-digitOf c =
+unfoldable pub digit_of : ℕ → ℕ
+digit_of c =
     cond (ltb c 48) 16 (cond (ltb c 58) (c - 48) (cond (ltb c 97) 16 (cond (ltb c 103) (c - 87) 16)))
 
 -- the byte of two characters, highest digit first; 256 says that it is none
 unfoldable pub pair_of : ℕ → ℕ → ℕ
-pair_of h l = cond (leb 16 (digitOf h) || leb 16 (digitOf l)) 256 (digitOf h * 16 + digitOf l)
+pair_of h l = cond (leb 16 (digit_of h) || leb 16 (digit_of l)) 256 (digit_of h * 16 + digit_of l)
 
-unfoldable pub letterOf : ℕ → ℕ
-letterOf d = cond (ltb d 10) (d + 48) (d + 87)
+unfoldable pub letter_of : ℕ → ℕ
+letter_of d = cond (ltb d 10) (d + 48) (d + 87)

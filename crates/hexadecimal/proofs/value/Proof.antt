@@ -1,25 +1,25 @@
--- `hex::value` meets its contract: each exit is a range of `digitOf`. Assumes nothing.
+-- `hexadecimal::value` meets its contract: each exit is a range of `digit_of`. Assumes nothing.
 use borrow.Author.Rules.{rules}
 use borrow.Author.Tests.{lt-ltb, le-ltb}
-use Rattle.hex.specs.Hex.{digitOf}
-use Rattle.hex.proofs.value.Statement.{statement}
-use Rattle.hex.proofs.value.Tie as tie
+use Rattle.hexadecimal.specs.Hex.{digit_of}
+use Rattle.hexadecimal.proofs.value.Statement.{statement}
+use Rattle.hexadecimal.proofs.value.Tie as tie
 
 returns : tie.Need-returns
-unfolding digitOf
+unfolding digit_of
 returns c = simp (lt-ltb _ _ c.if1.true)
 
 returns-2 : tie.Need-returns-2
-unfolding digitOf
+unfolding digit_of
 returns-2 c = simp (le-ltb _ _ c.before.if1.false, lt-ltb _ _ c.if2.true)
 
 returns-3 : tie.Need-returns-3
-unfolding digitOf
+unfolding digit_of
 returns-3 c =
     simp (le-ltb _ _ c.before.before.if1.false, le-ltb _ _ c.before.if2.false, lt-ltb _ _ c.if3.true)
 
 returns-4 : tie.Need-returns-4
-unfolding digitOf
+unfolding digit_of
 returns-4 c =
     simp (
       le-ltb _ _ c.before.before.before.if1.false,
@@ -29,7 +29,7 @@ returns-4 c =
     )
 
 returns-5 : tie.Need-returns-5
-unfolding digitOf
+unfolding digit_of
 returns-5 c =
     simp (
       le-ltb _ _ c.before.before.before.if1.false,
