@@ -8,7 +8,7 @@ use crate::new_nodes::{NewNode, NewNodes};
 use marks::Mark;
 
 // The marks of the first node and of the part; those of the free pieces in creation order, and how many. A mark that is none is zero.
-#[derive(Drop)]
+#[derive(Clone, Copy)]
 pub struct NewMarks {
     pub first: Mark,
     pub part: Mark,

@@ -16,7 +16,7 @@ use table::places::unheld;
 use table::{LIMIT, Node};
 
 // A node to be made: the place of its parent, whether it is the first child of that one, its own place, and what it is.
-#[derive(Drop)]
+#[derive(Clone, Copy)]
 pub struct NewNode {
     pub under: u16,
     pub place: u16,
@@ -33,7 +33,7 @@ pub struct NewNodes {
 
 // Where they come: under which piece and at what level, whether that piece has no child then, at what places, and with which serial the first;
 // and the part's number and the width of the blade.
-#[derive(Drop)]
+#[derive(Clone, Copy)]
 pub struct Site {
     pub under: u16,
     pub alone: bool,

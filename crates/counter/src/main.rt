@@ -1,5 +1,7 @@
 // The counter: frames in, a line each, and answers out (document 01, "Counter frames"). Each line is answered when its newline has arrived,
 // before more is read. Rests on `session`, where all of it is proved, and on `pipes` for the reads and the writes.
+#![tactic(auto)]
+
 ghost use Rattle.std.specs.Prelude.{List, ◌≤◌, T};
 ghost use Rattle.frames.specs.Answers.{Answer};
 ghost use Rattle.session.specs.Session.{longest};

@@ -1,6 +1,8 @@
 // The deepest sound tree, 254 levels below the top, is examined, snapshotted, measured and its saw cuts are listed; and those of the longest row, 254
 // parts under the top, since the cuts are listed call by call along a row too. Then the whole chain is taken out, and one part of the row; and the chain
 // without its part is tidied. The proofs know no stack: tests/stack.sh runs this on one of 256 KiB.
+#![tactic(auto)]
+
 ghost use Rattle.std.specs.Prelude.{◌<◌};
 
 use layout::layout::Layout;

@@ -1,5 +1,7 @@
 // The desk: the counter's frames and the desk's own in, a line each, and answers out (docs/DESK.md). Each line is answered when its newline has arrived,
 // before more is read. Rests on `desk_frames`, where all of it is proved, and on `pipes` for the reads and the writes.
+#![tactic(auto)]
+
 ghost use Rattle.std.specs.Prelude.{◌≡◌};
 ghost use Rattle.lines.specs.Stream.{take_of};
 

@@ -1,6 +1,8 @@
 // The desk's frames: all of the counter's, an op for each question that the counter has none for, and one that tidies. A line has the same form, the same
 // check and the same refusals (docs/DESK.md). Here is the answer to a line; read.rt says what a line asks, replies.rt what it is answered with.
 // Rests on `session` for the counter's ops, on `questions` and `saw` for the answers to the questions, and on `layout` for the tidying.
+#![tactic(auto)]
+
 ghost use Rattle.std.specs.Prelude.{◌≡◌, ◌≤◌, length, take};
 ghost use Rattle.std.proofs.lemmas.List.Edits.{sets};
 ghost use Rattle.desk_frames.specs.declared.DeskRequest.TheVariants as requests;
@@ -23,7 +25,7 @@ pub mod replies; // replies.rt: what a question is answered with
 pub mod write; // write.rt: an answer as a line
 
 // A question about the layout on the desk. None of them changes anything.
-#[derive(Drop)]
+#[derive(Clone, Copy)]
 pub enum Question {
     WhyNot { mark: Mark, part: PartType },
     RoomLight { part: PartType },
@@ -38,7 +40,7 @@ pub enum Question {
 }
 
 // What a line asks at the desk: a question, to tidy the layout, or what it asks at the counter; a malformed line is malformed there.
-#[derive(Drop)]
+#[derive(Clone, Copy)]
 pub enum DeskRequest {
     Asks(Question),
     Tidy,

@@ -1,5 +1,7 @@
 // The counter's frames (document 01, "Counter frames"): reading a line into what it asks, writing an answer as a line.
 // Rests on hexadecimal (digits), piece (parts, sizes, shapes) and answers (marks, refusals).
+#![tactic(auto)]
+
 use marks::Mark;
 use piece::insertion_blueprint::InsertionShape;
 use piece::parttype::PartType;
@@ -10,7 +12,7 @@ pub mod read;
 pub mod write;
 
 // What a line asks of the layout. A mark's place is one byte in a frame.
-#[derive(Drop)]
+#[derive(Clone, Copy)]
 pub enum Ask {
     Open {
         opening: Opening,
@@ -32,7 +34,7 @@ pub enum Ask {
 }
 
 // What a line asks: something of the layout, to keep the layout, or to restore the one that is kept; or it is malformed.
-#[derive(Drop)]
+#[derive(Clone, Copy)]
 pub enum Request {
     OfLayout(Ask),
     Keep,

@@ -76,7 +76,7 @@ const REMOVE: usize = FIRST + MARK + CHECK;
 pub const BARE: usize = FIRST + CHECK;
 
 // The bytes of a line, zero past the last; their sum, counting past 255 from 0 again; and whether all characters are digits.
-#[derive(Drop)]
+#[derive(Clone, Copy)]
 struct Decoded {
     bytes: [u8; 32],
     sum: u8,
@@ -263,7 +263,7 @@ fn asked_by(op: u8, b: &[u8; 32]) -> Request
 }
 
 // A line as the bytes of a frame, its op first, zero past the last; how many there are; and whether it is a frame at all.
-#[derive(Drop)]
+#[derive(Clone, Copy)]
 pub struct Frame {
     pub bytes: [u8; 32],
     pub count: usize,

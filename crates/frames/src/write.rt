@@ -11,7 +11,7 @@ use marks::{Mark, Refusal};
 use piece::insertion_option::{Offer, OfferList};
 
 // Where the next character goes, and the sum of the bytes so far, counting past 255 from 0 again.
-#[derive(Drop)]
+#[derive(Clone, Copy)]
 pub struct Pen {
     pub at: usize,
     pub sum: u8,

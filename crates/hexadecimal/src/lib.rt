@@ -1,4 +1,6 @@
 // Lower-case hexadecimal, two characters a byte, highest digit first: the letters of frames and of recorded answers. Rests on nothing.
+#![tactic(auto)]
+
 ghost use Rattle.std.specs.Prelude.{◌≡◌, ◌+◌, ◌*◌, ◌<◌};
 ghost use Rattle.hexadecimal.specs.Hex.{digit_of, letter_of, pair_of};
 

@@ -11,7 +11,7 @@ use table::LIMIT;
 // The bytes of the longest snapshot: 14 for each place.
 const SNAPSHOT: usize = 14 * LIMIT;
 
-#[derive(Drop)]
+#[derive(Clone, Copy)]
 pub enum Listing {
     Free,
     Removable,

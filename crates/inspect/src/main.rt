@@ -1,6 +1,8 @@
 // The inspector: the counter's frames in, and for each line its answer and then what frames don't show, in nine fields (recorded/README.md). Of the desk's ops
 // it takes the one that changes the layout: a line that asks to tidy does here what it does at the desk.
 // Rests on `session`, and takes the same turns as `counter`, and on `desk_frames`; the reads and the writes are those of `pipes`.
+#![tactic(auto)]
+
 mod fields;
 mod pen;
 

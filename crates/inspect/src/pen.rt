@@ -5,7 +5,7 @@ use libc::STDOUT_FILENO;
 pub const ROOM: usize = 4096;
 
 // How many characters wait, and whether all that was written before them could be.
-#[derive(Drop)]
+#[derive(Clone, Copy)]
 pub struct Pen {
     pub waiting: usize,
     pub written: bool,

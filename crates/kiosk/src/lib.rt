@@ -1,6 +1,8 @@
 // The session step for programs in C and Rust: the session crosses as a record of plain numbers, in the session's own order. The kept layout is read
 // from its record by restore alone, and keep alone writes one; a refusal writes none. Rests on records.rt for the records and on `session` for the
 // answers.
+#![tactic(auto)]
+
 ghost use Rattle.std.specs.Prelude.{◌≡◌, cond};
 ghost use Rattle.frames.specs.Requests.{request_of};
 ghost use Rattle.kiosk.specs.Step.{Answered, record_step_to, record_with_layout};

@@ -16,7 +16,7 @@ use table::nodes::empty_table;
 use table::{LIMIT, Node};
 
 #[repr(C)]
-#[derive(Drop)]
+#[derive(Clone, Copy)]
 pub struct DatumRecord {
     pub serial: u32,
     pub width: u32,
@@ -29,7 +29,7 @@ pub struct DatumRecord {
 }
 
 #[repr(C)]
-#[derive(Drop)]
+#[derive(Clone, Copy)]
 pub struct NodeRecord {
     pub datum: DatumRecord,
     pub parent: u16,

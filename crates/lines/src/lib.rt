@@ -1,5 +1,7 @@
 // Finding the lines of a text that is lent: a line is what stands before a newline (10). The line finder, and over it a reader that walks
 // the text: it hands on the line at its cursor as the caller's own bytes, and goes on past it. Rests on nothing.
+#![tactic(auto)]
+
 ghost use Rattle.std.specs.Prelude.{◌≡◌};
 ghost use Rattle.lines.specs.Lines.{newline_from, chars_at, past_at};
 

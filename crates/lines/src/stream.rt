@@ -7,14 +7,14 @@ ghost use Rattle.lines.specs.Stream.{empty, add_char, adds, step_of, take_of, un
 pub const MOST: usize = 64;
 
 // The characters of the line that has no newline yet: the first count of bytes; the rest is zero. With over, it has more than fit.
-#[derive(Drop)]
+#[derive(Clone, Copy)]
 pub struct Pending {
     pub bytes: [u8; 64],
     pub count: usize,
     pub over: bool,
 }
 
-#[derive(Drop)]
+#[derive(Clone, Copy)]
 pub enum Event {
     // A whole line is there, with its newline: the first count bytes of what is pending.
     Whole,
@@ -24,7 +24,7 @@ pub enum Event {
     More,
 }
 
-#[derive(Drop)]
+#[derive(Clone, Copy)]
 pub struct Taken {
     pub pending: Pending,
     pub next: usize,

@@ -1,5 +1,7 @@
 // Steps on lent lists of places and on columns of numbers. A list has a fixed number of entries, and a count that its owner keeps beside it;
 // the entries from the count on are zero. Nothing here knows of layouts.
+#![tactic(auto)]
+
 pub mod flags;
 pub mod search;
 pub mod serials;

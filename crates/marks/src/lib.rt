@@ -1,10 +1,12 @@
 // What names a piece, and what a call says no with (document 01, "Marks" and "What a call says no with"). Rests on nothing.
+#![tactic(auto)]
+
 ghost use Rattle.std.specs.Prelude.{◌≡◌};
 ghost use Rattle.marks.specs.Marks.{zero_mark};
 ghost use Rattle.marks.specs.Refusals.{refusal_no};
 
 // The mark of a piece: its layout's number, its place and its serial.
-#[derive(Drop)]
+#[derive(Clone, Copy)]
 pub struct Mark {
     pub layout: u16,
     pub place: u16,
@@ -25,7 +27,7 @@ impl Mark {
 }
 
 // In the order of document 01's table, which is the order in which they are tested.
-#[derive(Drop)]
+#[derive(Clone, Copy)]
 pub enum Refusal {
     NotSound,
     OpeningOutside,

@@ -7,7 +7,7 @@ use crate::node::Kind;
 use crate::orientation::Orientation;
 use crate::size::{Size, eaten_behind, rest};
 
-#[derive(Drop)]
+#[derive(Clone, Copy)]
 pub enum InsertionShape {
     AlongCurrentCut,
     AcrossCurrentCut,
@@ -57,7 +57,7 @@ impl InsertionShape {
 }
 
 // A node to be made. Its parent is the node of that index in the same blueprint, or OUTSIDE: the free piece's own parent.
-#[derive(Drop)]
+#[derive(Clone, Copy)]
 pub struct InsertionNode {
     pub size: Size,
     pub parent: u8,
@@ -69,7 +69,7 @@ pub struct InsertionNode {
 pub const OUTSIDE: u8 = 255;
 
 // The nodes of one insertion in creation order; entries past the count are zero.
-#[derive(Drop)]
+#[derive(Clone, Copy)]
 pub struct InsertionBlueprint {
     pub nodes: [InsertionNode; 5],
     pub count: usize,

@@ -9,14 +9,14 @@ use crate::parttype::PartType;
 use crate::rotation::Rotation;
 use crate::settings::Settings;
 
-#[derive(Drop)]
+#[derive(Clone, Copy)]
 pub struct Offer {
     pub rotation: Rotation,
     pub shape: InsertionShape,
 }
 
 // At most two shapes in each of two rotations; entries past the count are zero.
-#[derive(Drop)]
+#[derive(Clone, Copy)]
 pub struct OfferList {
     pub list: [Offer; 4],
     pub count: usize,

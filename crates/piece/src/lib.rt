@@ -1,5 +1,7 @@
 // The rules that speak of one free piece and one part (document 01, "Offers" and "Insertion"): the lowest layer.
 // Each file is named after the Rust's. It rests on nothing but its own specs/.
+#![tactic(auto)]
+
 pub mod insertion_blueprint;
 pub mod insertion_option;
 pub mod node;

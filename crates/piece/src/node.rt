@@ -8,7 +8,7 @@ use crate::orientation::Orientation;
 use crate::size::Size;
 
 // A free piece, a part, or a structure, which has children.
-#[derive(Drop)]
+#[derive(Clone, Copy)]
 pub enum Kind {
     Free,
     Part,
@@ -72,7 +72,7 @@ impl Kind {
 
 // What a piece is. The serial is that of its mark; the number is a part's, and 0 otherwise; `eaten` is how much the saw's blade ate behind the piece
 // when it was cut off.
-#[derive(Drop)]
+#[derive(Clone, Copy)]
 pub struct Datum {
     pub serial: u32,
     pub size: Size,

@@ -3,7 +3,7 @@ ghost use Rattle.std.specs.Prelude.{◌≡◌};
 ghost use Rattle.piece.specs.Numbers.{cut_no, cut_of};
 ghost use Rattle.piece.specs.Sides.{is_horizontal, other};
 
-#[derive(Drop)]
+#[derive(Clone, Copy)]
 pub enum Orientation {
     Horizontal,
     Vertical,

@@ -7,7 +7,7 @@ use crate::rotation::Rotation;
 use crate::size::Size;
 
 // The Rust's `fixed_rotation`, an Option there.
-#[derive(Drop)]
+#[derive(Clone, Copy)]
 pub enum Turn {
     Either,
     Fixed(Rotation),
@@ -28,7 +28,7 @@ impl Turn {
     }
 }
 
-#[derive(Drop)]
+#[derive(Clone, Copy)]
 pub struct PartType {
     pub number: u16,
     pub size: Size,

@@ -3,7 +3,7 @@ ghost use Rattle.std.specs.Prelude.{◌≡◌};
 ghost use Rattle.piece.specs.Numbers.{rotation_no, rotation_of};
 ghost use Rattle.piece.specs.Offers.{other_way};
 
-#[derive(Drop)]
+#[derive(Clone, Copy)]
 pub enum Rotation {
     Default,
     Rotated,

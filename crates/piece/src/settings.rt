@@ -3,7 +3,7 @@ use crate::orientation::Orientation;
 use crate::size::Size;
 
 // What a layout keeps of its opening, and every rule of it goes by: the stages, the width of the saw's blade, and the sheet's size.
-#[derive(Drop)]
+#[derive(Clone, Copy)]
 pub struct Settings {
     pub stages: u8,
     pub blade: u8,
@@ -11,7 +11,7 @@ pub struct Settings {
 }
 
 // The layout's number, its settings, and the way of its first cut.
-#[derive(Drop)]
+#[derive(Clone, Copy)]
 pub struct Opening {
     pub number: u16,
     pub settings: Settings,

@@ -1,6 +1,8 @@
 // Reading from and writing to a pipe, a file or a terminal, so that nothing is lost and nothing fails in silence. A call that a signal ends is made
 // again; where nothing is there yet, or there is no room yet, it is made again after a pause; any other failure is said on standard error.
 // Rests on C's calls alone, whose contracts say how many bytes moved and not which.
+#![tactic(auto)]
+
 ghost use Rattle.std.specs.Prelude.{◌≡◌, true, length};
 ghost use Rattle.pipes.specs.Came.{Within};
 ghost use Rattle.pipes.specs.Remedy.{remedy_of};
@@ -8,7 +10,7 @@ ghost use Rattle.pipes.specs.Remedy.{remedy_of};
 use libc::types::timespec;
 
 // What a read brought.
-#[derive(Drop)]
+#[derive(Clone, Copy)]
 pub enum Came {
     // So many bytes, one at least, at the start of the buffer.
     Bytes(usize),
@@ -32,7 +34,7 @@ fn pause() {
 }
 
 // What is to be done about a call that moved nothing.
-#[derive(Drop)]
+#[derive(Clone, Copy)]
 enum Remedy {
     // A signal ended it: make it again.
     Again,

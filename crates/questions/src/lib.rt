@@ -2,6 +2,8 @@
 // not (change request 2), the tree snapshot and the part numbers held. Each takes the layout by value, examines it first (refusal 1), and answers on
 // every input. Rests on `layout`, which has the record and the check, on `piece` for the rules of offers, and on `walks` for the columns of a table
 // and what is found along them. That a reason says `Offered` exactly where there is an offer is proved in proofs/Exactly.antt.
+#![tactic(auto)]
+
 mod eaten;
 pub mod figures;
 pub mod positions;

@@ -8,7 +8,7 @@ use piece::rotation::Rotation;
 use piece::settings::Settings;
 
 // In the order of the request.
-#[derive(Drop)]
+#[derive(Clone, Copy)]
 pub enum Reason {
     Forbidden,
     TooWide,

@@ -6,33 +6,33 @@ use layout::replies::Outcome;
 use marks::{Mark, Refusal};
 use piece::insertion_option::OfferList;
 
-#[derive(Drop)]
+#[derive(Clone, Copy)]
 pub enum AreaAnswer {
     Area(u64),
     Refused(Refusal),
 }
 
-#[derive(Drop)]
+#[derive(Clone, Copy)]
 pub enum CountAnswer {
     Count(u16),
     Refused(Refusal),
 }
 
-#[derive(Drop)]
+#[derive(Clone, Copy)]
 pub enum UsageAnswer {
     Usage(f64),
     Refused(Refusal),
 }
 
 // Whether a layout is empty.
-#[derive(Drop)]
+#[derive(Clone, Copy)]
 pub enum EmptyAnswer {
     Says(bool),
     Refused(Refusal),
 }
 
 // The room light: the mark of the piece that it names, or no.
-#[derive(Drop)]
+#[derive(Clone, Copy)]
 pub enum LightAnswer {
     Room(Mark),
     NoRoom,
@@ -52,14 +52,14 @@ impl LightAnswer {
     }
 }
 
-#[derive(Drop)]
+#[derive(Clone, Copy)]
 pub enum MarkAnswer {
     Found(Mark),
     Refused(Refusal),
 }
 
 // With no offers where it is refused.
-#[derive(Drop)]
+#[derive(Clone, Copy)]
 pub struct OffersAnswer {
     pub outcome: Outcome,
     pub offers: OfferList,

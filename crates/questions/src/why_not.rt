@@ -12,7 +12,7 @@ use piece::rotation::Rotation;
 use piece::settings::Settings;
 
 // A reason for each rotation; where it is refused, both are the zero case.
-#[derive(Drop)]
+#[derive(Clone, Copy)]
 pub struct WhyAnswer {
     pub outcome: Outcome,
     pub default: Reason,

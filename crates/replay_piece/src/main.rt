@@ -1,5 +1,7 @@
 // Replays the Rust's recorded answers on one free piece, offers and blocks (recorded/, handed to it as files), and says how many of ours are
 // the same. A record is a line of hexadecimal digits, what was asked and then the Rust's answer; recorded/README.md has the fields.
+#![tactic(auto)]
+
 mod block_record;
 mod offer_record;
 mod record;
@@ -12,7 +14,7 @@ use record::{Record, decoded};
 const LINE: usize = 149;
 
 // What the records of a file ask.
-#[derive(Drop)]
+#[derive(Clone, Copy)]
 enum Asked {
     Offers,
     Blocks,

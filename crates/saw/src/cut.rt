@@ -14,7 +14,7 @@ pub const ENTRY: usize = 10;
 // The piece of the pile at `place` is cut at `distance` from its left edge (Vertical) or its upper one (Horizontal). `piece` is the kind of what is cut
 // off and `remainder` of what is left, right of the cut or below it, as in snapshots; 3 is several siblings. `eaten` is what the blade eats behind
 // the piece that is cut off.
-#[derive(Drop)]
+#[derive(Clone, Copy)]
 pub struct Cut {
     pub place: u16,
     pub way: Orientation,

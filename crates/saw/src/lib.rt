@@ -3,6 +3,8 @@
 // routines go down the tree over lent columns, as the other walks do. proofs/Layouts.antt has the law: a simple saw that runs the list on the full
 // sheet ends with exactly these pieces. It rests on proofs/Sawn.antt and Truly.antt, which say it of trees, and that what the list says of kinds is
 // true. proofs/BeforeEmpty.antt says before which offcuts of area 0 there is a cut, and proofs/OneList.antt why the amounts stand beside the list.
+#![tactic(auto)]
+
 pub mod cut;
 pub mod cuts;
 pub mod routines;

@@ -16,7 +16,7 @@ use table::{LIMIT, NONE};
 const SEVERAL: u8 = 3;
 
 // How many cuts there are when a row is listed, and at what place of the pile lies what comes behind it.
-#[derive(Drop)]
+#[derive(Clone, Copy)]
 pub struct Listed {
     pub cuts: usize,
     pub place: usize,

@@ -1,5 +1,7 @@
 // The counter's state, and its answer to a line (document 01, "Counter frames"). Rests on replies.rt for what a request does to the layouts and
 // answers, and on `frames` for how requests are read.
+#![tactic(auto)]
+
 ghost use Rattle.std.specs.Prelude.{◌≡◌};
 ghost use Rattle.frames.specs.declared.Request.TheVariants as requests;
 ghost use Rattle.frames.specs.Requests.{request_of};

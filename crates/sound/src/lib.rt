@@ -1,5 +1,7 @@
 // The soundness check of document 01, "Sound layout", clause by clause: each function here is a test of the table or of a list and answers
 // for every record, sound or not. It rests on `piece`, `tree` and `table` for what the words mean.
+#![tactic(auto)]
+
 pub mod census;
 pub mod frame;
 pub mod listed;

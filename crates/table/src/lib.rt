@@ -1,5 +1,7 @@
 // The linked table of LIMIT places that holds a cut tree. Rust: LayoutNodes of core/entities/layout.rs, with the links of core/entities/node.rs.
 // It rests on `piece` for what a node is, on `tree` for what the table means and on `lists` for what a search is.
+#![tactic(auto)]
+
 pub use lists::LIMIT;
 use piece::node::Datum;
 
@@ -10,7 +12,7 @@ pub mod places;
 pub const NONE: u16 = LIMIT as u16;
 
 // A node and its links: places, or NONE. A place is unheld where the serial is 0, and then all is 0.
-#[derive(Drop)]
+#[derive(Clone, Copy)]
 pub struct Node {
     pub datum: Datum,
     pub parent: u16,

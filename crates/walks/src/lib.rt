@@ -3,6 +3,8 @@
 // columns of numbers, one for each field that they read, so that a call takes little of the stack. It rests on `table` for the links and for what the
 // columns are taken from; proofs/Meaning.antt says what the walks give on a tree. The part numbers along an order of places are a plain loop over it;
 // proofs/Along.antt says what that gives on a tree.
+#![tactic(auto)]
+
 pub mod columns;
 pub mod numbers;
 pub mod order;
