@@ -1,0 +1,13 @@
+-- `hexadecimal::letter` meets its contract. Assumes nothing.
+use borrow.Author.Rules.{rules}
+use borrow.Author.Tests.{lt-ltb, le-ltb}
+use Rattle.hexadecimal.specs.Hex.{letter_of}
+use Rattle.hexadecimal.proofs.letter.Goals as goal
+
+pub returns-then-digit-lt10 : goal.returns-then-digit-lt10
+unfolding letter_of
+returns-then-digit-lt10 c = simp (lt-ltb _ _ c.if-digit-lt10.true)
+
+pub returns-else-digit-lt10 : goal.returns-else-digit-lt10
+unfolding letter_of
+returns-else-digit-lt10 c = simp (le-ltb _ _ c.if-digit-lt10.false)

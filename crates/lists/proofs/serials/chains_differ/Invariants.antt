@@ -1,0 +1,26 @@
+-- `lists::serials::chains_differ` meets its contract. Outside, the serials of the classes that were passed stand once; inside, so do those of one
+-- class from the place on that the walk has come down to. The measure of the walk is the number that it stands at. Assumes nothing.
+use mathlib.Core.Path.{◌≡◌, refl, sym, ap, ◌∙◌}
+use mathlib.Core.Bool.{true}
+use mathlib.Core.Logic.{⊎_elim}
+use Prim.Native.Nat.{ℕ, ◌+◌, ◌-◌, ◌≤◌}
+use native.Mathlib.Omega.{arith}
+use borrow.Author.Rules.{rules}
+use Rattle.lists.specs.Lists.{limit}
+use Rattle.lists.specs.Inner.{class_at, in_class, last_below}
+use Rattle.lists.proofs.Chains.{Leads, last-leads}
+use Rattle.lists.proofs.Visits.{Done, done_none, done_more, done_all}
+use Rattle.lists.proofs.Visits.{Visited, visited-none, visited-on, visited-zero, visited-more, visited-twice}
+use Rattle.lists.proofs.serials.chains_differ.Given as goal
+
+abbrev pub invariant-loop-c : goal.invariant-loop-c
+invariant-loop-c l = (l.c ≤ limit) × (l.ok ≡ true) × Visited l.s l.h l.c l.stamp × ((p : ℕ) → l.c ≡ p + 1 → class_at l.s p ≡ l.h)
+
+abbrev pub decreases-loop-c : goal.decreases-loop-c
+decreases-loop-c l = l.c
+
+abbrev pub invariant-all : goal.invariant-all
+invariant-all l = (l.h ≤ 256) × (l.ok ≡ true) × Done l.s l.h l.stamp
+
+abbrev pub decreases-all : goal.decreases-all
+decreases-all l = 256 - l.h

@@ -1,0 +1,22 @@
+-- `along_then_across` meets its contract: its nodes are that row of the table, whichever the cut.
+use borrow.Author.Rules.{rules}
+use Rattle.piece.specs.Insertion.{laid_out, as_blueprint, table}
+use Rattle.piece.proofs.insertion_blueprint.along_then_across.Goals as goal
+
+pub returns : goal.returns
+unfolding laid_out as_blueprint table
+returns c =
+    simp (
+      c.node-n3.ensures,
+      c.node-n2.ensures,
+      c.node-n1.ensures,
+      c.eaten_behind-2.ensures,
+      c.node-n0.ensures,
+      c.eaten_behind.ensures,
+      c.rest-2.ensures,
+      c.rest.ensures,
+      c.rest-tall.ensures,
+      c.rest-wide.ensures,
+      c.rotate-inner.ensures,
+      c.no_node-z.ensures,
+    )

@@ -1,0 +1,6 @@
+-- `fits_across` meets its contract, whichever the cut.
+use borrow.Author.Rules.{rules}
+use Rattle.piece.proofs.node.fits_across.Goals as goal
+
+pub returns : goal.returns
+returns c = cc
