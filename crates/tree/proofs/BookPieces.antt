@@ -17,7 +17,7 @@ use Rattle.tree.proofs.Rows.{same?, in-eq, at_in, after-nil}
 use Rattle.tree.proofs.Kept.{Where, Alone, free-alone}
 use Rattle.tree.proofs.Stays.{at-book, at_others, less-at}
 use Rattle.tree.proofs.Goes.{less-in}
-use Rattle.tree.proofs.Blocks.{block_in, block-distinct}
+use Rattle.tree.proofs.Blocks.{block_in}
 use Rattle.tree.proofs.BookKept.{book-distinct}
 use Rattle.tree.proofs.Bookings.{at-unique}
 

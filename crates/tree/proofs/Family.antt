@@ -29,11 +29,11 @@ use Rattle.tree.proofs.Rows.{same?, in-eq, in?, at_in, in_after, in-first, in-se
 use Rattle.tree.proofs.Kept.{Alone, only, not_top, free-alone}
 use Rattle.tree.proofs.RemoveKept.{settled-count}
 use Rattle.tree.proofs.Bookings.{at-unique}
-use Rattle.tree.proofs.Kids.{kids-in, kids_under, kids-distinct, kids-self, after-apart, Spot, spot_in}
+use Rattle.tree.proofs.Kids.{kids-in, kids_under, kids-distinct, after-apart, Spot, spot_in}
 use Rattle.tree.proofs.Kids.{put, put-new, in-put, put-kids, put_count}
 use Rattle.tree.proofs.Pigeon.{low, low-most, low-more, low-filled}
 use Rattle.tree.proofs.Goes.{less-put, less-kids, cleared-put}
-use Rattle.tree.proofs.Stays.{less-at, cleared_at}
+use Rattle.tree.proofs.Stays.{cleared_at}
 use Rattle.tree.proofs.Spots.{topped-rooted, where-spot}
 
 -- ---- the places of a row

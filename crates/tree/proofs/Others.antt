@@ -13,7 +13,7 @@ use Rattle.piece.specs.Row.{nil, grow}
 use Rattle.piece.specs.Kinds.{is_free}
 use Rattle.tree.specs.Tree.{Tree, In, At, Inside, Distinct, after, is_nil, change}
 use Rattle.tree.specs.Sound.{Children, Topped}
-use Rattle.tree.specs.Booking.{Booking, block, book}
+use Rattle.tree.specs.Booking.{Booking, block, book, booked_row}
 use Rattle.tree.specs.Removal.{without_last, settled, cleared, subtree}
 use Rattle.tree.specs.Family.{parent_in, parent_of}
 use Rattle.tree.specs.Apart.{Clear}
@@ -160,7 +160,7 @@ subtree-booked x d b y n s (grow p c k r) a out =
         let o = a.0 e in
         let none : In y (after (block b c) nil) → ⊥ = λ h. ⊎_elim (block-clear y b s c) absurd (in_after y (block b c) nil h) in
         rw (eq-eqb p x e, o.1, o.2, ne_eqb p y (λ z. n (sym z ∙ e)), subtree-absent y (after (block b c) nil) none) refl
-    go (inr m) (inl e) ik ir = rw (ne_eqb p x m, eq-eqb p y e, absent x _ k (λ h. out (inl (sym e, h)))) refl
+    go (inr m) (inl e) ik ir = rw (ne_eqb p x m, eq-eqb p y e, absent x (booked_row b) k (λ h. out (inl (sym e, h)))) refl
     go (inr m) (inr l) ik ir = rw (ne_eqb p x m, ne_eqb p y l, ik, ir)
 
 -- ---- nothing is inside a piece that is without children

@@ -1,6 +1,6 @@
 -- A piece that a booking or a removal leaves keeps its parent, and the parent stays as it is. Both are steps in which the pieces at one place
 -- give way to another row (Kept and Places), so the parents are followed once, over that step. Assumes nothing.
-use mathlib.Core.Path.{◌≡◌, refl, sym, ◌∙◌}
+use mathlib.Core.Path.{◌≡◌, refl, sym, ◌∙◌, subst}
 use mathlib.Core.Bool.{Bool, true, false, cond, ◌&&◌}
 use mathlib.Core.Logic.{◌⊎◌, inl, inr, ⊎_elim}
 use Prim.Native.Nat.{ℕ}
@@ -164,12 +164,16 @@ module _ (x : ℕ) (g f : Datum → Tree → Tree) (less-row : (j : ℕ) (d : Da
             other (inl z) = rw (eq-eqb y i (sym z)) (inl refl)
             other (inr (inl l)) =
                 let j = was k l in
-                rw (ne_eqb y x n, ne_eqb y i (λ z. dis.not_below (in-eq k (sym z) j)), in-holds i k j)
-                (inr (below (ik l)))
+                let e : parent_in i q (grow y d k r) ≡ parent_in i y k = rw (ne_eqb y i (λ z. dis.not_below (in-eq k (sym z) j)), in-holds i k j) refl in
+                rw (ne_eqb y x n)
+                (subst (λ (p : ℕ). (p ≡ q) ⊎ In p (grow y d (change x g k) (change x g r))) (sym e) (inr (below (ik l))))
             other (inr (inr l)) =
                 let j = was r l in
-                rw (ne_eqb y x n, ne_eqb y i (λ z. dis.not_beside (in-eq r (sym z) j)), absent-holds i k (λ z. dis.apart i z j))
-                (beside (ir l))
+                let e : parent_in i q (grow y d k r) ≡ parent_in i q r =
+                rw (ne_eqb y i (λ z. dis.not_beside (in-eq r (sym z) j)), absent-holds i k (λ z. dis.apart i z j)) refl
+                in
+                rw (ne_eqb y x n)
+                (subst (λ (p : ℕ). (p ≡ q) ⊎ In p (grow y d (change x g k) (change x g r))) (sym e) (beside (ir l)))
 
 -- ---- a booking
 

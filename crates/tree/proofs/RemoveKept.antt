@@ -1,5 +1,5 @@
 -- Removal: the row that is left of x's, with the new piece at its end, is a row of the same parent and fills it as before.
-use mathlib.Core.Path.{◌≡◌, refl, ap, ◌∙◌}
+use mathlib.Core.Path.{◌≡◌, refl, ap, ◌∙◌, subst}
 use mathlib.Core.Bool.{Bool, true, false, cond, ◌&&◌}
 use mathlib.Core.Logic.{◌⊎◌, inl, inr, ⊎_elim}
 use mathlib.Core.Option.{Option}
@@ -77,7 +77,7 @@ settled-exchange settings n s q d y k r h =
     let w = ap (λ (z : Size). z.width) (board-laid d (last_free r)) in
     record {
       children = i.0;
-      same = rw (← h.child.cut) (omega arith);
+      same = subst (λ (c : Orientation). extent c (settled n s d r) ≡ extent c (grow y d k r)) h.child.cut (omega arith);
       some = λ z. rw count-after (omega arith);
     }
 

@@ -38,11 +38,17 @@ add_is (fin s m e) (fin t n d) a b v w =
     rw (v.0, w.0)
     (round_same binary64 false (m * up e * down d + n * up d * down e) (down e * down d) (a + b) 1 (mul-pos (down_pos e) (down_pos d))
     (pow_pos 0) (add-fraction (m * up e) (n * up d) (down e) (down d) a b v.1 w.1))
+add_is lib.Ieee.nan y a b v w = elim v [ ]
+add_is (lib.Ieee.inf _) y a b v w = elim v [ ]
+add_is (fin s m e) lib.Ieee.nan a b v w = elim w [ ]
+add_is (fin s m e) (lib.Ieee.inf _) a b v w = elim w [ ]
 
 mul-one-is : (x : Float) (a : ℕ) → Is x a → mul binary64 x one ≡ whole a
 unfolding mul of_int of_bits
 mul-one-is (fin s m e) a v =
     rw v.0 (round_same binary64 false (m * up e * 1) (down e * 1) a 1 (mul-pos (down_pos e) (pow_pos 0)) (pow_pos 0) (omega (arith, v.1)))
+mul-one-is lib.Ieee.nan a v = elim v [ ]
+mul-one-is (lib.Ieee.inf _) a v = elim v [ ]
 
 -- the number that is divided by is not 0
 not-zero : (n u b q : ℕ) → n * u * 1 ≡ b * q → 0 < b → 0 < q → n ≡ 0 → ⊥
@@ -59,6 +65,10 @@ div_is (fin s m e) (fin t n d) a b hb v w =
   where
     top : 0 < n * up d
     top = omega (arith, w.1, mul-pos hb (down_pos d))
+div_is lib.Ieee.nan y a b hb v w = elim v [ ]
+div_is (lib.Ieee.inf _) y a b hb v w = elim v [ ]
+div_is (fin s m e) lib.Ieee.nan a b hb v w = elim w [ ]
+div_is (fin s m e) (lib.Ieee.inf _) a b hb v w = elim w [ ]
 
 -- ---- what the figures need
 

@@ -1,6 +1,6 @@
 -- The parent of a piece, whether a piece has children, and the places that a new node takes. Document 01, "Marks": "A new node takes the lowest
 -- unheld place, after the nodes it replaces were freed."
-use Rattle.std.specs.Prelude.{Bool, true, false, cond, not, ◌||◌, ℕ, zero, suc, ◌+◌, ◌-◌, eqb}
+use Rattle.std.specs.Prelude.{Bool, false, cond, not, ◌||◌, ℕ, zero, suc, ◌+◌, ◌-◌, eqb}
 use Rattle.lists.specs.Search.{first_from}
 use Rattle.piece.specs.Row.{Row, nil, grow}
 use Rattle.tree.specs.Tree.{Tree, is_nil}

@@ -1,9 +1,8 @@
 -- Document 01, "Figures", and the eaten area of document 02, No. 4.
-use Rattle.std.specs.Prelude.{Bool, true, false, cond, ℕ, ◌+◌, ◌*◌, pos, Float}
+use Rattle.std.specs.Prelude.{Bool, cond, ℕ, ◌+◌, ◌*◌, pos, Float}
 use Rattle.std.specs.Float.{binary64}
 use Rattle.std.specs.Float.Ieee.{of_bits, of_int, add, mul, div}
 use Rattle.piece.specs.declared.orientation.Orientation.{Orientation}
-use Rattle.piece.specs.declared.node.Datum.{Datum}
 use Rattle.piece.specs.declared.node.Kind.{Kind}
 use Rattle.piece.specs.declared.node.Kind.TheVariants.{Free, Part, Structure}
 use Rattle.piece.specs.Sides.{other, laid, area}

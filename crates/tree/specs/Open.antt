@@ -2,8 +2,7 @@
 -- (top) and rise by one per node in creation order. A new node takes the lowest unheld place."
 use Rattle.piece.specs.declared.settings.Opening.{Opening}
 use Rattle.piece.specs.declared.node.Datum.{Datum}
-use Rattle.piece.specs.declared.node.Kind.{Kind}
-use Rattle.piece.specs.declared.node.Kind.TheVariants.{Free, Part, Structure}
+use Rattle.piece.specs.declared.node.Kind.TheVariants.{Free, Structure}
 use Rattle.piece.specs.Sides.{other}
 use Rattle.piece.specs.Row.{nil, grow}
 use Rattle.tree.specs.Tree.{Tree}
