@@ -1,6 +1,6 @@
 -- A table that is linked place by place holds the tree that is read from it: no place is twice in the tree, the held places are in it and no
 -- others, and each row is one level deeper than the row above.
-use mathlib.Core.Path.{◌≡◌, refl, sym, ap, ◌∙◌}
+use mathlib.Core.Path.{◌≡◌, refl, sym, ap, ◌∙◌, subst}
 use mathlib.Core.List.{List, [], ◌∷◌}
 use mathlib.Core.Logic.{◌⊎◌, inl, inr, ⊎_elim}
 use Prim.Native.Nat.{ℕ, zero, suc, ◌+◌, ◌-◌, ◌<◌, ◌≤◌}
@@ -121,7 +121,7 @@ module _ (limit : ℕ) (t : List Node) where
 
   once : (q pv p : ℕ) (d : Datum) (k r : Tree) → Rep limit t q pv (grow p d k r) → (Top pv (grow p d k r) → ⊥) → Top p r → ⊥
   once q pv p d k r rep n h =
-      let e : (at t p).prev ≡ pv = ap (λ (x : Node). x.prev) rep.1 in n (rw (sym e) (top-prev q p p r rep.3 h))
+      n (subst (λ (v : ℕ). Top v (grow p d k r)) (ap (λ (x : Node). x.prev) rep.1) (top-prev q p p r rep.3 h))
 
   distinct-rep : (q pv lv : ℕ) (w : Tree) → Rep limit t q pv w → Deep lv w → (Top pv w → ⊥) → Distinct w
   unfolding up

@@ -19,7 +19,7 @@ use Rattle.tree.proofs.Kept.{This, Alone, only, not_top, free-alone}
 use Rattle.tree.proofs.Blocks.{block_in, block-distinct}
 use Rattle.tree.proofs.Kids.{Spot, spot_in}
 use Rattle.tree.proofs.Goes.{subtree-is}
-use Rattle.tree.proofs.Spots.{free_end, FreeLeaves, topped-rooted, topped-deep, where-spot, topped-leaves, leaves-from}
+use Rattle.tree.proofs.Spots.{free_end, FreeLeaves, topped-rooted, where-spot, topped-leaves, leaves-from}
 use Rattle.tree.proofs.BookPieces.{block_apart}
 use Rattle.table.specs.declared.Node.{Node}
 use Rattle.table.specs.Table.{at, Holds, append, unlink}

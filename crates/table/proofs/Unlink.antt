@@ -13,7 +13,7 @@ use Rattle.tree.specs.Tree.{Tree, In, Distinct, after}
 use Rattle.tree.specs.Steps.{less, Kids}
 use Rattle.tree.proofs.Rows.{same?, in-eq, in?, in_after, in-first, in-second, distinct-after}
 use Rattle.tree.proofs.Kids.{kids-in, kids_under, kids-distinct, kids-self, put, put-new, in-put, put-distinct}
-use Rattle.tree.proofs.Kids.{after-apart, after_first, after-second, spot_in, spot-kids}
+use Rattle.tree.proofs.Kids.{after-apart, after_first, after-second}
 use Rattle.tree.proofs.Goes.{less-put}
 use Rattle.table.specs.declared.Node.{Node}
 use Rattle.table.specs.Table.{mk, zero_node, at, head, last, Rep, Holds, unlink}

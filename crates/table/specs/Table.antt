@@ -1,9 +1,9 @@
 -- The linked table: what it means that a table holds a row, and the steps on it. `limit`, the number of places, is also the number that says
 -- that there is no such place; it is `LIMIT` in the code and a parameter here.
-use Rattle.std.specs.Prelude.{◌≡◌, List, Bool, cond, ℕ, zero, suc, ◌<◌, eqb, leb, get_or, set, replicate, length}
+use Rattle.std.specs.Prelude.{◌≡◌, List, cond, ℕ, ◌<◌, leb, get_or, set, length}
 use Rattle.piece.specs.declared.node.Datum.{Datum}
-use Rattle.piece.specs.declared.node.Kind.TheVariants.{Free, Part, Structure}
-use Rattle.piece.specs.declared.orientation.Orientation.TheVariants.{Horizontal, Vertical}
+use Rattle.piece.specs.declared.node.Kind.TheVariants.{Free}
+use Rattle.piece.specs.declared.orientation.Orientation.TheVariants.{Horizontal}
 use Rattle.piece.specs.Sides.{sized}
 use Rattle.piece.specs.Row.{nil, grow}
 use Rattle.tree.specs.Tree.{Tree, In, Distinct}
