@@ -1,6 +1,6 @@
 -- Document 01, "Sound layout": "all nodes hang under it". Each row is walked and its places are marked; then every held place but the top
 -- is marked.
-use Rattle.std.specs.Prelude.{List, Bool, true, false, cond, ◌||◌, ℕ, zero, suc, eqb, leb, get_or, set, replicate}
+use Rattle.std.specs.Prelude.{List, Bool, cond, ◌||◌, ℕ, zero, suc, eqb, leb, get_or, set, replicate}
 use Rattle.lists.specs.Search.{every}
 use Rattle.table.specs.declared.Node.{Node}
 use Rattle.table.specs.Table.{at}

@@ -1,5 +1,5 @@
 -- Document 01, "Sound layout", the clauses that speak of one place at a time, as a test.
-use Rattle.std.specs.Prelude.{List, Bool, true, false, cond, not, ◌&&◌, ℕ, zero, suc, eqb, ltb, leb}
+use Rattle.std.specs.Prelude.{List, Bool, cond, not, ◌&&◌, ℕ, eqb, ltb, leb}
 use Rattle.piece.specs.declared.size.Size.{Size}
 use Rattle.piece.specs.declared.node.Datum.{Datum}
 use Rattle.piece.specs.declared.node.Kind.{Kind}

@@ -1,10 +1,8 @@
 -- Document 01, "Sound layout", the clauses that speak of a parent and its children, as a test: the children of q are walked by their links.
-use Rattle.std.specs.Prelude.{List, Bool, true, false, cond, not, ◌&&◌, ℕ, zero, suc, ◌+◌, eqb, ltb, leb}
+use Rattle.std.specs.Prelude.{List, Bool, true, false, cond, not, ◌&&◌, ℕ, zero, suc, ◌+◌, eqb, leb}
 use Rattle.piece.specs.declared.orientation.Orientation.{Orientation}
 use Rattle.piece.specs.declared.orientation.Orientation.TheVariants.{Horizontal, Vertical}
 use Rattle.piece.specs.declared.node.Datum.{Datum}
-use Rattle.piece.specs.declared.node.Kind.{Kind}
-use Rattle.piece.specs.declared.node.Kind.TheVariants.{Free, Part, Structure}
 use Rattle.piece.specs.declared.settings.Settings.{Settings}
 use Rattle.piece.specs.Sides.{other, laid}
 use Rattle.piece.specs.Kinds.{is_structure}
