@@ -1,5 +1,5 @@
 -- Every answer that is written adds to 0 and reads back. Rests on Laws.
-use Rattle.std.proofs.Common.{◌≡◌, ℕ, ◌-◌, ◌%◌, ◌<◌, List, [], ◌∷◌, arith}
+use Rattle.std.proofs.Common.{◌≡◌, ℕ, ◌%◌, ◌<◌, List, [], ◌∷◌, arith}
 use Rattle.piece.specs.declared.insertion_option.Offer.{Offer}
 use Rattle.piece.proofs.Numbers.{rotation-small, shape-small}
 use Rattle.marks.specs.declared.Refusal.{Refusal}

@@ -1,5 +1,5 @@
 -- Numbers as bytes and back, over any list of fields: what specs/Fields derives from the list. Rests on Laws.
-use Rattle.std.proofs.Common.{◌≡◌, ℕ, zero, suc, ◌+◌, ◌-◌, ◌*◌, ◌/◌, ◌%◌, ◌^◌, ◌<◌, ◌≤◌, true, ltb, List, [], ◌∷◌, ◌++◌, length, get_or, drop, sym, refl, ap, ◌∙◌, ap₂, append_assoc, add-zero, arith, length-append, length-drop, get_or-drop, drop-drop, ltb-true}
+use Rattle.std.proofs.Common.{◌≡◌, ℕ, zero, suc, ◌+◌, ◌*◌, ◌/◌, ◌%◌, ◌^◌, ◌<◌, ◌≤◌, true, ltb, List, [], ◌∷◌, ◌++◌, length, get_or, drop, sym, refl, ap, ◌∙◌, ap₂, append_assoc, add-zero, arith, length-append, length-drop, get_or-drop, drop-drop, ltb-true}
 use Rattle.piece.specs.declared.parttype.PartType.{PartType}
 use Rattle.piece.proofs.Numbers.{turn_small}
 use Rattle.marks.specs.declared.Mark.{Mark}

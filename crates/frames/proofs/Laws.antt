@@ -1,5 +1,5 @@
 -- The laws of the format: the check, hexadecimal there and back, and that what fits its fields is made of bytes.
-use Rattle.std.proofs.Common.{◌≡◌, ℕ, ◌+◌, ◌-◌, ◌/◌, ◌%◌, ◌^◌, ◌<◌, ◌≤◌, Bool, true, false, ◌&&◌, ltb, List, [], ◌∷◌, ◌++◌, sym, refl, ◌∙◌, arith, ltb-false, ltb-true, le-ltb, lt-ltb}
+use Rattle.std.proofs.Common.{◌≡◌, ℕ, ◌+◌, ◌/◌, ◌%◌, ◌^◌, ◌<◌, ◌≤◌, Bool, true, false, ◌&&◌, ltb, List, [], ◌∷◌, ◌++◌, sym, refl, ◌∙◌, arith, ltb-false, ltb-true, le-ltb, lt-ltb}
 use Rattle.hexadecimal.specs.Hex.{digit_of, letter_of, pair_of}
 use Rattle.hexadecimal.proofs.Pairs.{both-good}
 use Rattle.frames.specs.Bytes.{pairs, all_bytes, chars_of, total, check_of, framed, two, four, eight}

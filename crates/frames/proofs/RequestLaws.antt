@@ -1,5 +1,5 @@
 -- Every request that fits its fields is read from its line; and so it is by any table of forms. Rests on Forms.
-use Rattle.std.proofs.Common.{◌≡◌, ℕ, ◌+◌, ◌-◌, ◌%◌, ◌<◌, ◌≤◌, true, List, [], ◌∷◌, length, get_or, sym, refl, ap, ◌∙◌, arith, length-append, eq-eqb, le-leb}
+use Rattle.std.proofs.Common.{◌≡◌, ℕ, ◌+◌, ◌%◌, ◌<◌, ◌≤◌, true, List, [], ◌∷◌, length, get_or, sym, refl, ap, ◌∙◌, arith, length-append, eq-eqb, le-leb}
 use Rattle.hexadecimal.specs.Hex.{digit_of, letter_of, pair_of}
 use Rattle.frames.specs.declared.Ask.TheVariants.{Open, Offers, Insert, Remove, Report}
 use Rattle.piece.proofs.Numbers.{cut_small, rotation-small, shape-small, cut-listed, turn-listed, rotation-listed, shape-listed, cut-back, turn-back, rotation-back, shape-back}
