@@ -15,10 +15,10 @@ use Rattle.booking.specs.declared.new_nodes.NewNodes.{NewNodes}
 use Rattle.booking.specs.contracts.new_nodes.NewNodes as new
 
 pub five-nodes : (b : InsertionBlueprint) (vs : List Val) → Is (row blueprint.the_type) b vs → length b.nodes ≡ 5
-five-nodes b vs g = sym (length-map b.nodes _) ∙ g.1.1.0.1.0.1
+five-nodes b vs g = g.1.1.0.1.0.1
 
 pub five-new : (n : NewNodes) (vs : List Val) → Is (row new.the_type) n vs → length n.list ≡ 5
-five-new n vs g = sym (length-map n.list _) ∙ g.1.1.0.1.0.1
+five-new n vs g = g.1.1.0.1.0.1
 
 pub all-places : (n : LayoutNodes) (vs : List Val) → Is (row registered.the_type) n vs → length n.nodes ≡ limit
-all-places n vs g = sym (length-map n.nodes _) ∙ g.1.1.0.1.0.1
+all-places n vs g = g.1.1.0.1.0.1

@@ -25,7 +25,7 @@ pub struct NewNode {
 }
 
 // At most five; entries past the count are zero.
-#[derive(Drop)]
+#[derive(Clone, Copy)]
 pub struct NewNodes {
     pub list: [NewNode; 5],
     pub count: usize,

@@ -1,0 +1,6 @@
+-- `site_node` meets its contract. Assumes nothing.
+use borrow.Author.Rules.{rules}
+use Rattle.booking.proofs.new_nodes.site_node.Goals as goal
+
+pub returns : goal.returns
+returns c = simp c.number_of.ensures
