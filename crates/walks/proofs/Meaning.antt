@@ -28,11 +28,11 @@ use Rattle.tree.proofs.Goes.{subtree-absent}
 use Rattle.table.specs.declared.Node.{Node}
 use Rattle.table.specs.Table.{zero_node, at, head, Rep, Holds}
 use Rattle.table.specs.Columns.{kind_no_of, first_of}
-use Rattle.table.proofs.Rep.{Shows, shows}
+use Rattle.table.proofs.Rep.{shows}
 use Rattle.walks.specs.Chain.{siblings}
 use Rattle.walks.specs.Walk.{gathered, nothing, walk_of}
 use Rattle.walks.specs.Order.{itself, children_first}
-use Rattle.walks.specs.Usage.{weight, summed, usage_along}
+use Rattle.walks.specs.Usage.{weight, summed}
 use Rattle.walks.specs.Inner.{Small}
 use Rattle.walks.specs.Columns.{firsts_of, nexts_of, kinds_of, areas_of, level_of, number_of, width_of, height_of, eaten_of, columns_of, cut_no_of}
 use Rattle.walks.specs.Columns.{node_bytes_in, order_in, snapshot_in, usage_in}

@@ -1,7 +1,7 @@
 -- What is written of the nodes along an order of places: the numbers of parts. Document 01, "Removal": "Part numbers of the subtree come out in
 -- tree order"; "What the counter gets": "part numbers held".
 -- An order is lent as an array, of which the first entries count (`entries` of lists/specs/Lists).
-use Rattle.std.specs.Prelude.{◌≡◌, List, [], ◌∷◌, ◌++◌, cond, ℕ, zero, suc, ◌+◌, eqb, get_or}
+use Rattle.std.specs.Prelude.{◌≡◌, List, [], ◌∷◌, ◌++◌, cond, ℕ, zero, suc, ◌+◌, eqb}
 use Rattle.piece.specs.declared.node.Datum.{Datum}
 use Rattle.piece.specs.declared.node.Kind.TheVariants.{Part}
 use Rattle.piece.specs.Row.{nil, grow}

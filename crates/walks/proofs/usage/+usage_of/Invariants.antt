@@ -1,0 +1,20 @@
+-- The measures and the invariant of `walks::usage::usage_of`: the sum, with what the children from c on add to it, is the whole sum. The loop's
+-- measure is the turns that are left; the recursion's is `left`.
+use mathlib.Core.Path.{◌≡◌}
+use Prim.Native.Nat.{◌-◌}
+use lib.ListN.{get_or}
+use Rattle.tree.specs.Figures.{nought}
+use Rattle.lists.specs.Lists.{limit}
+use Rattle.walks.proofs.UsageSteps.{sum}
+use Rattle.walks.proofs.usage.+usage_of.Given as goal
+
+abbrev pub decreases-usage_of : goal.decreases-usage_of
+decreases-usage_of l = l.left
+
+abbrev pub invariant-loop-turns : goal.invariant-loop-turns
+invariant-loop-turns l =
+    sum limit l.first l.next l.kind l.area l.left l.turns l.c l.sum
+    ≡ sum limit l.first l.next l.kind l.area l.left (l.left - 1) (get_or l.first l.x 0) nought
+
+abbrev pub decreases-loop-turns : goal.decreases-loop-turns
+decreases-loop-turns l = l.turns
