@@ -1,10 +1,9 @@
 -- Document 01's cases of a line, computed: no input, an empty line, a last line that lacks its newline, 64 and 65 characters, and that no
 -- character but the newline ends a line.
 use mathlib.Core.Path.{◌≡◌, refl}
-use mathlib.Core.List.{List, [], ◌∷◌, ◌++◌}
-use Prim.Native.Nat.{ℕ}
+use mathlib.Core.List.{[], ◌∷◌, ◌++◌}
 use lib.ListN.{replicate}
-use Rattle.lines.specs.Text.{Line, whole, long, cut, line_of, last_of, lines_from, lines_of}
+use Rattle.lines.specs.Text.{whole, long, cut, line_of, last_of, lines_from, lines_of}
 
 pub no-input : lines_of [] ≡ []
 unfolding lines_from last_of

@@ -5,4 +5,3 @@ pub mod Cuts
 pub mod Walk
 pub mod Uses
 pub mod Cases
-pub mod Apart

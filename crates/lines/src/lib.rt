@@ -40,8 +40,8 @@ fn past_at(text: &[u8], at: usize) -> usize
     if end < text.len() { end + 1 } else { end }
 }
 
-// A lent text and a cursor in it. The borrow checker covers no function over such a struct, so each is proved by hand, and is thin.
-#[derive(Drop)]
+// A lent text and a cursor in it.
+#[derive(Clone, Copy)]
 pub struct Reader<'a> {
     pub text: &'a [u8],
     pub at: usize,
@@ -68,7 +68,7 @@ pub fn past<'a>(r: Reader<'a>) -> Reader<'a>
     Reader { text: r.text, at }
 }
 
-// The same two of a text and a position: whoever calls these needs no walk by hand.
+// The same two of a text and a position.
 
 pub fn read<'a>(text: &'a [u8], at: usize) -> &'a [u8]
     ensures { result.now ≡ chars_at text.now at }
