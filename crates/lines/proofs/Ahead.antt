@@ -48,6 +48,9 @@ pub newline-none : (s : List ℕ) (i : ℕ) → length s ≤ i → newline_from 
 unfolding newline_from
 newline-none s i h = omega (arith, ahead-le (drop i s), length-drop i s)
 
+-- for a loop that looks for the next newline
+pub ruleset newline_steps = (newline-here, newline-later, newline-none)
+
 pub newline-le : (s : List ℕ) (at : ℕ) → at ≤ length s → newline_from s at ≤ length s
 unfolding newline_from
 newline-le s at h = omega (arith, ahead-le (drop at s), length-drop at s)

@@ -8,6 +8,7 @@ ghost use Rattle.lines.specs.Lines.{newline_from, chars_at, past_at};
 pub mod stream; // stream.rt: the lines of a text that arrives in chunks
 
 // The place of the first newline at or past a position, or the end of the text; a position past the end is given back.
+#[tactic(auto, using(crate::proofs::Ahead::newline_steps))]
 fn newline(text: &[u8], at: usize) -> usize
     ensures { result ≡ newline_from text.now at }
 {

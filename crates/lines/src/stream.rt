@@ -32,6 +32,7 @@ pub struct Taken {
 }
 
 // No line is begun: at the start, and after each line.
+#[tactic(auto, unfolding(crate::specs::Stream::empty))]
 pub fn none() -> Pending
     ensures { result ≡ empty }
 {
@@ -54,6 +55,7 @@ fn step(pending: Pending, next: usize, event: Event) -> Taken
 
 impl Pending {
     // One more character.
+    #[tactic(auto, unfolding(crate::specs::Stream::add_char))]
     fn one(mut self, x: u8) -> Pending
         ensures { result ≡ add_char self x }
     {
