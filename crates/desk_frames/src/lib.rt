@@ -51,7 +51,7 @@ pub enum DeskRequest {
 pub const LONGEST_ANSWER: usize = 2 * (2 + 2 + NODE * LIMIT + 1) + 1;
 
 // The next state, and how many characters of the lent line are the answer, its newline among them.
-#[derive(Drop)]
+#[derive(Clone, Copy)]
 pub struct DeskStepped {
     pub session: Session,
     pub count: usize,

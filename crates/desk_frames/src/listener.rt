@@ -12,7 +12,7 @@ use session::Session;
 use session::listener::Listener;
 
 // The next state, and where the chunk goes on. With a line, how many characters of the lent line are its answer; without one, 0.
-#[derive(Drop)]
+#[derive(Clone, Copy)]
 pub struct DeskTurn {
     pub listener: Listener,
     pub next: usize,

@@ -10,7 +10,7 @@ use frames::write::{begin, end, put, put_bytes, put_eight, put_mark, put_two, pu
 use marks::Mark;
 
 // The figures of a layout, as they are answered: of the sheet's usage and the tree's, their bits.
-#[derive(Drop)]
+#[derive(Clone, Copy)]
 pub struct FigureList {
     pub used: u64,
     pub free: u64,

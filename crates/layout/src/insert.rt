@@ -20,7 +20,7 @@ use sound::frame::MAX_SERIAL;
 use table::LIMIT;
 
 // The marks of the new nodes; zero, with the layout as it came, where it is refused.
-#[derive(Drop)]
+#[derive(Clone, Copy)]
 pub struct Inserted {
     pub outcome: Outcome,
     pub marks: NewMarks,

@@ -2,7 +2,7 @@
 use piece::settings::Settings;
 use table::{LIMIT, Node};
 
-#[derive(Drop)]
+#[derive(Clone, Copy)]
 pub struct Layout {
     // The table of places; an unheld place is all zero.
     pub nodes: [Node; LIMIT],

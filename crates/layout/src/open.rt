@@ -14,14 +14,14 @@ use table::nodes::empty_table;
 use table::{LIMIT, NONE, Node};
 
 // The mark of the free piece, or why there is none.
-#[derive(Drop)]
+#[derive(Clone, Copy)]
 pub enum OpenOutcome {
     Free(Mark),
     Refused(Refusal),
 }
 
 // With the layout of zeros where it is refused.
-#[derive(Drop)]
+#[derive(Clone, Copy)]
 pub struct Opened {
     pub outcome: OpenOutcome,
     pub layout: Layout,

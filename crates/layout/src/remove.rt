@@ -15,7 +15,7 @@ use sound::frame::MAX_SERIAL;
 use walks::numbers::{count_numbers, put_numbers};
 
 // The mark of the new free piece, and how many part numbers came out; zero, with the layout as it came, where it is refused.
-#[derive(Drop)]
+#[derive(Clone, Copy)]
 pub struct Removed {
     pub outcome: Outcome,
     pub free: Mark,

@@ -3,13 +3,13 @@ use marks::Refusal;
 use piece::node::Datum;
 
 // What a mark names.
-#[derive(Drop)]
+#[derive(Clone, Copy)]
 pub enum Sought {
     Piece(Datum),
     Refused(Refusal),
 }
 
-#[derive(Drop)]
+#[derive(Clone, Copy)]
 pub enum Outcome {
     Done,
     Refused(Refusal),

@@ -7,7 +7,7 @@ use crate::replies::Outcome;
 use marks::Refusal;
 
 // With the layout as it came where it is refused.
-#[derive(Drop)]
+#[derive(Clone, Copy)]
 pub struct Restored {
     pub outcome: Outcome,
     pub layout: Layout,

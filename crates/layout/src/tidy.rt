@@ -16,7 +16,7 @@ use sound::frame::MAX_SERIAL;
 use table::NONE;
 
 // How many structures were taken out; zero, with the layout as it came, where it is refused.
-#[derive(Drop)]
+#[derive(Clone, Copy)]
 pub struct Tidied {
     pub outcome: Outcome,
     pub count: u16,

@@ -9,7 +9,7 @@ use table::{LIMIT, Node};
 pub mod listing;
 pub mod spots;
 
-#[derive(Drop)]
+#[derive(Clone, Copy)]
 pub struct LayoutNodes {
     pub nodes: [Node; LIMIT],
     pub free: Listing,

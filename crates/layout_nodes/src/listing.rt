@@ -13,7 +13,7 @@ use lists::search::{index_of, wide};
 use lists::shift::{delete_at, insert_at, swap_out};
 use table::Node;
 
-#[derive(Drop)]
+#[derive(Clone, Copy)]
 pub struct Listing {
     pub list: [u16; LIMIT],
     pub count: usize,

@@ -11,7 +11,7 @@ use table::{LIMIT, Node};
 use walks::order::order_out;
 
 // The places that go; the entries past the count are zero.
-#[derive(Drop)]
+#[derive(Clone, Copy)]
 pub struct Going {
     pub order: [u16; LIMIT],
     pub count: usize,

@@ -22,7 +22,7 @@ use table::places::{append, unheld};
 use table::{LIMIT, NONE, Node};
 
 // The nodes and the lists without the piece; and the place of the new free piece.
-#[derive(Drop)]
+#[derive(Clone, Copy)]
 pub struct Cleared {
     pub nodes: LayoutNodes,
     pub place: u16,

@@ -21,14 +21,14 @@ pub mod say; // say.rt: an answer as a line
 pub const LONGEST_ANSWER: usize = 23 + 4 * (LIMIT - 2);
 
 // The layout, and the one that was kept last: both all zero at the start.
-#[derive(Drop)]
+#[derive(Clone, Copy)]
 pub struct Session {
     pub layout: Layout,
     pub kept: Layout,
 }
 
 // The next state, and the answer: the first count characters of line, its newline among them; the rest is zero.
-#[derive(Drop)]
+#[derive(Clone, Copy)]
 pub struct Stepped {
     pub session: Session,
     pub line: [u8; LONGEST_ANSWER],

@@ -8,14 +8,14 @@ ghost use Rattle.session.specs.Listener.{start_listener, spoken, silent, Takes, 
 use crate::{LONGEST_ANSWER, Session, Stepped};
 use lines::stream::{Event, MOST, Pending, none};
 
-#[derive(Drop)]
+#[derive(Clone, Copy)]
 pub struct Listener {
     pub session: Session,
     pub pending: Pending,
 }
 
 // The next state, and where the chunk goes on. With a line, its answer: the first count characters; without one, count is 0.
-#[derive(Drop)]
+#[derive(Clone, Copy)]
 pub struct Turn {
     pub listener: Listener,
     pub next: usize,

@@ -18,14 +18,14 @@ use questions::replies::UsageAnswer;
 use table::LIMIT;
 
 // An answer's line: the first count characters of it, its newline among them; the rest is zero.
-#[derive(Drop)]
+#[derive(Clone, Copy)]
 pub struct Said {
     pub line: [u8; LONGEST_ANSWER],
     pub count: usize,
 }
 
 // The layout afterwards, whether the answer is a refusal (then that is the layout before), and the answer.
-#[derive(Drop)]
+#[derive(Clone, Copy)]
 pub struct Response {
     pub layout: Layout,
     pub refused: bool,
@@ -33,7 +33,7 @@ pub struct Response {
 }
 
 // Whether the layout is sound, so that it is kept, and the answer.
-#[derive(Drop)]
+#[derive(Clone, Copy)]
 pub struct Keeping {
     pub sound: bool,
     pub said: Said,

@@ -5,7 +5,7 @@ ghost use Rattle.walks.specs.Columns.{columns_of};
 
 use table::{LIMIT, Node};
 
-#[derive(Drop)]
+#[derive(Clone, Copy)]
 pub struct Columns {
     pub first: [u16; LIMIT],
     pub next: [u16; LIMIT],
