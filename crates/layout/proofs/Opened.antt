@@ -32,6 +32,8 @@ module _ (o : Opening) where
   pieces i d (inl h) = inl h
   pieces i d (inr (inl (inl h))) = inr h
   pieces i d (inr (inl (inr (inl h)))) = absurd h
+  pieces i d (inr (inl (inr (inr x)))) = elim x [ ]
+  pieces i d (inr (inr x)) = elim x [ ]
 
   -- the serial of each is one more than its place
   opened-at : (i : ℕ) (d : Datum) → At i d (opened o) → (d.serial ≡ i + 1) × (i ≤ 1)

@@ -18,9 +18,9 @@ use Rattle.layout.specs.contracts.layout.Layout.{the_type}
 pub typed-sized : (l : Layout) (vs : List Val) → Is (row the_type) l vs → Sized l
 typed-sized l vs g =
     record {
-      nodes = sym (length-map l.nodes _) ∙ g.1.1.0.1.0.1;
-      free = sym (length-map l.free _) ∙ g.1.1.1.0.1.0.1;
-      removable = sym (length-map l.removable _) ∙ g.1.1.1.1.0.1.0.1;
+      nodes = g.1.1.0.1.0.1;
+      free = g.1.1.1.0.1.0.1;
+      removable = g.1.1.1.1.0.1.0.1;
     }
 
 pub typed-numbered : (p : PartType) (vs : List Val) → Is (row part.the_type) p vs → p.number ≤ max_number
