@@ -95,6 +95,9 @@ only_below q x (inr (inl (inr (inl (inr (inl (inl (e, f)))))))) k o = absurd (so
 only_below q x (inr (inl (inr (inl (inr (inl (inr (inr h)))))))) k o =
     let none : 0 < 0 = rw (alone 4 q beside x h).1 at o in absurd (omega arith)
 only_below q x (inr (inl (inr (inl (inr (inr h)))))) k o = alone 5 q below x h
+only_below q x (inr (inl (inr (inl (inr (inl (inr (inl x11)))))))) k o = elim x11 [ ]
+only_below q x (inr (inl (inr (inr x8)))) k o = elim x8 [ ]
+only_below q x (inr (inr x6)) k o = elim x6 [ ]
 
 module _ (l : Layout) (sized : Sized l) (s : SoundLayout l) (number : l.number ≡ 1) (settings : l.settings ≡ as_opened)
     (stands : tree l ≡ booked_tree AcrossThenAlong 40 50) where

@@ -41,11 +41,14 @@ Is x a = HasValue x false a 1
 
 is-counts : (x : Float) (a c : ℕ) → HasValue x false a c → Counts x
 is-counts (fin s m e) a c v = v.0
+is-counts nan a c v = elim v [ ]
+is-counts (inf _) a c v = elim v [ ]
 
 is_number : (x : Float) → Counts x → T (not (is_nan x))
 unfolding is_nan
 is_number (inf s) h = tt
 is_number (fin s m e) h = tt
+is_number nan h = elim h [ ]
 
 units-counts : (q k : ℕ) → Counts (units binary64 false q k)
 unfolding units
@@ -64,6 +67,9 @@ add-counts (inf s) (inf t) c d = rw (c, d) refl
 add-counts (inf s) (fin t n e) c d = c
 add-counts (fin s m e) (inf t) c d = d
 add-counts (fin s m e) (fin t n f) c d = rw (c, d) (round-counts (m * up e * down f + n * up f * down e) (down e * down f))
+add-counts nan y c d = elim c [ ]
+add-counts (inf s) nan c d = elim d [ ]
+add-counts (fin s m e) nan c d = elim d [ ]
 
 -- the number is not 0
 not-zero : (n u b q : ℕ) → n * u * 1 ≡ b * q → 0 < b → 0 < q → n ≡ 0 → ⊥
@@ -75,11 +81,18 @@ not-zero n u b q w hb hq z =
 mul-finite : (x y : Float) (a b : ℕ) → Is x a → Is y b → Counts (mul binary64 x y)
 unfolding mul
 mul-finite (fin s m e) (fin t n f) a b v w = rw (v.0, w.0) (round-counts (m * up e * (n * up f)) (down e * down f))
+mul-finite nan y a b v w = elim v [ ]
+mul-finite (inf _) y a b v w = elim v [ ]
+mul-finite (fin s m e) nan a b v w = elim w [ ]
+mul-finite (fin s m e) (inf _) a b v w = elim w [ ]
 
 mul-counts : (x y : Float) (a : ℕ) → 0 < a → Is x a → Counts y → Counts (mul binary64 x y)
 unfolding mul
 mul-counts (fin s m e) (inf t) a h v c = rw (v.0, c, ne_eqb m 0 (not-zero m (up e) a (down e) v.1 h (down_pos e))) refl
 mul-counts (fin s m e) (fin t n f) a h v c = rw (v.0, c) (round-counts (m * up e * (n * up f)) (down e * down f))
+mul-counts nan y a h v c = elim v [ ]
+mul-counts (inf _) y a h v c = elim v [ ]
+mul-counts (fin s m e) nan a h v c = elim c [ ]
 
 -- divided by a finite number above 0
 div-counts : (x y : Float) (b : ℕ) → Counts x → 0 < b → Is y b → Counts (div binary64 x y)
@@ -87,6 +100,11 @@ unfolding div
 div-counts (inf s) (fin t n d) b c h w = rw (c, w.0) refl
 div-counts (fin s m e) (fin t n d) b c h w = rw (c, w.0, ne_eqb n 0 (not-zero n (up d) b (down d) w.1 h (down_pos d)))
     (round-counts (m * up e * down d) (n * up d * down e))
+div-counts nan y b c h w = elim c [ ]
+div-counts (inf s) nan b c h w = elim w [ ]
+div-counts (inf s) (inf _) b c h w = elim w [ ]
+div-counts (fin s m e) nan b c h w = elim w [ ]
+div-counts (fin s m e) (inf _) b c h w = elim w [ ]
 
 -- ---- the figures
 
