@@ -70,7 +70,7 @@ module _ {A : Type 0} {P : A → Type 0} where
   each_take : {xs : List A} (n : ℕ) → Each P xs → Each P (take n xs)
   each_take zero e = none
   each_take (suc n) none = none
-  each_take (suc n) (more p e) = more p (each_take n e)
+  each_take (suc n) (more {x = x} {xs = xs} p e) = more p (each_take {xs = xs} n e)
 
   each-join : {xs ys : List A} → Each P xs → Each P ys → Each P (xs ++ ys)
   each-join none f = f

@@ -9,4 +9,4 @@ use Rattle.lines.specs.declared.stream.Pending.{Pending}
 use Rattle.lines.specs.contracts.stream.Pending as pending
 
 pub pending-sized : (p : Pending) (vs : List Val) → Is (row pending.the_type) p vs → length p.bytes ≡ 64
-pending-sized p vs g = sym (length-map p.bytes _) ∙ g.1.1.0.1.0.1
+pending-sized p vs g = g.1.1.0.1.0.1

@@ -1,0 +1,20 @@
+-- `turn` meets its contract: a line, one that is too long, or none yet. Assumes nothing.
+use Rattle.session.proofs.Listening.{takes_whole, takes-long, takes-more}
+use borrow.Author.Rules.{rules}
+use Rattle.session.proofs.listener.Listener.turn.Goals as goal
+
+pub returns-in-Whole : goal.returns-in-Whole
+returns-in-Whole c =
+    let a = c.args in
+    rw c.answered.ensures (takes_whole a.self a.chunk.now a.at c.take-taken.ensures c.in-Whole.is c.answer.ensures)
+
+pub returns-in-Long : goal.returns-in-Long
+returns-in-Long c =
+    let a = c.args in
+    rw c.answered-in-Long.ensures
+    (takes-long a.self a.chunk.now a.at c.take-taken.ensures c.in-Long.is c.malformed.ensures)
+
+pub returns-in-More : goal.returns-in-More
+returns-in-More c =
+    let a = c.args in
+    rw c.unanswered.ensures (takes-more a.self a.chunk.now a.at c.take-taken.ensures c.in-More.is)

@@ -1,0 +1,32 @@
+-- `remove` meets its contract, accepted and refused. Assumes nothing.
+use mathlib.Core.Path.{refl}
+use Rattle.layout.specs.Check.{limit}
+use Rattle.layout.proofs.Answered.{TakenOut, remove-says}
+use Rattle.layout.proofs.Typed.{typed-sized}
+use Rattle.session.proofs.Ways.{remove-gives, numbers-out}
+use native.Mathlib.Omega.{arith}
+use borrow.Author.Rules.{rules}
+use Rattle.session.proofs.replies.remove.Goals as goal
+use Rattle.session.proofs.replies.remove.Goals.{After-numbers-in-Done-1}
+
+taken_out : (c : After-numbers-in-Done-1)
+    → TakenOut c.args.layout c.args.mark limit c.remove-answer.result
+taken_out c =
+    remove-says c.args.layout c.args.mark limit _ (typed-sized c.args.layout _ c.well_formed.0) c.remove-answer.ensures.says
+    c.in-Done.is
+
+pub removed-said-requires : goal.removed-said-requires
+removed-said-requires c =
+    let t = taken_out c in
+    (omega (arith, t.count, t.few), omega (arith, t.count, t.few))
+
+pub returns-in-Done : goal.returns-in-Done
+returns-in-Done c =
+    let a = c.args in
+    let out = numbers-out a.layout a.mark _ (taken_out (goal.at.returns-in-Done c).After-numbers-in-Done-1) c.remove-answer.ensures.written in
+    remove-gives a.layout a.mark _ c.remove-answer.ensures.says c.in-Done.is refl (rw out at c.removed-said.ensures)
+
+pub returns-in-Refused : goal.returns-in-Refused
+returns-in-Refused c =
+    let a = c.args in
+    remove-gives a.layout a.mark _ c.remove-answer.ensures.says c.in-Refused.is refl c.refused-said.ensures

@@ -1,0 +1,10 @@
+-- `opened` meets its contract. Assumes nothing.
+use native.Mathlib.Omega.{arith}
+use borrow.Author.Rules.{rules}
+use Rattle.frames.specs.Answers.{content_of}
+use Rattle.session.proofs.Spoken.{said}
+use Rattle.session.proofs.say.opened.Goals as goal
+
+pub returns : goal.returns
+unfolding content_of
+returns c = said _ (omega arith) c.opened-count.ensures
