@@ -1,2 +1,2 @@
-pub mod Errors
 pub mod Uses
+pub mod Written

@@ -2,10 +2,9 @@
 use mathlib.Core.Path.{◌≡◌, subst}
 use mathlib.Core.List.{List}
 use Prim.Native.Nat.{ℕ}
-use Rattle.io.specs.Counts.{IsPrefixLen}
 use Rattle.pipes.specs.declared.Came.{Came}
 use Rattle.pipes.specs.declared.Came.TheVariants.{Bytes}
-use Rattle.pipes.specs.Came.{Within}
+use Rattle.pipes.specs.Came.{IsPrefixLen, Within}
 
 pub bytes_count : {r : Came} {n : ℕ} (buf : List ℕ) → r ≡ Bytes n → Within r buf → IsPrefixLen n buf
 bytes_count buf e w = (subst (λ (c : Came). Within c buf) e w).1

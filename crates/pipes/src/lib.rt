@@ -1,13 +1,16 @@
 // Reading from and writing to a pipe, a file or a terminal, so that nothing is lost and nothing fails in silence. A call that a signal ends is made
 // again; where nothing is there yet, or there is no room yet, it is made again after a pause; any other failure is said on standard error.
-// Rests on C's calls alone, whose contracts say how many bytes moved and not which.
+// Rests on std's readers and writers, each call of which is one call of the system, and on its clock.
 #![tactic(auto)]
 
 ghost use Rattle.std.specs.Prelude.{◌≡◌, true, length};
+ghost use Rattle.std.specs.Io.KnownBytes.{Appends};
 ghost use Rattle.pipes.specs.Came.{Within};
 ghost use Rattle.pipes.specs.Remedy.{remedy_of};
 
-use libc::types::timespec;
+use std::io::{Read, Write};
+use std::time::Duration;
+use std::{io, thread};
 
 // What a read brought.
 #[derive(Clone, Copy)]
@@ -20,17 +23,9 @@ pub enum Came {
     Failed,
 }
 
-// Waits a thousandth of a second, or less where a signal comes. The borrow checker covers no reference to a struct, so this is proved by hand.
-fn pause() {
-    let asked = timespec {
-        tv_sec: 0,
-        tv_nsec: 1000000,
-    };
-    let mut left = timespec {
-        tv_sec: 0,
-        tv_nsec: 0,
-    };
-    libc::nanosleep(&asked, &mut left);
+// Waits a thousandth of a second.
+fn pause(rt: &HostRuntime) {
+    thread::sleep(rt, Duration::from_millis(1));
 }
 
 // What is to be done about a call that moved nothing.
@@ -46,32 +41,59 @@ enum Remedy {
     Tell,
 }
 
+// The system's numbers for these errors.
+const EINTR: i32 = 4;
+
+const EAGAIN: i32 = 11;
+
+const EPIPE: i32 = 32;
+
+#[tactic(auto, unfolding(crate::specs::Remedy::remedy_of))]
 fn remedy_for(error: i32) -> Remedy
     ensures { result ≡ remedy_of error }
 {
-    if error == libc::EINTR {
+    if error == EINTR {
         return Remedy::Again;
     }
-    if error == libc::EAGAIN {
+    if error == EAGAIN {
         return Remedy::Wait;
     }
-    if error == libc::EPIPE {
+    if error == EPIPE {
         return Remedy::Quit;
     }
     Remedy::Tell
 }
 
+// The system's number for an error; 0, which it gives to none, where the error is not the system's.
+fn number(error: &io::Error) -> i32 {
+    error.raw_os_error().unwrap_or(0)
+}
+
+// Says what failed, in a line that begins with `what`. The system's words for an error stand without its number, which std writes behind them. A line
+// that can't be said is not spoken of.
+fn tell(rt: &HostRuntime, error: &io::Error, what: &[u8]) {
+    let _ = rt.stderr().write_all(what);
+    let Ok(text) = format!(in rt.alloc(); "{error}") else {
+        let _ = eprintln!(rt; ": {error}");
+        return;
+    };
+    let _ = match text.split_once(" (os error ") {
+        Some((words, _)) => eprintln!(rt; ": {words}"),
+        None => eprintln!(rt; ": {text}"),
+    };
+}
+
 // After a call that moved nothing: whether to make it again. What failed is said in a line that begins with `what`, the program and what it was doing.
-fn again(what: &[u8]) -> bool {
-    match remedy_for(os::errno()) {
+fn again(rt: &HostRuntime, error: &io::Error, what: &[u8]) -> bool {
+    match remedy_for(number(error)) {
         Remedy::Again => true,
         Remedy::Wait => {
-            pause();
+            pause(rt);
             true
         }
         Remedy::Quit => false,
         Remedy::Tell => {
-            os::fail(what);
+            tell(rt, error, what);
             false
         }
     }
@@ -79,20 +101,25 @@ fn again(what: &[u8]) -> bool {
 
 // Reads what is there, and waits for it if it has to. A proved loop has to end, and nothing says that a wait does: so the tries are counted down, from a
 // number that no run uses up.
-pub fn read_some(fd: i32, buf: &mut [u8; 4096], what: &[u8]) -> Came
+pub fn read_some<R: Read>(
+    rt: &HostRuntime,
+    input: &mut R,
+    buf: &mut [u8; 4096],
+    what: &[u8],
+) -> Came
     ensures { Within result buf.new }
 {
     let mut tries = u64::MAX;
     while 0 < tries {
-        let got = libc::read(fd, buf);
-        if got == 0 {
-            return Came::End;
-        }
-        let n = io::count(got, buf);
+        let got = input.read(buf);
+        let n = got.unwrap_or(0);
         if 0 < n {
             return Came::Bytes(n);
         }
-        if again(what) {} else {
+        let Err(error) = got else {
+            return Came::End;
+        };
+        if again(rt, &error, what) {} else {
             return Came::Failed;
         }
         tries -= 1;
@@ -100,9 +127,11 @@ pub fn read_some(fd: i32, buf: &mut [u8; 4096], what: &[u8]) -> Came
     Came::Failed
 }
 
-// Writes all of it, and says whether it could: yes at once where there is nothing to write. (What C has written no contract can say.)
-pub fn write_whole(fd: i32, buf: &[u8], what: &[u8]) -> bool
-    ensures { length buf.now ≡ 0 → result ≡ true }
+// Writes all of it, and says whether it could: yes at once where there is nothing to write. What the system has written no contract can say; where a writer
+// tells what it holds, that is longer by the whole text.
+pub fn write_whole<W: Write>(rt: &HostRuntime, out: &mut W, buf: &[u8], what: &[u8]) -> bool
+    ensures nothing { length buf.now ≡ 0 → result ≡ true }
+    ensures whole { result ≡ true → Appends (W.contents out.old) (W.contents out.new) buf.now }
 {
     let mut done: usize = 0;
     let mut tries = u64::MAX;
@@ -111,9 +140,10 @@ pub fn write_whole(fd: i32, buf: &[u8], what: &[u8]) -> bool
             return false;
         }
         let rest = &buf[done..];
-        let n = io::count(libc::write(fd, rest), rest);
+        let put = out.write(rest);
+        let n = put.unwrap_or(0);
         if n == 0 {
-            if again(what) {} else {
+            if again(rt, &failure(put), what) {} else {
                 return false;
             }
         }
@@ -121,4 +151,12 @@ pub fn write_whole(fd: i32, buf: &[u8], what: &[u8]) -> bool
         tries -= 1;
     }
     true
+}
+
+// Why nothing was written: a write that takes no byte of a text that has some is a failure too.
+fn failure(put: io::Result<usize>) -> io::Error {
+    match put {
+        Ok(_) => io::Error::from(io::ErrorKind::WriteZero),
+        Err(error) => error,
+    }
 }
