@@ -7,7 +7,6 @@ ghost use Rattle.frames.specs.Answers.{Answer};
 ghost use Rattle.session.specs.Session.{longest};
 ghost use Rattle.session.specs.Listener.{Turns};
 
-use libc::{STDIN_FILENO, STDOUT_FILENO};
 use pipes::Came;
 use session::LONGEST_ANSWER;
 use session::listener::Listener;
@@ -20,14 +19,14 @@ struct Served {
 }
 
 // Writes an answer: the first count characters of a turn's line. With none it writes nothing.
-fn say(line: [u8; LONGEST_ANSWER], count: usize) -> bool
+fn say(rt: &HostRuntime, line: [u8; LONGEST_ANSWER], count: usize) -> bool
     requires { count ≤ longest }
 {
-    pipes::write_whole(STDOUT_FILENO, &line[..count], b"counter: writing")
+    pipes::write_whole(rt, &mut rt.stdout(), &line[..count], b"counter: writing")
 }
 
 // Takes turns until the chunk is used up.
-fn serve(listener: Listener, chunk: &[u8]) -> Served
+fn serve(rt: &HostRuntime, listener: Listener, chunk: &[u8]) -> Served
     ensures { T result.written → (xs : List Answer) × Turns chunk.now listener 0 xs result.listener }
 {
     let mut d = listener;
@@ -35,7 +34,7 @@ fn serve(listener: Listener, chunk: &[u8]) -> Served
     while at < chunk.len() {
         let turn = d.turn(chunk, at);
         let line = turn.line;
-        if say(line, turn.count) {} else {
+        if say(rt, line, turn.count) {} else {
             return Served {
                 listener: d,
                 written: false,
@@ -53,15 +52,16 @@ fn serve(listener: Listener, chunk: &[u8]) -> Served
 
 // A read brings as much as is there. A proved loop has to end, and nothing says that an input does: so it counts its reads down, from a number
 // that no run uses up. An answer that can't be written is the last; and a read that fails is no end of the input, so a line that has begun gets no
-// answer then. The kit gives a program no exit status: what failed is said on standard error.
-fn main() {
+// answer then. What failed is said on standard error, and the status is 0 all the same.
+fn main(rt: HostRuntime) {
+    let mut input = rt.stdin();
     let mut listener = Listener::start();
     let mut reads = u64::MAX;
     while 0 < reads {
-        let mut chunk = io::buffer();
-        match pipes::read_some(STDIN_FILENO, &mut chunk, b"counter: reading") {
+        let mut chunk = [0u8; 4096];
+        match pipes::read_some(&rt, &mut input, &mut chunk, b"counter: reading") {
             Came::Bytes(n) => {
-                let served = serve(listener, &chunk[..n]);
+                let served = serve(&rt, listener, &chunk[..n]);
                 if served.written {} else {
                     return;
                 }
@@ -71,7 +71,7 @@ fn main() {
             Came::End => {
                 let last = listener.end();
                 let line = last.line;
-                say(line, last.count);
+                say(&rt, line, last.count);
                 return;
             }
             Came::Failed => return,

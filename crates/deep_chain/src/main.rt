@@ -12,6 +12,7 @@ use piece::orientation::Orientation;
 use piece::settings::Settings;
 use piece::size::Size;
 use questions::replies::{AreaAnswer, CountAnswer, UsageAnswer};
+use std::io;
 use table::{NONE, Node};
 
 fn sheet() -> Size {
@@ -163,10 +164,8 @@ fn row() -> Layout {
     l
 }
 
-fn say(what: &[u8], n: u64) {
-    io::write_all(libc::STDOUT_FILENO, what);
-    io::print_decimal(libc::STDOUT_FILENO, n);
-    io::write_all(libc::STDOUT_FILENO, b"\n");
+fn say(rt: &HostRuntime, what: &str, n: u64) -> io::Result<()> {
+    println!(rt; "{what}{n}")
 }
 
 // The number that an answer gives, or 1,000,000.
@@ -213,7 +212,7 @@ fn nodes_without(l: Layout, place: u16, out: &mut [u16]) -> u64 {
 }
 
 // The part of the chain is taken out, and what is left is tidied: each of its structures but the top goes.
-fn tidy_without_part(l: Layout, out: &mut [u16]) {
+fn tidy_without_part(rt: &HostRuntime, l: Layout, out: &mut [u16]) -> io::Result<()> {
     let part = Mark {
         layout: 0,
         place: 254,
@@ -224,54 +223,55 @@ fn tidy_without_part(l: Layout, out: &mut [u16]) {
     let tidied = bare.tidy();
     let left = tidied.layout;
     say(
-        b"structures that tidying takes out without the part ",
+        rt,
+        "structures that tidying takes out without the part ",
         number(tidied.count),
-    );
-    say(b"nodes then ", number(left.held));
+    )?;
+    say(rt, "nodes then ", number(left.held))
 }
 
-fn main() {
+fn main(rt: HostRuntime) -> io::Result<()> {
     let l = chain();
     let mut out = [0u8; 3600];
     if l.sound() {
-        io::write_all(libc::STDOUT_FILENO, b"sound\n");
+        println!(rt; "sound")?;
     }
-    say(b"nodes ", count_in(questions::figures::nodes_held(l)));
-    say(b"used area ", area_in(questions::figures::used_area(l)));
-    say(b"free area ", area_in(questions::figures::free_area(l)));
+    say(&rt, "nodes ", count_in(questions::figures::nodes_held(l)))?;
+    say(&rt, "used area ", area_in(questions::figures::used_area(l)))?;
+    say(&rt, "free area ", area_in(questions::figures::free_area(l)))?;
     say(
-        b"sheet usage ",
+        &rt, "sheet usage ",
         usage_in(questions::figures::sheet_usage(l)),
-    );
-    say(b"tree usage ", usage_in(questions::figures::tree_usage(l)));
+    )?;
+    say(&rt, "tree usage ", usage_in(questions::figures::tree_usage(l)))?;
     say(
-        b"snapshot ",
+        &rt, "snapshot ",
         count_in(questions::written::snapshot(l, &mut out)),
-    );
-    say(b"its last node's level ", wide(out[3556]));
-    say(b"its last node's kind ", wide(out[3557]));
-    say(b"its last node's number ", wide(out[3560]));
-    say(b"its last node's height ", wide(out[3568]));
-    say(b"saw cuts ", count_in(saw::cuts::cuts(l, &mut out)));
+    )?;
+    say(&rt, "its last node's level ", wide(out[3556]))?;
+    say(&rt, "its last node's kind ", wide(out[3557]))?;
+    say(&rt, "its last node's number ", wide(out[3560]))?;
+    say(&rt, "its last node's height ", wide(out[3568]))?;
+    say(&rt, "saw cuts ", count_in(saw::cuts::cuts(l, &mut out)))?;
     let r = row();
     if r.sound() {
-        io::write_all(libc::STDOUT_FILENO, b"the row is sound\n");
+        println!(rt; "the row is sound")?;
     }
-    say(b"its saw cuts ", count_in(saw::cuts::cuts(r, &mut out)));
-    say(b"the last one's place ", wide(out[2269]));
-    say(b"the last one's way ", wide(out[2270]));
-    say(b"the last one's distance ", wide(out[2274]));
-    say(b"the last one's piece ", wide(out[2275]));
-    say(b"the last one leaves ", wide(out[2276]));
+    say(&rt, "its saw cuts ", count_in(saw::cuts::cuts(r, &mut out)))?;
+    say(&rt, "the last one's place ", wide(out[2269]))?;
+    say(&rt, "the last one's way ", wide(out[2270]))?;
+    say(&rt, "the last one's distance ", wide(out[2274]))?;
+    say(&rt, "the last one's piece ", wide(out[2275]))?;
+    say(&rt, "the last one leaves ", wide(out[2276]))?;
     let mut numbers = [0u16; 255];
     say(
-        b"nodes without the chain ",
+        &rt, "nodes without the chain ",
         nodes_without(l, 1, &mut numbers),
-    );
-    say(b"the number that came out ", number(numbers[0]));
+    )?;
+    say(&rt, "the number that came out ", number(numbers[0]))?;
     say(
-        b"nodes without the row's last part ",
+        &rt, "nodes without the row's last part ",
         nodes_without(r, 254, &mut numbers),
-    );
-    tidy_without_part(l, &mut numbers);
+    )?;
+    tidy_without_part(&rt, l, &mut numbers)
 }

@@ -7,7 +7,6 @@ ghost use Rattle.lines.specs.Stream.{take_of};
 
 use desk_frames::LONGEST_ANSWER;
 use desk_frames::listener::{finish, turn};
-use libc::{STDIN_FILENO, STDOUT_FILENO};
 use pipes::Came;
 use session::listener::Listener;
 
@@ -19,11 +18,11 @@ struct Served {
 }
 
 // Writes an answer: the first count characters of the line. With none it writes nothing.
-fn say(line: &[u8], count: usize) -> bool {
+fn say(rt: &HostRuntime, line: &[u8], count: usize) -> bool {
     if line.len() < count {
         return false;
     }
-    pipes::write_whole(STDOUT_FILENO, &line[..count], b"desk: writing")
+    pipes::write_whole(rt, &mut rt.stdout(), &line[..count], b"desk: writing")
 }
 
 // The listener after a turn, where the chunk goes on, and whether the answer could be written.
@@ -35,12 +34,12 @@ struct Told {
 }
 
 // Takes a turn, and writes the answer to its line, if it has one.
-fn tell(listener: Listener, chunk: &[u8], at: usize) -> Told
+fn tell(rt: &HostRuntime, listener: Listener, chunk: &[u8], at: usize) -> Told
     ensures { result.next ≡ (take_of listener.pending chunk.now at).next }
 {
     let mut line = [0u8; LONGEST_ANSWER];
     let taken = turn(listener, chunk, at, &mut line);
-    let written = say(&line, taken.count);
+    let written = say(rt, &line, taken.count);
     let after = taken.listener;
     Told {
         listener: after,
@@ -50,11 +49,11 @@ fn tell(listener: Listener, chunk: &[u8], at: usize) -> Told
 }
 
 // Takes turns until the chunk is used up.
-fn serve(listener: Listener, chunk: &[u8]) -> Served {
+fn serve(rt: &HostRuntime, listener: Listener, chunk: &[u8]) -> Served {
     let mut d = listener;
     let mut at: usize = 0;
     while at < chunk.len() {
-        let told = tell(d, chunk, at);
+        let told = tell(rt, d, chunk, at);
         if told.written {} else {
             return Served {
                 listener: d,
@@ -72,21 +71,22 @@ fn serve(listener: Listener, chunk: &[u8]) -> Served {
 }
 
 // At the end of the input: a last line that lacks its newline gets its answer.
-fn end(listener: Listener) {
+fn end(rt: &HostRuntime, listener: Listener) {
     let mut line = [0u8; LONGEST_ANSWER];
     let last = finish(listener, &mut line);
-    say(&line, last.count);
+    say(rt, &line, last.count);
 }
 
 // As in `counter`: it reads what is there, and counts its reads down from a number that no run uses up.
-fn main() {
+fn main(rt: HostRuntime) {
+    let mut input = rt.stdin();
     let mut listener = Listener::start();
     let mut reads = u64::MAX;
     while 0 < reads {
-        let mut chunk = io::buffer();
-        match pipes::read_some(STDIN_FILENO, &mut chunk, b"desk: reading") {
+        let mut chunk = [0u8; 4096];
+        match pipes::read_some(&rt, &mut input, &mut chunk, b"desk: reading") {
             Came::Bytes(n) => {
-                let served = serve(listener, &chunk[..n]);
+                let served = serve(&rt, listener, &chunk[..n]);
                 if served.written {} else {
                     return;
                 }
@@ -94,7 +94,7 @@ fn main() {
                 listener = next;
             }
             Came::End => {
-                end(listener);
+                end(&rt, listener);
                 return;
             }
             Came::Failed => return,

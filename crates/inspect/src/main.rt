@@ -10,7 +10,6 @@ use desk_frames::DeskRequest;
 use fields::Listing;
 use frames::Request;
 use layout::layout::Layout;
-use libc::STDIN_FILENO;
 use lines::stream::{Event, MOST, Pending};
 use pen::ROOM;
 use pipes::Came;
@@ -44,12 +43,12 @@ fn asked(pending: Pending, chunk: &[u8], at: usize) -> DeskRequest {
 }
 
 // Writes the fields of a line, if it has an answer: that is the first count characters.
-fn tell(layout: Layout, line: &[u8], count: usize, request: Request) -> bool {
+fn tell(rt: &HostRuntime, layout: Layout, line: &[u8], count: usize, request: Request) -> bool {
     if count == 0 {
         return true;
     }
     let mut out = [0u8; ROOM];
-    let one = fields::answer(&mut out, pen::start(), line, count);
+    let one = fields::answer(&mut out, pen::start(rt), line, count);
     let two = fields::snapshot(&mut out, one, layout);
     let three = fields::marks(&mut out, two, layout, Listing::Free);
     let four = fields::marks(&mut out, three, layout, Listing::Removable);
@@ -62,14 +61,14 @@ fn tell(layout: Layout, line: &[u8], count: usize, request: Request) -> bool {
 }
 
 // The counter's answer, and what the line asks there.
-fn told(listener: Listener, line: &[u8], count: usize, request: Request) -> Served {
+fn told(rt: &HostRuntime, listener: Listener, line: &[u8], count: usize, request: Request) -> Served {
     let layout = listener.session.layout;
-    let written = tell(layout, line, count, request);
+    let written = tell(rt, layout, line, count, request);
     Served { listener, written }
 }
 
 // At the counter a line that asks to tidy is malformed and changes nothing; here the layout is tidied, as at the desk.
-fn tidied(listener: Listener) -> Served {
+fn tidied(rt: &HostRuntime, listener: Listener) -> Served {
     let session = listener.session;
     let pending = listener.pending;
     let mut line = [0u8; desk_frames::LONGEST_ANSWER];
@@ -79,11 +78,11 @@ fn tidied(listener: Listener) -> Served {
         session: after,
         pending,
     };
-    told(next, &line, stepped.count, Request::Malformed)
+    told(rt, next, &line, stepped.count, Request::Malformed)
 }
 
 // Takes turns until the chunk is used up.
-fn serve(listener: Listener, chunk: &[u8]) -> Served {
+fn serve(rt: &HostRuntime, listener: Listener, chunk: &[u8]) -> Served {
     let mut d = listener;
     let mut at: usize = 0;
     while at < chunk.len() {
@@ -93,9 +92,9 @@ fn serve(listener: Listener, chunk: &[u8]) -> Served {
         let after = turn.listener;
         let line = turn.line;
         let served = match request {
-            DeskRequest::Tidy => tidied(after),
-            DeskRequest::Asks(_) => told(after, &line, turn.count, Request::Malformed),
-            DeskRequest::AtCounter(asks) => told(after, &line, turn.count, asks),
+            DeskRequest::Tidy => tidied(rt, after),
+            DeskRequest::Asks(_) => told(rt, after, &line, turn.count, Request::Malformed),
+            DeskRequest::AtCounter(asks) => told(rt, after, &line, turn.count, asks),
         };
         if served.written {} else {
             return Served {
@@ -114,14 +113,15 @@ fn serve(listener: Listener, chunk: &[u8]) -> Served {
 }
 
 // As in `counter`: it reads what is there, and counts its reads down from a number that no run uses up.
-fn main() {
+fn main(rt: HostRuntime) {
+    let mut input = rt.stdin();
     let mut listener = Listener::start();
     let mut reads = u64::MAX;
     while 0 < reads {
-        let mut chunk = io::buffer();
-        match pipes::read_some(STDIN_FILENO, &mut chunk, b"inspect: reading") {
+        let mut chunk = [0u8; 4096];
+        match pipes::read_some(&rt, &mut input, &mut chunk, b"inspect: reading") {
             Came::Bytes(n) => {
-                let served = serve(listener, &chunk[..n]);
+                let served = serve(&rt, listener, &chunk[..n]);
                 if served.written {} else {
                     return;
                 }
@@ -131,7 +131,7 @@ fn main() {
             Came::End => {
                 let last = listener.end();
                 let line = last.line;
-                told(last.listener, &line, last.count, Request::Malformed);
+                told(&rt, last.listener, &line, last.count, Request::Malformed);
                 return;
             }
             Came::Failed => return,

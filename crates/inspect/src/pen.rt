@@ -1,25 +1,26 @@
 // Writing through a small buffer: characters wait in it until it is full, or until a line ends. A write that fails is said by `pipes`.
-use libc::STDOUT_FILENO;
 
 // The characters that the buffer has room for.
 pub const ROOM: usize = 4096;
 
-// How many characters wait, and whether all that was written before them could be.
+// Where the characters go, how many wait, and whether all that was written before them could be.
 #[derive(Clone, Copy)]
 pub struct Pen {
+    pub rt: HostRuntime,
     pub waiting: usize,
     pub written: bool,
 }
 
-pub fn start() -> Pen {
+pub fn start(rt: &HostRuntime) -> Pen {
     Pen {
+        rt: *rt,
         waiting: 0,
         written: true,
     }
 }
 
-fn sent(out: &[u8]) -> bool {
-    pipes::write_whole(STDOUT_FILENO, out, b"inspect: writing")
+fn sent(rt: &HostRuntime, out: &[u8]) -> bool {
+    pipes::write_whole(rt, &mut rt.stdout(), out, b"inspect: writing")
 }
 
 // Writes what waits. After a write that failed nothing is written any more.
@@ -28,12 +29,14 @@ fn flush(out: &[u8], pen: Pen) -> Pen {
     if pen.written {} else {
         return pen;
     }
+    let rt = pen.rt;
     let written = if n < out.len() {
-        sent(&out[..n])
+        sent(&rt, &out[..n])
     } else {
-        sent(out)
+        sent(&rt, out)
     };
     Pen {
+        rt,
         waiting: 0,
         written,
     }
@@ -44,6 +47,7 @@ pub fn put(out: &mut [u8; ROOM], pen: Pen, letter: u8) -> Pen {
     if at < ROOM {
         out[at] = letter;
         return Pen {
+            rt: pen.rt,
             waiting: at + 1,
             written: pen.written,
         };
@@ -51,6 +55,7 @@ pub fn put(out: &mut [u8; ROOM], pen: Pen, letter: u8) -> Pen {
     let next = flush(out, pen);
     out[0] = letter;
     Pen {
+        rt: next.rt,
         waiting: 1,
         written: next.written,
     }

@@ -9,6 +9,9 @@ mod record;
 ghost use Rattle.std.specs.Prelude.{◌≤◌};
 
 use record::{Record, decoded};
+use std::fs::File;
+use std::io;
+use std::io::Read;
 
 // The characters of the longest line: two for each of 74 bytes, and a newline.
 const LINE: usize = 149;
@@ -70,33 +73,45 @@ fn tallied(t: Tally, agrees: bool) -> Tally {
     }
 }
 
-fn replay(file: i32, asked: Asked) -> Tally {
+// Reads until the line is full or the file ends, and says how many bytes came.
+fn read_full(file: &mut File, line: &mut [u8]) -> io::Result<usize> {
+    let mut done: usize = 0;
+    while done < line.len() {
+        let n = file.read(&mut line[done..])?;
+        if n == 0 {
+            break;
+        }
+        done += n;
+    }
+    Ok(done)
+}
+
+fn replay(file: &mut File, asked: Asked) -> io::Result<Tally> {
     let bytes = length(asked);
     let mut tally = Tally { same: 0, differ: 0 };
     let mut left: u64 = 1000000;
     while 0 < left {
         let mut line = [0u8; LINE];
-        let n = io::read_full(file, &mut line[..2 * bytes + 1]);
+        let n = read_full(file, &mut line[..2 * bytes + 1])?;
         if n == 0 {
             break;
         }
         tally = tallied(tally, agrees(asked, decoded(&line, bytes)));
         left -= 1;
     }
-    tally
+    Ok(tally)
 }
 
-fn report(tally: Tally, what: &[u8]) {
-    io::print_decimal(libc::STDOUT_FILENO, tally.same);
-    io::write_all(libc::STDOUT_FILENO, what);
-    io::write_all(libc::STDOUT_FILENO, b" are the Rust's, ");
-    io::print_decimal(libc::STDOUT_FILENO, tally.differ);
-    io::write_all(libc::STDOUT_FILENO, b" differ\n");
+fn report(rt: &HostRuntime, tally: Tally, what: &str) -> io::Result<()> {
+    let same = tally.same;
+    let differ = tally.differ;
+    println!(rt; "{same}{what} are the Rust's, {differ} differ")
 }
 
-fn main() {
-    let offers = os::open_read(b"offers.txt");
-    report(replay(offers, Asked::Offers), b" offers");
-    let blocks = os::open_read(b"blocks.txt");
-    report(replay(blocks, Asked::Blocks), b" blocks");
+// A file that can't be opened or read ends it, and so does a line that can't be written.
+fn main(rt: HostRuntime) -> io::Result<()> {
+    let mut offers = File::open(&rt, "offers.txt")?;
+    report(&rt, replay(&mut offers, Asked::Offers)?, " offers")?;
+    let mut blocks = File::open(&rt, "blocks.txt")?;
+    report(&rt, replay(&mut blocks, Asked::Blocks)?, " blocks")
 }
