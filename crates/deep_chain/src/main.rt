@@ -240,12 +240,18 @@ fn main(rt: HostRuntime) -> io::Result<()> {
     say(&rt, "used area ", area_in(questions::figures::used_area(l)))?;
     say(&rt, "free area ", area_in(questions::figures::free_area(l)))?;
     say(
-        &rt, "sheet usage ",
+        &rt,
+        "sheet usage ",
         usage_in(questions::figures::sheet_usage(l)),
     )?;
-    say(&rt, "tree usage ", usage_in(questions::figures::tree_usage(l)))?;
     say(
-        &rt, "snapshot ",
+        &rt,
+        "tree usage ",
+        usage_in(questions::figures::tree_usage(l)),
+    )?;
+    say(
+        &rt,
+        "snapshot ",
         count_in(questions::written::snapshot(l, &mut out)),
     )?;
     say(&rt, "its last node's level ", wide(out[3556]))?;
@@ -265,12 +271,14 @@ fn main(rt: HostRuntime) -> io::Result<()> {
     say(&rt, "the last one leaves ", wide(out[2276]))?;
     let mut numbers = [0u16; 255];
     say(
-        &rt, "nodes without the chain ",
+        &rt,
+        "nodes without the chain ",
         nodes_without(l, 1, &mut numbers),
     )?;
     say(&rt, "the number that came out ", number(numbers[0]))?;
     say(
-        &rt, "nodes without the row's last part ",
+        &rt,
+        "nodes without the row's last part ",
         nodes_without(r, 254, &mut numbers),
     )?;
     tidy_without_part(&rt, l, &mut numbers)

@@ -61,7 +61,13 @@ fn tell(rt: &HostRuntime, layout: Layout, line: &[u8], count: usize, request: Re
 }
 
 // The counter's answer, and what the line asks there.
-fn told(rt: &HostRuntime, listener: Listener, line: &[u8], count: usize, request: Request) -> Served {
+fn told(
+    rt: &HostRuntime,
+    listener: Listener,
+    line: &[u8],
+    count: usize,
+    request: Request,
+) -> Served {
     let layout = listener.session.layout;
     let written = tell(rt, layout, line, count, request);
     Served { listener, written }
