@@ -23,8 +23,7 @@ returns-then-same_offer c =
 
 pub loop-i-preserved : goal.loop-i-preserved
 loop-i-preserved c =
-    let l = c.loop-i in
-    (
+    let l = c.loop-i in (
       omega arith,
       among-more c.args.rotation c.args.shape l.i c.args.offers.list l.invariant.1
           (sym c.same_offer.ensures ∙ c.if-same_offer.false),
