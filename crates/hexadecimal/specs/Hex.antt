@@ -1,5 +1,5 @@
 -- Document 01, "Counter frames": "lower-case hexadecimal".
-use Rattle.std.specs.Prelude.{Bool, true, false, cond, ◌||◌, ℕ, ◌+◌, ◌-◌, ◌*◌, ltb, leb}
+use Rattle.std.specs.Prelude.{cond, ◌||◌, ℕ, ◌+◌, ◌-◌, ◌*◌, ltb, leb}
 
 -- 0 to 9 are the characters 48 to 57, a to f are 97 to 102; 16 says that it is no digit
 unfoldable pub digit_of : ℕ → ℕ

@@ -1,7 +1,6 @@
 -- `hexadecimal::byte` meets its contract. Assumes nothing.
-use mathlib.Core.Path.{◌≡◌, refl, sym, ap, ap₂, ◌∙◌, subst}
+use mathlib.Core.Path.{ap₂, ◌∙◌, subst}
 use Prim.Native.Nat.{ℕ, ◌+◌, ◌*◌, ◌≤◌, ◌<◌}
-use borrow.Author.Rules.{rules}
 use Rattle.hexadecimal.proofs.Pairs.{high-bad, low-bad, both-good}
 use Rattle.hexadecimal.proofs.byte.Goals as goal
 

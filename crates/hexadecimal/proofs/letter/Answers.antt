@@ -1,5 +1,4 @@
 -- `hexadecimal::letter` meets its contract. Assumes nothing.
-use borrow.Author.Rules.{rules}
 use borrow.Author.Tests.{lt-ltb, le-ltb}
 use Rattle.hexadecimal.specs.Hex.{letter_of}
 use Rattle.hexadecimal.proofs.letter.Goals as goal

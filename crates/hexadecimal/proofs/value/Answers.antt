@@ -1,5 +1,4 @@
 -- `hexadecimal::value` meets its contract: each exit is a range of `digit_of`. Assumes nothing.
-use borrow.Author.Rules.{rules}
 use borrow.Author.Tests.{lt-ltb, le-ltb}
 use Rattle.hexadecimal.specs.Hex.{digit_of}
 use Rattle.hexadecimal.proofs.value.Goals as goal

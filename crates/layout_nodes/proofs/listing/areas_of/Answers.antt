@@ -1,12 +1,10 @@
 -- `listing::areas_of` meets its contract: the column is filled as far as the loop has come. Assumes nothing.
-use mathlib.Core.Path.{◌≡◌, refl}
-use Prim.Native.Nat.{◌-◌, ◌≤◌}
+use mathlib.Core.Path.{refl}
 use native.Mathlib.Omega.{arith}
-use borrow.Author.Rules.{rules}
 use Rattle.lists.specs.Lists.{limit, zeros}
-use Rattle.lists.proofs.Fill.{filled, fill_more, fill-column}
+use Rattle.lists.proofs.Fill.{fill_more, fill-column}
 use Rattle.table.specs.Table.{zero_node}
-use Rattle.table.specs.Columns.{area_of, areas_of}
+use Rattle.table.specs.Columns.{area_of}
 use Rattle.layout_nodes.proofs.listing.areas_of.Goals as goal
 
 pub loop-i-init : goal.loop-i-init

@@ -1,5 +1,4 @@
 -- `spots::spot_in` meets its contract: where the column leads to the place, there it stands first; else it stands nowhere. Assumes nothing.
-use borrow.Author.Rules.{rules}
 use native.Mathlib.Omega.{arith}
 use Rattle.layout_nodes.proofs.Lookup.{spot-found, spot-missing}
 use Rattle.layout_nodes.proofs.spots.spot_in.Goals as goal

@@ -1,9 +1,8 @@
 -- `spots::spots_of` meets its contract: the column says where the entries that the loop has passed stand first. The measure is the index that it
 -- stands at. Assumes nothing.
-use Prim.Native.Nat.{◌-◌, ◌≤◌}
+use Prim.Native.Nat.{◌-◌}
 use native.Mathlib.Omega.{arith}
-use borrow.Author.Rules.{rules}
-use Rattle.layout_nodes.proofs.Lookup.{Spotting, spotting-none, spotting-more, spotting-past, spotting-all}
+use Rattle.layout_nodes.proofs.Lookup.{spotting-none, spotting-more, spotting-past, spotting-all}
 use Rattle.layout_nodes.proofs.spots.spots_of.Goals as goal
 
 pub loop-i-init : goal.loop-i-init

@@ -1,9 +1,7 @@
 -- `spots::spots_of` meets its contract: the column says where the entries that the loop has passed stand first. The measure is the index that it
 -- stands at. Assumes nothing.
-use Prim.Native.Nat.{◌-◌, ◌≤◌}
-use native.Mathlib.Omega.{arith}
-use borrow.Author.Rules.{rules}
-use Rattle.layout_nodes.proofs.Lookup.{Spotting, spotting-none, spotting-more, spotting-past, spotting-all}
+use Prim.Native.Nat.{◌≤◌}
+use Rattle.layout_nodes.proofs.Lookup.{Spotting}
 use Rattle.layout_nodes.proofs.spots.spots_of.Given as goal
 
 abbrev pub invariant-loop-i : goal.invariant-loop-i

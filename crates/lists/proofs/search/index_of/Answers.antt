@@ -1,10 +1,8 @@
 -- `lists::search::index_of` meets its contract: a search, of which `Scan` has the steps. Assumes nothing.
-use Prim.Native.Nat.{◌-◌}
 use native.Mathlib.Omega.{arith}
-use borrow.Author.Rules.{rules}
 use borrow.Author.Tests.{eq-eqb, ne_eqb}
 use Rattle.lists.specs.Search.{index_of, stands_at}
-use Rattle.lists.proofs.Scan.{Searching, search-start, search-on, search-found, search-end}
+use Rattle.lists.proofs.Scan.{search-start, search-on, search-found, search-end}
 use Rattle.lists.proofs.search.index_of.Goals as goal
 
 pub loop-i-init : goal.loop-i-init

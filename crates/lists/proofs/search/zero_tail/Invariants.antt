@@ -1,14 +1,9 @@
 -- `lists::search::zero_tail` meets its contract: every index that was passed is below the count or has a zero. Assumes nothing.
-use mathlib.Core.Path.{◌≡◌, refl, sym}
-use mathlib.Core.Bool.{true, false}
+use mathlib.Core.Path.{◌≡◌}
+use mathlib.Core.Bool.{true}
 use Prim.Native.Nat.{◌-◌, ◌≤◌}
-use native.Mathlib.Omega.{arith}
-use borrow.Author.Rules.{rules}
-use borrow.Author.Tests.{eq-eqb, ne_eqb, lt-ltb, le-ltb}
-use lib.ListN.{get_or}
 use Rattle.lists.specs.Lists.{limit}
-use Rattle.lists.specs.Search.{every, zero_at, zero_tail}
-use Rattle.lists.proofs.Scan.{every_more, every-fails, every-all, every-at}
+use Rattle.lists.specs.Search.{every, zero_at}
 use Rattle.lists.proofs.search.zero_tail.Given as goal
 
 abbrev pub invariant-loop-i : goal.invariant-loop-i

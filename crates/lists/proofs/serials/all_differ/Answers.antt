@@ -1,6 +1,5 @@
 -- `lists::serials::all_differ` meets its contract: serials whose residues differ differ, and else the classes say. Assumes nothing.
 use mathlib.Core.Path.{sym, ◌∙◌}
-use borrow.Author.Rules.{rules}
 use Rattle.lists.specs.Lists.{limit}
 use Rattle.lists.proofs.Residues.{residues-apart}
 use Rattle.lists.proofs.serials.all_differ.Goals as goal

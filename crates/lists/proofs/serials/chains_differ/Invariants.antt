@@ -1,16 +1,12 @@
 -- `lists::serials::chains_differ` meets its contract. Outside, the serials of the classes that were passed stand once; inside, so do those of one
 -- class from the place on that the walk has come down to. The measure of the walk is the number that it stands at. Assumes nothing.
-use mathlib.Core.Path.{◌≡◌, refl, sym, ap, ◌∙◌}
+use mathlib.Core.Path.{◌≡◌}
 use mathlib.Core.Bool.{true}
-use mathlib.Core.Logic.{⊎_elim}
 use Prim.Native.Nat.{ℕ, ◌+◌, ◌-◌, ◌≤◌}
-use native.Mathlib.Omega.{arith}
-use borrow.Author.Rules.{rules}
 use Rattle.lists.specs.Lists.{limit}
-use Rattle.lists.specs.Inner.{class_at, in_class, last_below}
-use Rattle.lists.proofs.Chains.{Leads, last-leads}
-use Rattle.lists.proofs.Visits.{Done, done_none, done_more, done_all}
-use Rattle.lists.proofs.Visits.{Visited, visited-none, visited-on, visited-zero, visited-more, visited-twice}
+use Rattle.lists.specs.Inner.{class_at}
+use Rattle.lists.proofs.Visits.{Done}
+use Rattle.lists.proofs.Visits.{Visited}
 use Rattle.lists.proofs.serials.chains_differ.Given as goal
 
 abbrev pub invariant-loop-c : goal.invariant-loop-c

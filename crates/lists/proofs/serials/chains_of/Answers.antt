@@ -1,10 +1,9 @@
 -- `lists::serials::chains_of` meets its contract: the places that were passed are in the chains. Assumes nothing.
-use Prim.Native.Nat.{◌-◌, ◌≤◌, ◌<◌}
+use Prim.Native.Nat.{◌<◌}
 use native.Mathlib.Omega.{arith}
 use lib.ListN.{get_or}
 use borrow.Author.Rules.{rules}
-use Rattle.lists.specs.Lists.{limit}
-use Rattle.lists.proofs.Chains.{Chaining, chaining-none, chaining-more, chaining-all}
+use Rattle.lists.proofs.Chains.{chaining-none, chaining-more, chaining-all}
 use Rattle.lists.proofs.serials.chains_of.Goals as goal
 
 pub loop-i-init : goal.loop-i-init

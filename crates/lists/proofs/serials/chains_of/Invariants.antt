@@ -1,10 +1,7 @@
 -- `lists::serials::chains_of` meets its contract: the places that were passed are in the chains. Assumes nothing.
-use Prim.Native.Nat.{◌-◌, ◌≤◌, ◌<◌}
-use native.Mathlib.Omega.{arith}
-use lib.ListN.{get_or}
-use borrow.Author.Rules.{rules}
+use Prim.Native.Nat.{◌-◌, ◌≤◌}
 use Rattle.lists.specs.Lists.{limit}
-use Rattle.lists.proofs.Chains.{Chaining, chaining-none, chaining-more, chaining-all}
+use Rattle.lists.proofs.Chains.{Chaining}
 use Rattle.lists.proofs.serials.chains_of.Given as goal
 
 abbrev pub invariant-loop-i : goal.invariant-loop-i

@@ -1,15 +1,10 @@
 -- `lists::serials::residues_differ` meets its contract: no two of the serials that were passed agree, and their flags stand alone. Assumes nothing.
 use mathlib.Core.Path.{◌≡◌, sym}
-use mathlib.Core.Bool.{true}
-use mathlib.Core.Logic.{⊎_elim}
-use Prim.Native.Nat.{◌-◌, ◌≤◌}
 use native.Mathlib.Omega.{arith}
-use borrow.Author.Rules.{rules}
 use Rattle.lists.specs.Lists.{limit}
-use Rattle.lists.specs.Search.{every}
 use Rattle.lists.specs.Inner.{unlike_below, residues_differ}
 use Rattle.lists.proofs.Scan.{every-none, every_more, every-fails}
-use Rattle.lists.proofs.Residues.{Passed, passed_none, passed-zero, passed-more, below-zero, below_new, below-flagged}
+use Rattle.lists.proofs.Residues.{passed_none, passed-zero, passed-more, below-zero, below_new, below-flagged}
 use Rattle.lists.proofs.serials.residues_differ.Goals as goal
 use Rattle.lists.proofs.serials.residues_differ.Goals.{else-a-ne0, then-a-ne0+else-flag-r-eq1}
 

@@ -1,9 +1,8 @@
 -- `lists::shift::delete_at` meets its contract: the loop moves down what stands behind the index, the first entry first. The measure is what is
 -- left of the count. Assumes nothing.
 use mathlib.Core.Path.{◌≡◌}
-use Prim.Native.Nat.{◌≤◌, ◌<◌, ◌-◌}
 use native.Mathlib.Omega.{arith}
-use Rattle.lists.proofs.Moves.{Lowered, lowered_none, lowered-more, lowered-put}
+use Rattle.lists.proofs.Moves.{lowered_none, lowered-more, lowered-put}
 use Rattle.lists.proofs.shift.delete_at.Goals as goal
 
 pub loop-i-init : goal.loop-i-init

@@ -1,9 +1,8 @@
 -- `lists::shift::insert_at` meets its contract: the loop moves up what stands from the index on, the last entry first. The measure is the index
 -- that it stands at. Assumes nothing.
 use mathlib.Core.Path.{◌≡◌}
-use Prim.Native.Nat.{◌≤◌, ◌-◌}
-use native.Mathlib.Omega.{arith}
-use Rattle.lists.proofs.Moves.{raised, raised-none, raised-more, raised-put}
+use Prim.Native.Nat.{◌≤◌}
+use Rattle.lists.proofs.Moves.{raised}
 use Rattle.lists.proofs.shift.insert_at.Given as goal
 
 abbrev pub invariant-loop-j : goal.invariant-loop-j

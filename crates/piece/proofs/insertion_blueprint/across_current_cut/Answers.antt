@@ -1,5 +1,4 @@
 -- `across_current_cut` meets its contract: its nodes are that row of the table, whichever the cut.
-use borrow.Author.Rules.{rules}
 use Rattle.piece.specs.Insertion.{laid_out, as_blueprint, table}
 use Rattle.piece.proofs.insertion_blueprint.across_current_cut.Goals as goal
 

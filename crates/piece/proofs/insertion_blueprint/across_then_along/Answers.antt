@@ -1,6 +1,5 @@
 -- `across_then_along` meets its contract: its nodes are that row of the table, whichever the cut.
 -- The strip is cut the other way than the piece, and what is in the strip as the piece.
-use borrow.Author.Rules.{rules}
 use Rattle.piece.specs.Insertion.{laid_out, as_blueprint, table}
 use Rattle.piece.proofs.Sizes.{other-twice}
 use Rattle.piece.proofs.insertion_blueprint.across_then_along.Goals as goal

@@ -1,5 +1,4 @@
 -- `along_then_across` meets its contract: its nodes are that row of the table, whichever the cut.
-use borrow.Author.Rules.{rules}
 use Rattle.piece.specs.Insertion.{laid_out, as_blueprint, table}
 use Rattle.piece.proofs.insertion_blueprint.along_then_across.Goals as goal
 

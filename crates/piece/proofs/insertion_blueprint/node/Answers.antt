@@ -1,5 +1,4 @@
 -- `node` meets its contract: its sides are those of the tables, laid as the piece lies.
-use borrow.Author.Rules.{rules}
 use Rattle.piece.proofs.insertion_blueprint.node.Goals as goal
 
 pub returns : goal.returns

@@ -1,5 +1,4 @@
 -- `nodes` meets its contract: each shape has its function, over the sides as the table writes them.
-use borrow.Author.Rules.{rules}
 use Rattle.piece.specs.Insertion.{blueprint_of, block_of, laid_out}
 use Rattle.piece.proofs.insertion_blueprint.nodes.Goals as goal
 

@@ -1,11 +1,7 @@
 -- `insertion_option::is_among` meets its contract: none of the offers that were passed is the one sought. Assumes nothing.
 use mathlib.Core.Path.{◌≡◌, refl, sym, ◌∙◌}
-use mathlib.Core.Bool.{false}
-use Prim.Native.Nat.{◌-◌, ◌≤◌}
 use native.Mathlib.Omega.{arith}
-use borrow.Author.Rules.{rules}
-use lib.ListN.{length, take, length-map}
-use Rattle.piece.specs.Offered.{among_b}
+use lib.ListN.{length}
 use Rattle.piece.proofs.Offering.{among-at, among-more}
 use Rattle.piece.proofs.insertion_option.is_among.Goals as goal
 

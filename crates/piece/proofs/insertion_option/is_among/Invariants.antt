@@ -1,12 +1,9 @@
 -- `insertion_option::is_among` meets its contract: none of the offers that were passed is the one sought. Assumes nothing.
-use mathlib.Core.Path.{◌≡◌, refl, sym, ◌∙◌}
+use mathlib.Core.Path.{◌≡◌}
 use mathlib.Core.Bool.{false}
 use Prim.Native.Nat.{◌-◌, ◌≤◌}
-use native.Mathlib.Omega.{arith}
-use borrow.Author.Rules.{rules}
-use lib.ListN.{length, take, length-map}
+use lib.ListN.{take}
 use Rattle.piece.specs.Offered.{among_b}
-use Rattle.piece.proofs.Offering.{among-at, among-more}
 use Rattle.piece.proofs.insertion_option.is_among.Given as goal
 
 abbrev pub invariant-loop-i : goal.invariant-loop-i

@@ -1,10 +1,8 @@
 -- `insertion_option::is_offered` meets its contract. Assumes nothing.
-use mathlib.Core.Path.{◌≡◌, refl, sym, ap, ◌∙◌}
-use native.Mathlib.Omega.{arith}
-use borrow.Author.Rules.{rules}
+use mathlib.Core.Path.{refl, ◌∙◌}
 use Rattle.piece.specs.Offers.{offers_of}
 use Rattle.piece.proofs.Offered.{offers-few, held-count, held_whole}
-use Rattle.piece.specs.Offered.{among_b, offered_b}
+use Rattle.piece.specs.Offered.{offered_b}
 use Rattle.piece.proofs.insertion_option.is_offered.Goals as goal
 
 pub is_among-requires : goal.is_among-requires

@@ -1,6 +1,5 @@
 -- `insertion_option::same_offer` meets its contract. Assumes nothing.
-use mathlib.Core.Path.{◌≡◌, refl, sym, ◌∙◌}
-use borrow.Author.Rules.{rules}
+use mathlib.Core.Path.{refl, sym, ◌∙◌}
 use borrow.Author.Tests.{eq-eqb, ne_eqb}
 use Rattle.piece.proofs.insertion_option.same_offer.Goals as goal
 

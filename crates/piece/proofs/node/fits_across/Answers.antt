@@ -1,5 +1,4 @@
 -- `fits_across` meets its contract, whichever the cut.
-use borrow.Author.Rules.{rules}
 use Rattle.piece.proofs.node.fits_across.Goals as goal
 
 pub returns : goal.returns

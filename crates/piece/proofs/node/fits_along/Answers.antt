@@ -1,5 +1,4 @@
 -- `fits_along` meets its contract, whichever the cut.
-use borrow.Author.Rules.{rules}
 use Rattle.piece.proofs.node.fits_along.Goals as goal
 
 pub returns : goal.returns

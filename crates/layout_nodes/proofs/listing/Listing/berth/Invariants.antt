@@ -1,12 +1,8 @@
 -- `Listing::berth` meets its contract: a search, of which `Scan` has the steps. Assumes nothing.
-use mathlib.Core.Path.{◌∙◌}
 use Prim.Native.Nat.{◌-◌}
-use native.Mathlib.Omega.{arith}
-use borrow.Author.Rules.{rules}
-use borrow.Author.Tests.{lt-ltb, le-ltb}
-use Rattle.lists.proofs.Scan.{Searching, search-start, search-on, search-found, search-end}
+use Rattle.lists.proofs.Scan.{Searching}
 use Rattle.layout_nodes.specs.Listings.{area_at}
-use Rattle.layout_nodes.proofs.Listed.{smaller_in, berth-entries}
+use Rattle.layout_nodes.proofs.Listed.{smaller_in}
 use Rattle.layout_nodes.proofs.listing.Listing.berth.Given as goal
 
 abbrev pub invariant-loop-i : goal.invariant-loop-i

@@ -1,5 +1,4 @@
 -- `Listing::omit` meets its contract: the place is found and deleted, or is not there. Assumes nothing.
-use borrow.Author.Rules.{rules}
 use Rattle.layout_nodes.proofs.Listed.{cut-none, cut-one}
 use Rattle.layout_nodes.proofs.listing.Listing.omit.Goals as goal
 

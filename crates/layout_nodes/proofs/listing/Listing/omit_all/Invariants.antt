@@ -1,14 +1,8 @@
 -- `Listing::omit_all` meets its contract: the pass keeps, of the entries that it has come by, those that the order leaves. The measure is what is
 -- left of the entries. Assumes nothing.
-use mathlib.Core.Path.{◌≡◌}
-use mathlib.Core.Logic.{⊎_elim}
-use Prim.Native.Nat.{◌-◌, ◌≤◌, ◌<◌}
-use native.Mathlib.Omega.{arith}
-use borrow.Author.Rules.{rules}
-use lib.ListN.{get_or, take}
-use Rattle.lists.specs.Lists.{limit}
-use Rattle.layout_nodes.specs.Listings.{entries_of}
-use Rattle.layout_nodes.proofs.OnePass.{Passed, low, passed_none, passed-room, passed-keep, passed-drop, passed-all}
+use Prim.Native.Nat.{◌-◌, ◌≤◌}
+use lib.ListN.{take}
+use Rattle.layout_nodes.proofs.OnePass.{Passed}
 use Rattle.layout_nodes.proofs.listing.Listing.omit_all.Given as goal
 
 abbrev pub invariant-loop-i : goal.invariant-loop-i

@@ -1,5 +1,4 @@
 -- `Listing::push` meets its contract: a store behind the entries. Assumes nothing.
-use borrow.Author.Rules.{rules}
 use Rattle.layout_nodes.proofs.Listed.{push-one}
 use Rattle.layout_nodes.proofs.listing.Listing.push.Goals as goal
 

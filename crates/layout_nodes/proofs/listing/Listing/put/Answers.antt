@@ -1,6 +1,5 @@
 -- `Listing::put` meets its contract: the place goes in where the search says. Assumes nothing.
 use native.Mathlib.Omega.{arith}
-use borrow.Author.Rules.{rules}
 use Rattle.layout_nodes.specs.Listings.{area_at, entries_of}
 use Rattle.layout_nodes.proofs.Listed.{length-entries, berth-most, put_one}
 use Rattle.layout_nodes.proofs.listing.Listing.put.Goals as goal

@@ -1,5 +1,4 @@
 -- `Listing::strike` meets its contract: the place is found and the final entry takes its hole, or it is not there. Assumes nothing.
-use borrow.Author.Rules.{rules}
 use Rattle.layout_nodes.proofs.Listed.{strike-none, strike-one}
 use Rattle.layout_nodes.proofs.listing.Listing.strike.Goals as goal
 

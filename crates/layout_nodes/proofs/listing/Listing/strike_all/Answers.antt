@@ -1,14 +1,11 @@
 -- `Listing::strike_all` meets its contract: the places that the loop has passed are struck out, and the column says where each entry that is left
 -- stands. The measure is what is left of the count. Assumes nothing.
 use mathlib.Core.Path.{◌≡◌}
-use mathlib.Core.Logic.{⊎_elim}
-use Prim.Native.Nat.{◌-◌, ◌≤◌, ◌<◌}
+use Prim.Native.Nat.{◌-◌, ◌<◌}
 use native.Mathlib.Omega.{arith}
-use borrow.Author.Rules.{rules}
-use lib.ListN.{take}
 use Rattle.lists.specs.Lists.{limit}
 use Rattle.layout_nodes.proofs.Listed.{strike-each, left_end}
-use Rattle.layout_nodes.proofs.Lookup.{Struck, struck-start, struck-one, struck-none}
+use Rattle.layout_nodes.proofs.Lookup.{struck-start, struck-one, struck-none}
 use Rattle.layout_nodes.proofs.listing.Listing.strike_all.Goals as goal
 use Rattle.layout_nodes.proofs.listing.Listing.strike_all.Goals.{After-wide-v, else-at-n, then-at-n}
 

@@ -1,14 +1,8 @@
 -- `Listing::strike_all` meets its contract: the places that the loop has passed are struck out, and the column says where each entry that is left
 -- stands. The measure is what is left of the count. Assumes nothing.
-use mathlib.Core.Path.{◌≡◌}
-use mathlib.Core.Logic.{⊎_elim}
-use Prim.Native.Nat.{◌-◌, ◌≤◌, ◌<◌}
-use native.Mathlib.Omega.{arith}
-use borrow.Author.Rules.{rules}
+use Prim.Native.Nat.{◌-◌, ◌≤◌}
 use lib.ListN.{take}
-use Rattle.lists.specs.Lists.{limit}
-use Rattle.layout_nodes.proofs.Listed.{strike-each, left_end}
-use Rattle.layout_nodes.proofs.Lookup.{Struck, struck-start, struck-one, struck-none}
+use Rattle.layout_nodes.proofs.Lookup.{Struck}
 use Rattle.layout_nodes.proofs.listing.Listing.strike_all.Given as goal
 
 abbrev pub invariant-loop-i : goal.invariant-loop-i

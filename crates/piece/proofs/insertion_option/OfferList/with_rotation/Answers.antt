@@ -1,6 +1,5 @@
 -- `OfferList::with_rotation` meets its contract: a rotation that is forbidden or does not fit adds nothing, any other its shapes.
 use mathlib.Core.Path.{sym, ◌∙◌}
-use borrow.Author.Rules.{rules}
 use Rattle.piece.specs.Offers.{offers_in}
 use Rattle.piece.proofs.insertion_option.OfferList.with_rotation.Goals as goal
 

@@ -4,7 +4,6 @@ use mathlib.Core.Bool.{and-false}
 use Prim.Native.Nat.{◌+◌}
 use native.Mathlib.Omega.{arith}
 use borrow.Author.Tests.{le-ltb, lt-ltb}
-use borrow.Author.Rules.{rules}
 use Rattle.piece.specs.declared.insertion_option.OfferList.{OfferList}
 use Rattle.piece.specs.Offers.{shapes}
 use Rattle.piece.proofs.insertion_option.OfferList.with_shapes.Goals as goal

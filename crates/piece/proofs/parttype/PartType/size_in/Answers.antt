@@ -1,5 +1,4 @@
 -- `PartType::size_in` meets its contract.
-use borrow.Author.Rules.{rules}
 use Rattle.piece.proofs.parttype.PartType.size_in.Goals as goal
 
 pub returns-in-Rotated : goal.returns-in-Rotated

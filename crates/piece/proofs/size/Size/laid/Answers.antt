@@ -1,5 +1,4 @@
 -- `Size::laid` meets its contract.
-use borrow.Author.Rules.{rules}
 use Rattle.piece.proofs.size.Size.laid.Goals as goal
 
 pub returns-in-Vertical : goal.returns-in-Vertical
