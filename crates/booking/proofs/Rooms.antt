@@ -10,7 +10,6 @@ use Rattle.piece.specs.declared.node.Kind.TheVariants.{Free}
 use Rattle.piece.specs.declared.settings.Settings.{Settings}
 use Rattle.piece.specs.Insertion.{new_nodes}
 use Rattle.tree.specs.Tree.{Tree, At, count}
-use Rattle.piece.specs.Kinds.{is_free}
 use Rattle.tree.specs.Sound.{Sound}
 use Rattle.tree.specs.Booking.{Booking, book}
 use Rattle.tree.specs.Steps.{less}

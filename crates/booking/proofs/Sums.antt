@@ -21,7 +21,7 @@ use Rattle.piece.specs.Row.{nil, grow}
 use Rattle.piece.specs.Insertion.{block_of, table, new_nodes}
 use Rattle.piece.specs.declared.settings.Settings.{Settings}
 use Rattle.piece.specs.Offers.{along, across, only, shapes}
-use Rattle.piece.specs.Kinds.{is_free, is_part}
+use Rattle.piece.specs.Kinds.{is_part}
 use Rattle.piece.proofs.Sizes.{laid-twice}
 use Rattle.tree.specs.Tree.{Tree, In, At, Distinct, count}
 use Rattle.tree.specs.Sound.{Sound}

@@ -1,8 +1,8 @@
 -- What the types themselves say of the arrays that a function is handed by value: a blueprint has five nodes, and so have the new nodes; a table has
 -- as many nodes as there are places. A function cites `five-new n _ (c.good ..)`.
-use mathlib.Core.Path.{◌≡◌, sym, ◌∙◌}
+use mathlib.Core.Path.{◌≡◌}
 use mathlib.Core.List.{List}
-use lib.ListN.{length, length-map}
+use lib.ListN.{length}
 use mir.Val.{Val}
 use denote.Laws.{Is}
 use denote.Struct.Declared.{row}

@@ -2,7 +2,7 @@
 -- determine the next layout. Assumes nothing.
 use mathlib.Core.Path.{◌≡◌, refl, sym, ap, ◌∙◌}
 use mathlib.Core.List.{List}
-use Prim.Native.Nat.{ℕ, ◌-◌}
+use Prim.Native.Nat.{ℕ}
 use lib.ListN.{length, take, take-append-drop}
 use lib.Seq.{length-take-le}
 use Rattle.tree.specs.Tree.{Tree, count}
@@ -12,14 +12,14 @@ use Rattle.lists.specs.Lists.{padded}
 use Rattle.lists.proofs.Padded.{length-padded, drop-padded}
 use Rattle.layout_nodes.specs.declared.listing.Listing.{Listing}
 use Rattle.layout_nodes.specs.declared.LayoutNodes.{LayoutNodes}
-use Rattle.layout_nodes.specs.Listings.{Kept, entries_of, listing}
+use Rattle.layout_nodes.specs.Listings.{Kept, entries_of}
 use Rattle.layout_nodes.specs.Standing.{Stands}
 use Rattle.layout_nodes.proofs.Listed.{length-entries, room-entries}
 use Rattle.layout.specs.declared.layout.Layout.{Layout}
 use Rattle.layout.specs.Check.{limit, tree}
 use Rattle.layout.specs.SoundLayout.{Counted, SoundLayout, Sized}
 use Rattle.layout.specs.Parts.{nodes_of, with_nodes}
-use Rattle.layout.specs.Next.{Next, removables}
+use Rattle.layout.specs.Next.{Next}
 use Rattle.layout.proofs.Unique.{determined-layout}
 
 -- ---- a list as it is kept

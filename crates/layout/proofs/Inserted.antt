@@ -1,7 +1,6 @@
 -- What an insertion leaves, by its contract: a refused one the layout as it came; an accepted one a sound layout, in which every piece but the free one that it
 -- took keeps its place, its serial and all else that it is. Assumes nothing.
 use mathlib.Core.Path.{◌≡◌, refl, sym, ap, ◌∙◌}
-use mathlib.Core.Bool.{true}
 use mathlib.Core.Option.{Option, none, some}
 use Prim.Native.Nat.{ℕ, ◌≤◌}
 use Rattle.piece.specs.declared.rotation.Rotation.{Rotation}

@@ -1,10 +1,8 @@
 -- What the type itself says of a layout that a call is handed: its three arrays have as many entries as there are places.
 -- A call cites `typed-sized self _ c.good.0`. And of a part: its number is in the domain.
-use mathlib.Core.Path.{sym, ◌∙◌}
 use mathlib.Core.List.{List}
 use Prim.Native.Nat.{◌≤◌}
 use native.Mathlib.Omega.{arith}
-use lib.ListN.{length-map}
 use mir.Val.{Val}
 use denote.Laws.{Is}
 use denote.Struct.Declared.{row}

@@ -1,10 +1,9 @@
 -- Document 01, "Restore": "gives the snapshot's state, except that the last serial issued is the greater of the two". Refusals 1 (either) and 4;
 -- refused, the layout is as it was handed in.
-use Rattle.std.specs.Prelude.{Bool, cond, ◌&&◌, ℕ, eqb, ltb}
+use Rattle.std.specs.Prelude.{cond, ℕ, eqb, ltb}
 use Rattle.marks.specs.declared.Refusal.{Refusal}
 use Rattle.marks.specs.declared.Refusal.TheVariants.{NotSound, OtherLayout}
 use Rattle.layout.specs.declared.layout.Layout.{Layout}
-use Rattle.layout.specs.declared.replies.Outcome.{Outcome}
 use Rattle.layout.specs.declared.replies.Outcome.TheVariants.{Done, Refused}
 use Rattle.layout.specs.declared.restore.Restored.{Restored}
 use Rattle.layout.specs.Check.{sound_b}

@@ -2,17 +2,16 @@
 -- table what all make of the one that the piece left; its stores are `append`, by table's proofs/Appended.antt. The measure is what is left of the
 -- nodes. Assumes nothing.
 use mathlib.Core.Path.{◌≡◌, ◌∙◌}
-use mathlib.Core.Logic.{⊎_elim}
-use Prim.Native.Nat.{ℕ, ◌-◌, ◌≤◌, ◌<◌}
+use Prim.Native.Nat.{ℕ, ◌≤◌, ◌<◌}
 use native.Mathlib.Omega.{arith}
-use lib.ListN.{length, get_or, take, drop}
+use lib.ListN.{length, get_or}
 use borrow.Author.Rules.{rules}
 use Rattle.lists.specs.Lists.{limit}
 use Rattle.table.proofs.Appended.{tied-first, tied-next, appended}
 use Rattle.booking.specs.declared.new_nodes.NewNode.{NewNode}
 use Rattle.booking.specs.declared.new_nodes.NewNodes.{NewNodes}
 use Rattle.booking.specs.Book.{new_nodes_at}
-use Rattle.booking.specs.NewNodes.{append_each, no_new}
+use Rattle.booking.specs.NewNodes.{no_new}
 use Rattle.booking.proofs.Runs.{next-entry, none_left}
 use Rattle.booking.proofs.Typed.{all-places, five-new}
 use Rattle.booking.proofs.Together.{new_by, plant-needs, put-needs, enrol-needs, booked-by}

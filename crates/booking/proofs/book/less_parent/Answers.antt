@@ -1,6 +1,5 @@
 -- `less_parent` meets its contract. Assumes nothing.
 use mathlib.Core.Path.{sym, ◌∙◌}
-use borrow.Author.Rules.{rules}
 use Rattle.booking.proofs.book.less_parent.Goals as goal
 
 pub returns-then-no_child : goal.returns-then-no_child

@@ -1,7 +1,6 @@
 -- `new_at` meets its contract: the blueprint is that of the node. Assumes nothing.
 use mathlib.Core.Path.{◌∙◌}
 use Rattle.booking.proofs.Made.{blueprint-few, blueprint-listed}
-use borrow.Author.Rules.{rules}
 use Rattle.booking.proofs.book.new_at.Goals as goal
 
 pub new_nodes-requires : goal.new_nodes-requires

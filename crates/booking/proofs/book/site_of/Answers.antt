@@ -1,5 +1,4 @@
 -- `site_of` meets its contract. Assumes nothing.
-use borrow.Author.Rules.{rules}
 use Rattle.booking.proofs.book.site_of.Goals as goal
 
 pub returns : goal.returns

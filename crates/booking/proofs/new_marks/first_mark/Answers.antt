@@ -2,7 +2,6 @@
 use mathlib.Core.Path.{refl, ◌∙◌}
 use Prim.Native.Nat.{◌≤◌}
 use lib.ListN.{length}
-use borrow.Author.Rules.{rules}
 use Rattle.booking.specs.NewNodes.{no_new}
 use Rattle.booking.proofs.Runs.{next-entry, none_left}
 use Rattle.booking.proofs.Typed.{five-new}

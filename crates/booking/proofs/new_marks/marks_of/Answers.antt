@@ -2,10 +2,9 @@
 -- Assumes nothing.
 use mathlib.Core.Path.{sym, ◌∙◌}
 use mathlib.Core.List.{◌∷◌}
-use mathlib.Core.Logic.{⊎_elim}
-use Prim.Native.Nat.{◌≤◌, ◌<◌, ◌-◌, ◌+◌}
+use Prim.Native.Nat.{◌≤◌, ◌<◌, ◌+◌}
 use native.Mathlib.Omega.{arith}
-use lib.ListN.{length, drop, take, get_or}
+use lib.ListN.{length, drop, get_or}
 use borrow.Author.Rules.{rules}
 use Rattle.booking.specs.NewNodes.{no_new, those}
 use Rattle.booking.proofs.Runs.{next-entry, none_left}

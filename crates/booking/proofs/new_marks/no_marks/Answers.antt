@@ -1,6 +1,5 @@
 -- `marks::no_marks` meets its contract. Assumes nothing.
-use mathlib.Core.Path.{◌≡◌, refl}
-use borrow.Author.Rules.{rules}
+use mathlib.Core.Path.{refl}
 use Rattle.booking.proofs.new_marks.no_marks.Goals as goal
 
 pub returns : goal.returns

@@ -1,12 +1,10 @@
 -- `part_mark` meets its contract. The loop's invariant: the first part is among those still to come. The measure is what is left of them.
 -- Assumes nothing.
-use mathlib.Core.Path.{◌≡◌, sym, ◌∙◌}
-use Prim.Native.Nat.{◌≤◌, ◌-◌}
-use lib.ListN.{length, drop, take}
+use mathlib.Core.Path.{sym, ◌∙◌}
+use Prim.Native.Nat.{◌≤◌}
+use lib.ListN.{length}
 use borrow.Author.Rules.{rules}
-use Rattle.piece.specs.Kinds.{is_part}
 use Rattle.booking.specs.NewNodes.{no_new}
-use Rattle.booking.specs.Marks.{head_mark, marks_of}
 use Rattle.booking.proofs.Runs.{next-entry, none_left}
 use Rattle.booking.proofs.Typed.{five-new}
 use Rattle.booking.proofs.new_marks.part_mark.Goals as goal

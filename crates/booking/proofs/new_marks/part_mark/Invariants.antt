@@ -1,14 +1,10 @@
 -- `part_mark` meets its contract. The loop's invariant: the first part is among those still to come. The measure is what is left of them.
 -- Assumes nothing.
-use mathlib.Core.Path.{◌≡◌, sym, ◌∙◌}
+use mathlib.Core.Path.{◌≡◌}
 use Prim.Native.Nat.{◌≤◌, ◌-◌}
-use lib.ListN.{length, drop, take}
-use borrow.Author.Rules.{rules}
+use lib.ListN.{drop, take}
 use Rattle.piece.specs.Kinds.{is_part}
-use Rattle.booking.specs.NewNodes.{no_new}
 use Rattle.booking.specs.Marks.{head_mark, marks_of}
-use Rattle.booking.proofs.Runs.{next-entry, none_left}
-use Rattle.booking.proofs.Typed.{five-new}
 use Rattle.booking.proofs.new_marks.part_mark.Given as goal
 
 abbrev pub invariant-loop-i : goal.invariant-loop-i

@@ -1,5 +1,4 @@
 -- `deeper` meets its contract. Assumes nothing.
-use borrow.Author.Rules.{rules}
 use borrow.Author.Tests.{lt-ltb, le-ltb}
 use Rattle.booking.proofs.new_nodes.deeper.Goals as goal
 

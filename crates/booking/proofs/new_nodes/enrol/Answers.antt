@@ -2,9 +2,8 @@
 -- bring. The measure is what is left of the nodes. Assumes nothing.
 use mathlib.Core.Path.{sym, ◌∙◌}
 use mathlib.Core.List.{List, ◌∷◌, ◌++◌}
-use mathlib.Core.Logic.{⊎_elim}
-use Prim.Native.Nat.{ℕ, ◌+◌, ◌-◌, ◌≤◌}
-use lib.ListN.{length, drop, take, get_or}
+use Prim.Native.Nat.{ℕ, ◌+◌, ◌≤◌}
+use lib.ListN.{length, drop, get_or}
 use borrow.Author.Rules.{rules}
 use Rattle.piece.specs.Kinds.{is_part}
 use Rattle.tree.specs.Enrolment.{when}

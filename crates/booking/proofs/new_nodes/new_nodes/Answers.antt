@@ -1,10 +1,9 @@
 -- `new_nodes` meets its contract. The loop's invariant: the nodes made so far, with those still to come, are all. The measure is
 -- what is left of them. Assumes nothing.
-use mathlib.Core.Path.{◌≡◌, refl}
-use Prim.Native.Nat.{◌≤◌, ◌-◌}
-use lib.ListN.{drop, take, length}
+use mathlib.Core.Path.{refl}
+use Prim.Native.Nat.{◌≤◌}
+use lib.ListN.{length}
 use Rattle.piece.specs.Insertion.{no_node}
-use Rattle.booking.specs.NewNodes.{add_all, none_new}
 use Rattle.booking.proofs.Runs.{next-entry, none_left}
 use Rattle.booking.proofs.Typed.{five-nodes}
 use borrow.Author.Rules.{rules}

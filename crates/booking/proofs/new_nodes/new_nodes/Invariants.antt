@@ -1,13 +1,9 @@
 -- `new_nodes` meets its contract. The loop's invariant: the nodes made so far, with those still to come, are all. The measure is
 -- what is left of them. Assumes nothing.
-use mathlib.Core.Path.{◌≡◌, refl}
+use mathlib.Core.Path.{◌≡◌}
 use Prim.Native.Nat.{◌≤◌, ◌-◌}
-use lib.ListN.{drop, take, length}
-use Rattle.piece.specs.Insertion.{no_node}
+use lib.ListN.{drop, take}
 use Rattle.booking.specs.NewNodes.{add_all, none_new}
-use Rattle.booking.proofs.Runs.{next-entry, none_left}
-use Rattle.booking.proofs.Typed.{five-nodes}
-use borrow.Author.Rules.{rules}
 use Rattle.booking.proofs.new_nodes.new_nodes.Given as goal
 
 abbrev pub invariant-loop-i : goal.invariant-loop-i

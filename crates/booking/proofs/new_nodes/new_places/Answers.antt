@@ -1,8 +1,7 @@
 -- `new_places` meets its contract. The loop's invariant is `Found` of proofs/NewPlaces.antt; the measure is what is left of the five. Assumes nothing.
-use Prim.Native.Nat.{◌-◌, ◌≤◌}
 use native.Mathlib.Omega.{arith}
 use borrow.Author.Rules.{rules}
-use Rattle.booking.proofs.NewPlaces.{Found, found_none, found-more, found-most, found_all}
+use Rattle.booking.proofs.NewPlaces.{found_none, found-more, found-most, found_all}
 use Rattle.booking.proofs.new_nodes.new_places.Goals as goal
 
 pub loop-k-init : goal.loop-k-init

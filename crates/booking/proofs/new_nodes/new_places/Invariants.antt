@@ -1,8 +1,6 @@
 -- `new_places` meets its contract. The loop's invariant is `Found` of proofs/NewPlaces.antt; the measure is what is left of the five. Assumes nothing.
 use Prim.Native.Nat.{◌-◌, ◌≤◌}
-use native.Mathlib.Omega.{arith}
-use borrow.Author.Rules.{rules}
-use Rattle.booking.proofs.NewPlaces.{Found, found_none, found-more, found-most, found_all}
+use Rattle.booking.proofs.NewPlaces.{Found}
 use Rattle.booking.proofs.new_nodes.new_places.Given as goal
 
 abbrev pub invariant-loop-k : goal.invariant-loop-k

@@ -1,6 +1,5 @@
 -- `no_new` meets its contract. Assumes nothing.
 use mathlib.Core.Path.{refl}
-use borrow.Author.Rules.{rules}
 use Rattle.booking.proofs.new_nodes.no_new.Goals as goal
 
 pub returns : goal.returns

@@ -1,5 +1,4 @@
 -- `none` meets its contract. Assumes nothing.
-use borrow.Author.Rules.{rules}
 use Rattle.booking.proofs.new_nodes.none.Goals as goal
 
 pub returns : goal.returns

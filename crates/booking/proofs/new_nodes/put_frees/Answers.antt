@@ -2,10 +2,9 @@
 -- bring it to. The measure is what is left of the nodes. Assumes nothing.
 use mathlib.Core.Path.{sym, ◌∙◌}
 use mathlib.Core.List.{List, ◌∷◌, ◌++◌}
-use mathlib.Core.Logic.{⊎_elim}
-use Prim.Native.Nat.{ℕ, ◌+◌, ◌-◌, ◌≤◌}
+use Prim.Native.Nat.{ℕ, ◌+◌, ◌≤◌}
 use native.Mathlib.Omega.{arith}
-use lib.ListN.{length, drop, take, get_or}
+use lib.ListN.{length, drop, get_or}
 use borrow.Author.Rules.{rules}
 use Rattle.piece.specs.Kinds.{is_free}
 use Rattle.tree.specs.ListSteps.{put_all}

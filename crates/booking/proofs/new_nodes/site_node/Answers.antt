@@ -1,5 +1,4 @@
 -- `site_node` meets its contract. Assumes nothing.
-use borrow.Author.Rules.{rules}
 use Rattle.booking.proofs.new_nodes.site_node.Goals as goal
 
 pub returns : goal.returns

@@ -1,5 +1,4 @@
 -- `NewNodes::add` meets its contract. Assumes nothing.
-use borrow.Author.Rules.{rules}
 use Rattle.booking.proofs.new_nodes.NewNodes.add.Goals as goal
 
 pub returns : goal.returns

@@ -1,9 +1,7 @@
 -- `NewNodes::next` meets its contract: the test on the parent is that of the rule. Assumes nothing.
 use mathlib.Core.Path.{◌≡◌, refl, ◌∙◌}
 use mathlib.Core.Bool.{◌&&◌}
-use mathlib.Core.Logic.{⊎_elim}
 use lib.Dec.{eqb}
-use borrow.Author.Rules.{rules}
 use borrow.Author.Tests.{le-leb, lt-leb}
 use Rattle.booking.specs.NewNodes.{next_node}
 use Rattle.booking.proofs.new_nodes.NewNodes.next.Goals as goal

@@ -1,6 +1,5 @@
 -- `free_piece` meets its contract: each way out is one outcome of the tests of `free_piece_of`.
 use mathlib.Core.Path.{◌≡◌, refl, sym, ap, ◌∙◌}
-use borrow.Author.Rules.{rules}
 use Rattle.layout.specs.declared.replies.Sought.{Sought}
 use Rattle.layout.specs.Asked.{free_piece_of, only_free}
 use Rattle.layout.proofs.Ways.{onward-by, ended_by}

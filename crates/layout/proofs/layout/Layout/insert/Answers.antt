@@ -1,7 +1,6 @@
 -- `insert` meets its contract: each way out is one outcome of the tests of `insert_no`, by proofs/Admitted.antt. Assumes nothing.
 use mathlib.Core.Path.{◌≡◌, refl, sym, ap, ◌∙◌}
 use mathlib.Core.Option.{Option, none}
-use borrow.Author.Rules.{rules}
 use Rattle.piece.specs.declared.rotation.Rotation.{Rotation}
 use Rattle.piece.specs.declared.parttype.PartType.{PartType}
 use Rattle.piece.specs.declared.insertion_blueprint.InsertionShape.{InsertionShape}

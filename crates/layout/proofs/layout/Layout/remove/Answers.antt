@@ -1,13 +1,6 @@
 -- `remove` meets its contract: each way out is one outcome of the tests of `remove_no`, and past them the piece may be taken out.
-use mathlib.Core.Path.{◌≡◌, sym, ◌∙◌}
-use mathlib.Core.Bool.{true}
-use mathlib.Core.Option.{none}
-use borrow.Author.Rules.{rules}
+use mathlib.Core.Path.{sym, ◌∙◌}
 use lib.ListN.{length}
-use Rattle.layout.specs.declared.replies.Sought.TheVariants as sought
-use Rattle.layout.specs.Check.{sound_b}
-use Rattle.layout.specs.Asked.{sought_of}
-use Rattle.layout.specs.Remove.{go_no}
 use Rattle.layout.proofs.Typed.{typed-sized}
 use Rattle.layout.proofs.Admitted.{outcome-none, outcome-some}
 use Rattle.layout.proofs.RemoveEnds.{not_sound, no-mark, may-not, may-go, refused-so, taken-so, takeable}

@@ -1,8 +1,7 @@
 -- `restore` meets its contract: each way out is one outcome of the tests of `restore_of`. Assumes nothing.
-use mathlib.Core.Path.{◌≡◌, refl, ap, ◌∙◌}
-use borrow.Author.Rules.{rules}
+use mathlib.Core.Path.{refl}
 use borrow.Author.Tests.{eq-eqb, ne_eqb, lt-ltb, le-ltb}
-use Rattle.layout.specs.Restore.{restore_of, greater}
+use Rattle.layout.specs.Restore.{restore_of}
 use Rattle.layout.proofs.Ways.{onward, ended, onward-by, ended_by}
 use Rattle.layout.proofs.layout.Layout.restore.Goals as goal
 

@@ -1,7 +1,6 @@
 -- `sound` meets its contract: `sound-is` says what the answers of the passes make of the tests behind them.
 use mathlib.Core.Path.{◌≡◌, refl, sym, ap, ◌∙◌}
 use mathlib.Core.Bool.{◌&&◌}
-use borrow.Author.Rules.{rules}
 use Rattle.lists.specs.declared.flags.Flags.{Flags}
 use Rattle.lists.specs.Lists.{limit, zeros}
 use Rattle.lists.proofs.Fill.{fill-over}

@@ -3,12 +3,11 @@
 use mathlib.Core.Path.{◌≡◌, sym, ◌∙◌}
 use mathlib.Core.Bool.{true}
 use native.Mathlib.Omega.{arith}
-use borrow.Author.Rules.{rules}
-use Rattle.tree.specs.Tidy.{Lowest, empties}
+use Rattle.tree.specs.Tidy.{Lowest}
 use Rattle.layout.specs.Check.{tree, sound_b}
 use Rattle.layout.proofs.Typed.{typed-sized}
 use Rattle.layout.proofs.Exactly.{sound-says}
-use Rattle.layout.proofs.TidyEnds.{Taken, emptyable, finds, finds-none, none-taken, one_less, one_more, some_left, unsound-so, spent-so, done-so}
+use Rattle.layout.proofs.TidyEnds.{emptyable, finds, finds-none, none-taken, one_less, one_more, some_left, unsound-so, spent-so, done-so}
 use Rattle.layout.proofs.layout.Layout.tidy.Goals as goal
 use Rattle.layout.proofs.layout.Layout.tidy.Goals.{Else-place-ge-NONE, Then-sound}
 
