@@ -1,7 +1,7 @@
 //! Finds the archive of the proved crate `kiosk`: in the folder that NICKELGROVE_ARCHIVE names, or where the checkout has it. Then it must be no older than
 //! the files that it is made of.
 //!
-//! `rt staticlib kiosk` leaves it in target/staticlib, for x86-64 alone; `tools/native kiosk` leaves one for this machine in target/native.
+//! `rt lib` in crates/kiosk leaves it in that crate's out/, for x86-64 alone; `tools/native kiosk` leaves one for this machine in target/native.
 
 use std::path::{Path, PathBuf};
 use std::time::SystemTime;
@@ -42,7 +42,7 @@ fn stop(message: &str) -> ! {
 fn folders_of(root: &Path) -> Vec<PathBuf> {
     let mut folders = vec![root.join("target/native")];
     if env::var("CARGO_CFG_TARGET_ARCH").is_ok_and(|machine| machine == "x86_64") {
-        folders.push(root.join("target/staticlib"));
+        folders.push(root.join("crates/kiosk/out"));
     }
     folders
 }
@@ -56,7 +56,7 @@ fn sources(root: &Path) -> Vec<PathBuf> {
     let mut at = 0;
     while at < names.len() {
         // a crate of the kit has no line
-        let below = lines.iter().find_map(|line| line.strip_prefix(names[at])?.strip_prefix(':')).unwrap_or_default();
+        let below = lines.iter().find_map(|line| below(line, names[at])).unwrap_or_default();
         for name in below.split_whitespace() {
             if !names.contains(&name) {
                 names.push(name);
@@ -75,6 +75,12 @@ fn sources(root: &Path) -> Vec<PathBuf> {
         }
     }
     files
+}
+
+/// What a line of crates.txt, `NAME: LIBRARY ..` or `NAME staticlib: LIBRARY ..`, says that this crate rests on, if it is this crate's.
+fn below<'a>(line: &'a str, name: &str) -> Option<&'a str> {
+    let (crate_and_kind, libraries) = line.split_once(':')?;
+    (crate_and_kind.split_whitespace().next() == Some(name)).then_some(libraries)
 }
 
 /// The Rattle and antt files of a folder and of those in it.

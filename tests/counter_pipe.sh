@@ -86,7 +86,7 @@ tried $? 'the counter ended with status 0'
 process=
 
 # Whoever reads the answers goes away, and most of them are still to come: more than a pipe holds. The system then ends the counter by SIGPIPE, which is 128 + 13
-# to the shell, under the emulator too. A shell that was started with this signal ignored hands that on, and the counter then ends quietly (decision 29): so it is set back.
+# to the shell. A shell that was started with this signal ignored hands that on, and the counter then ends quietly (decision 29): so it is set back.
 words_of counter
 timeout --foreground "$limit" env --default-signal=PIPE "${program[@]}" < crates/counter/stdin 2> /dev/null | head -n 1 > /dev/null
 ended=${PIPESTATUS[0]}

@@ -1,7 +1,7 @@
 #!/usr/bin/env bash
 # Random bytes, so many that a tenth of them has lines: one answer a line, status 0, flat memory. tests/counter_random.sh [BYTES [SEED]]
 # The most memory that the program has held (VmHWM in /proc) is read when it has answered the lines of a tenth of the input, and again when it has answered all
-# whole lines, while it waits for more. Under the emulator that is the emulator's with the program's in it.
+# whole lines, while it waits for more.
 set -u
 cd "$(dirname "$0")/.." || exit 2
 . tests/run.bash

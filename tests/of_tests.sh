@@ -12,9 +12,7 @@ unset PROGRAMS
 declare -A arguments=([counter_random]=200000 [desk]=300 [stack]='deep_chain counter' [page]='day reopen counter page')
 
 # Real words for a stand-in: the program of the same name, as the tests run it.
-words_of NAME
-real=$(printf '%q ' "${program[@]%NAME}")
-real=${real% }'"$(basename "$0")"'
+real='"crates/$(basename "$0")/out/$(basename "$0")"'
 
 # stand_in KIND: a folder with the script on standard input under the name of each program. Each writes a line to the file RUNS when it has begun.
 stand_in() {
@@ -22,7 +20,7 @@ stand_in() {
   { echo '#!/usr/bin/env bash'; cat; } > "$room/$1/stand-in"
   chmod +x "$room/$1/stand-in"
   local name
-  for name in target/bin/*; do ln -s stand-in "$room/$1/$(basename "$name")"; done
+  for name in crates/*/src/main.rt; do ln -s stand-in "$room/$1/$(basename "${name%/src/main.rt}")"; done
 }
 
 stand_in wrong <<'END_OF_SCRIPT'

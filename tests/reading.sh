@@ -89,7 +89,7 @@ while IFS=$'\t' read -r kind at what rest; do
     command)
       case $what in
         bash) [ -f "${more[0]:-}" ] || wrong="no such script: ${more[0]:-}" ;;
-        target/bin/* | target/native/*) [ -f "crates/$(basename "$what")/src/main.rt" ] || wrong="no such program: $what" ;;
+        crates/*/out/* | target/native/*) [ -f "crates/$(basename "$what")/src/main.rt" ] || wrong="no such program: $what" ;;
         */*) [ -f "$what" ] && [ -x "$what" ] || wrong="no such command: $what" ;;
         # elsewhere a block may be what a command printed
         *) [[ $at != README.md:* ]] || command -v "$what" > /dev/null || wrong="no such command: $what" ;;

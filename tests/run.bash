@@ -1,15 +1,11 @@
-# How the tests run a program, and how they count what they tried. Sourced by them, from the repository's top, after `rt check` or `rt ci`, which leave
-# the programs in target/bin. Programs are for x86-64: as rt does, they are run under the kit's own loader, and on another processor under the
-# kit's emulator.
+# How the tests run a program, and how they count what they tried. Sourced by them, from the repository's top, after `rt ci`, which leaves each program in
+# its crate's out/, or `rt run` in the crate's folder. Programs are for x86-64.
 # PROGRAMS names another folder of programs, which run as they are: target/native, or the stand-ins of tests/of_tests.sh.
 # PATIENCE: how many seconds a test waits for an answer. LIMIT: how many a run may take; a program that is still there then has failed.
-programs=${PROGRAMS:-target/bin} patience=${PATIENCE:-60} limit=${LIMIT:-900}
-emulator='' loader=()
-if [ -z "${PROGRAMS:-}" ]; then
-  kit=$(cd "$(dirname "$(rt doc)")/.." && pwd -P) || exit 2
-  tools=$kit/on/$(uname -m)/toolchain
-  [ ! -x "$tools/bin/qemu-x86_64" ] || emulator=$tools/bin/qemu-x86_64
-  loader=("$tools/lib/ld-linux-x86-64.so.2" --library-path "$tools/lib")
+programs=${PROGRAMS:-} patience=${PATIENCE:-60} limit=${LIMIT:-900}
+if [ -z "$programs" ]; then
+  kit=$(cd "$(dirname "$(rt doc)")" && pwd -P) || exit 2
+  tools=$kit/toolchain
 fi
 
 # A folder for a test's files, and a process that it leaves behind: both go when it ends.
@@ -18,7 +14,9 @@ process=
 trap '[ -z "$process" ] || kill "$process" 2> /dev/null; rm -rf "$room"' EXIT
 
 # words_of NAME: the words that start the program, in `program`
-words_of() { program=(${emulator:+"$emulator"} "${loader[@]}" "$programs/$1"); }
+words_of() {
+  if [ -n "$programs" ]; then program=("$programs/$1"); else program=("crates/$1/out/$1"); fi
+}
 
 # The program within the limit: timeout's own status is 124 then, and else the program's.
 run() { # NAME
@@ -31,15 +29,11 @@ run() { # NAME
 fixed=()
 ! setarch -R true 2> /dev/null || fixed=(setarch -R)
 
-# run_on_stack KIB NAME: the same on a stack of so many KiB, which the emulator makes itself
+# run_on_stack KIB NAME: the same on a stack of so many KiB
 run_on_stack() {
   local program
   words_of "$2"
-  if [ -n "$emulator" ]; then
-    timeout --foreground "$limit" "$emulator" -s $(($1 * 1024)) "${program[@]:1}"
-  else
-    (ulimit -s "$1" && exec timeout --foreground "$limit" "${fixed[@]}" "${program[@]}")
-  fi
+  (ulimit -s "$1" && exec timeout --foreground "$limit" "${fixed[@]}" "${program[@]}")
 }
 
 # tried STATUS WHAT: a line for each thing that was tried; the status is handed on. The line goes to a file too, and counts from whatever subshell it comes:

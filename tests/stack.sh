@@ -5,7 +5,7 @@
 # tree, its lists and its figures. tidy.in has such chains that are tidied, by `desk` and by `inspect`.
 # A removal needs the same stack whatever it takes out (document 02, request 6): on the least one, to a KiB, on which `counter` takes one part out of a comb, it
 # takes the whole comb out, and the deepest chain (tests/deep.awk). So does a tidying (request 5): on the least one on which `desk` tidies one structure, it
-# tidies the deepest chain. The emulator alone takes some 50 KiB; built for the machine at hand, as the branch terminals have it, `counter` does all three on
+# tidies the deepest chain. Built by tools/native, as the branch terminals have it, `counter` does all three on
 # 256 KiB.
 set -u
 cd "$(dirname "$0")/.." || exit 2
@@ -32,7 +32,7 @@ least() {
     middle=$(((low + high) / 2))
     if takes_out_on $middle "$1" "$2" 2> /dev/null; then high=$middle; else low=$middle; fi
   done
-  [ -n "$emulator" ] || [ ${#fixed[@]} -gt 0 ] || high=$((high + 8))
+  [ ${#fixed[@]} -gt 0 ] || high=$((high + 8))
   echo $high
 }
 

@@ -35,9 +35,9 @@ else
 
   # a checkout of one crate, whose one function is to give a number and gives one
   checkout=$room/checkout one=$room/checkout/target/wasm/one.wasm
-  mkdir -p "$checkout/crates/one/src" && cp -r tools "$checkout" && echo 'one:' > "$checkout/crates.txt" || exit 2
+  mkdir -p "$checkout/crates/one/src" && cp -r tools "$checkout" && echo 'one staticlib:' > "$checkout/crates.txt" || exit 2
   one() { # SAID GIVEN
-    printf '%s\n' 'ghost use mathlib.Core.Path.{_≡_};' '#[no_mangle]' 'pub extern "C" fn one() -> usize' "    ensures { λ r. ⌜ r ≡ $1 ⌝ }" "{ $2 }" \
+    printf '%s\n' '#![tactic(auto)]' 'ghost use Rattle.std.specs.Prelude.{◌≡◌};' '#[unsafe(no_mangle)]' 'pub extern "C" fn one() -> usize' "    ensures { result ≡ $1 }" "{ $2 }" \
       > "$checkout/crates/one/src/lib.rt"
     "$checkout/tools/wasm" one > "$room/log" 2>&1
   }
