@@ -1,6 +1,5 @@
 -- `asked` meets its contract: what is asked of the layout, keep, restore, or a malformed line. Assumes nothing.
 use Rattle.session.proofs.Ways.{asks, replied-steps, keep-steps, restore-steps}
-use borrow.Author.Rules.{rules}
 use Rattle.session.proofs.Session.asked.Goals as goal
 
 pub returns-in-OfLayout : goal.returns-in-OfLayout

@@ -1,6 +1,5 @@
 -- `malformed` meets its contract. Assumes nothing.
 use Rattle.session.proofs.Ways.{malformed-steps}
-use borrow.Author.Rules.{rules}
 use Rattle.session.proofs.Session.malformed.Goals as goal
 
 pub returns : goal.returns

@@ -1,5 +1,4 @@
 -- `start` meets its contract. Assumes nothing.
-use borrow.Author.Rules.{rules}
 use mathlib.Core.Path.{refl}
 use Rattle.session.proofs.Session.start.Goals as goal
 

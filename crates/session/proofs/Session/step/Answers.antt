@@ -1,7 +1,6 @@
 -- `step` meets its contract: it asks what the line says. Assumes nothing.
 use mathlib.Core.Path.{sym}
 use Rattle.session.proofs.Ways.{asks}
-use borrow.Author.Rules.{rules}
 use Rattle.session.proofs.Session.step.Goals as goal
 
 pub returns : goal.returns

@@ -6,7 +6,6 @@ use lib.Seq.{take_all, length-take-le}
 use Rattle.frames.specs.Requests.{request_of}
 use Rattle.session.proofs.Given.{pending-sized}
 use Rattle.session.proofs.Ways.{asks}
-use borrow.Author.Rules.{rules}
 use Rattle.session.proofs.listener.answer.Goals as goal
 use Rattle.session.proofs.listener.answer.Goals.{Start}
 

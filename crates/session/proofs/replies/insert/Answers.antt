@@ -2,7 +2,6 @@
 use mathlib.Core.Path.{refl}
 use Rattle.layout.proofs.Answered.{insert-says}
 use Rattle.session.proofs.Ways.{insert-gives}
-use borrow.Author.Rules.{rules}
 use Rattle.session.proofs.replies.insert.Goals as goal
 
 pub inserted-said-requires : goal.inserted-said-requires

@@ -1,6 +1,5 @@
 -- `keep` meets its contract, accepted and refused. Assumes nothing.
 use Rattle.session.proofs.Ways.{keep-gives}
-use borrow.Author.Rules.{rules}
 use Rattle.session.proofs.replies.keep.Goals as goal
 
 pub returns-then-sound : goal.returns-then-sound

@@ -1,7 +1,6 @@
 -- `offers` meets its contract, accepted and refused. Assumes nothing.
 use mathlib.Core.Path.{refl}
 use Rattle.session.proofs.Ways.{offers-gives, offers-four}
-use borrow.Author.Rules.{rules}
 use Rattle.session.proofs.replies.offers.Goals as goal
 
 pub offered-said-requires : goal.offered-said-requires

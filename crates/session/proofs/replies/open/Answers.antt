@@ -1,7 +1,6 @@
 -- `open` meets its contract, accepted and refused. Assumes nothing.
 use mathlib.Core.Path.{refl}
 use Rattle.session.proofs.Ways.{open_gives}
-use borrow.Author.Rules.{rules}
 use Rattle.session.proofs.replies.open.Goals as goal
 
 pub returns-in-Free : goal.returns-in-Free

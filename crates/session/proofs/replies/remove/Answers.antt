@@ -5,7 +5,6 @@ use Rattle.layout.proofs.Answered.{TakenOut, remove-says}
 use Rattle.layout.proofs.Typed.{typed-sized}
 use Rattle.session.proofs.Ways.{remove-gives, numbers-out}
 use native.Mathlib.Omega.{arith}
-use borrow.Author.Rules.{rules}
 use Rattle.session.proofs.replies.remove.Goals as goal
 use Rattle.session.proofs.replies.remove.Goals.{After-numbers-in-Done-1}
 

@@ -1,6 +1,5 @@
 -- `replied` meets its contract: what is asked goes to its op's function. Assumes nothing.
 use Rattle.session.proofs.Ways.{hears}
-use borrow.Author.Rules.{rules}
 use Rattle.session.proofs.replies.replied.Goals as goal
 
 pub returns-in-Open : goal.returns-in-Open

@@ -2,7 +2,6 @@
 use mathlib.Core.Path.{refl}
 use Rattle.layout.proofs.Typed.{typed-sized}
 use Rattle.session.proofs.Reported.{usage-bits, reported-done, reported-refused}
-use borrow.Author.Rules.{rules}
 use Rattle.session.proofs.replies.report.Goals as goal
 
 pub float_to_bits-usage : goal.float_to_bits-usage

@@ -1,7 +1,6 @@
 -- `restore` meets its contract, accepted and refused. Assumes nothing.
 use mathlib.Core.Path.{refl}
 use Rattle.session.proofs.Ways.{restore-gives}
-use borrow.Author.Rules.{rules}
 use Rattle.session.proofs.replies.restore.Goals as goal
 
 pub returns-in-Done : goal.returns-in-Done

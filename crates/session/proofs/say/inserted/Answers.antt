@@ -1,7 +1,6 @@
 -- `inserted` meets its contract. Assumes nothing.
 use native.Mathlib.Omega.{arith}
 use mathlib.Core.Path.{refl}
-use borrow.Author.Rules.{rules}
 use Rattle.frames.specs.Answers.{content_of}
 use Rattle.frames.specs.Fields.{mark_bytes}
 use Rattle.session.proofs.Spoken.{said, each-most}

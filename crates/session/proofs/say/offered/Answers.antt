@@ -1,7 +1,6 @@
 -- `offered` meets its contract. Assumes nothing.
 use native.Mathlib.Omega.{arith}
 use mathlib.Core.Path.{refl}
-use borrow.Author.Rules.{rules}
 use Rattle.frames.specs.Answers.{offer_bytes, content_of}
 use Rattle.session.proofs.Spoken.{said, each-most}
 use Rattle.session.proofs.say.offered.Goals as goal

@@ -1,6 +1,5 @@
 -- `refused` meets its contract. Assumes nothing.
 use native.Mathlib.Omega.{arith}
-use borrow.Author.Rules.{rules}
 use Rattle.frames.specs.Answers.{content_of}
 use Rattle.session.proofs.Spoken.{said}
 use Rattle.session.proofs.say.refused.Goals as goal

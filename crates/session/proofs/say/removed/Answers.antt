@@ -1,7 +1,6 @@
 -- `removed` meets its contract. Assumes nothing.
 use native.Mathlib.Omega.{arith}
 use mathlib.Core.Path.{refl}
-use borrow.Author.Rules.{rules}
 use Rattle.frames.specs.Answers.{content_of}
 use Rattle.frames.specs.Bytes.{two}
 use Rattle.session.proofs.Spoken.{said, each-most}

@@ -1,6 +1,5 @@
 -- `end` meets its contract, with a last line and without. Assumes nothing.
 use Rattle.session.proofs.Listening.{ends-cut, ends-clean}
-use borrow.Author.Rules.{rules}
 use Rattle.session.proofs.listener.Listener.end.Goals as goal
 
 pub returns-then-cut : goal.returns-then-cut

@@ -1,6 +1,5 @@
 -- `Listener::start` meets its contract. Assumes nothing.
 use mathlib.Core.Path.{refl}
-use borrow.Author.Rules.{rules}
 use Rattle.session.proofs.listener.Listener.start.Goals as goal
 
 pub returns : goal.returns
