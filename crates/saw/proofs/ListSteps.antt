@@ -16,7 +16,7 @@ use Rattle.saw.proofs.CutBytes.{entries-written}
 -- ---- what a routine asks, and what it does
 
 -- the pile has places for these pieces from a place on, and there is room for these cuts behind n cuts
-abbrev Room : ℕ → List Cut → (piles place n : ℕ) → List ℕ → Type 0
+abbrev pub Room : ℕ → List Cut → (piles place n : ℕ) → List ℕ → Type 0
 Room limit cs piles place n out = (place + piles ≤ limit) × (n + length cs ≤ limit) × (10 * (n + length cs) ≤ length out)
 
 -- they are written there, and counted, and so are the pieces
@@ -72,11 +72,11 @@ pub record Call : Type 0 where
   pub asked : (left ≡ t) × Room lent.limit (listed_of lent way left place c) (piled_of lent way left c) place n out
 
 -- the sides that its cuts divide
-abbrev sides : Call → List ℕ
+abbrev pub sides : Call → List ℕ
 sides s = sides_in s.way s.lent.width s.lent.height
 
 -- the piece behind the one at c that a cut comes before
-abbrev behind_it : Call → ℕ
+abbrev pub behind_it : Call → ℕ
 behind_it s = rest_of s.lent.limit s.lent.next (sides s) s.lent.eaten s.c
 
 -- all its cuts, and those of the call for the piece at c; and the pieces

@@ -3,7 +3,6 @@ use mathlib.Core.Path.{◌≡◌}
 use mathlib.Core.List.{List}
 use Prim.Native.Nat.{ℕ, ◌+◌, ◌*◌, ◌≤◌}
 use native.Mathlib.Omega.{arith}
-use borrow.Author.Rules.{rules}
 use lib.ListN.{length}
 use lib.Seq.{sets}
 use Rattle.piece.specs.declared.orientation.Orientation.{Orientation}
@@ -11,8 +10,8 @@ use Rattle.piece.specs.declared.orientation.Orientation.TheVariants.{Horizontal,
 use Rattle.lists.specs.Lists.{limit}
 use Rattle.saw.specs.declared.cut.Cut.{Cut}
 use Rattle.saw.specs.Listed.{piles_listed, cuts_listed, entries_of_cuts}
-use Rattle.saw.proofs.cuts.list_cuts.Statement.{statement}
-use Rattle.saw.proofs.cuts.list_cuts.Tie as tie
+use Rattle.saw.proofs.cuts.list_cuts.Goals as goal
+use Rattle.saw.proofs.cuts.list_cuts.Goals.{Start}
 
 -- what is asked and done, and what the routine of the way w asks and does. `cs` gives the cuts by the way, and `ps` the pieces.
 module _ (cs : Orientation → List Cut) (ps : Orientation → ℕ) (way w : Orientation) (is : way ≡ w) (out : List ℕ) where
@@ -25,49 +24,34 @@ module _ (cs : Orientation → List Cut) (ps : Orientation → ℕ) (way w : Ori
   does after n e f = rw is (e, omega arith)
 
 -- the cuts by the way, and the pieces, over what is lent
-abbrev cuts-by : tie.Start → Orientation → List Cut
+abbrev cuts-by : Start → Orientation → List Cut
 cuts-by s way =
     let a = s.args in
     cuts_listed limit a.first.now a.next.now a.kind.now a.width.now a.height.now a.eaten.now way a.left 0 a.c
 
-abbrev piles-by : tie.Start → Orientation → ℕ
+abbrev piles-by : Start → Orientation → ℕ
 piles-by s way =
     let a = s.args in
     piles_listed limit a.first.now a.next.now a.kind.now a.width.now a.height.now a.eaten.now way a.left a.c
 
-list-horizontal-requires : tie.Need-list-horizontal-requires
-list-horizontal-requires c κs =
-    let s = c.before.before.before.before in
-    asks (cuts-by s) (piles-by s) s.args.way Horizontal c.before.enum_told.given.1 s.args.out.now s.requires
+pub list_horizontal-l-requires : goal.list_horizontal-l-requires
+list_horizontal-l-requires c =
+    asks (cuts-by (goal.at.list_horizontal-l-requires c).Start) (piles-by (goal.at.list_horizontal-l-requires c).Start) c.args.way Horizontal c.in-Horizontal.is c.args.out.now c.requires
 
-list-vertical-requires : tie.Need-list-vertical-requires
-list-vertical-requires c κs =
-    let s = c.before.before.before.before in
-    asks (cuts-by s) (piles-by s) s.args.way Vertical c.before.enum-told2.given.1 s.args.out.now s.requires
+pub returns-in-Horizontal : goal.returns-in-Horizontal
+returns-in-Horizontal c =
+    let e = c.list_horizontal-l.ensures in
+    let h =
+    does (cuts-by (goal.at.returns-in-Horizontal c).Start) (piles-by (goal.at.returns-in-Horizontal c).Start) c.args.way Horizontal c.in-Horizontal.is c.args.out.now _ _ e.written e.counted in
+    record { written = h.0; counted = h.1 }
 
-returns : tie.Need-returns
-returns c =
-    let h = c.before.before in
-    let s = h.before.before.before.before.before in
-    does (cuts-by s) (piles-by s) s.args.way Horizontal h.before.before.enum_told.given.1 s.args.out.now _ _ h.list-horizontal.ensures.0
-    h.list-horizontal.ensures.1.0
+pub list_vertical-l-requires : goal.list_vertical-l-requires
+list_vertical-l-requires c =
+    asks (cuts-by (goal.at.list_vertical-l-requires c).Start) (piles-by (goal.at.list_vertical-l-requires c).Start) c.args.way Vertical c.in-Vertical.is c.args.out.now c.requires
 
-returns-2 : tie.Need-returns-2
-returns-2 c =
-    let v = c.before.before in
-    let s = v.before.before.before.before.before in
-    does (cuts-by s) (piles-by s) s.args.way Vertical v.before.before.enum-told2.given.1 s.args.out.now _ _ v.list-vertical.ensures.0
-    v.list-vertical.ensures.1.0
-
-pub list-cuts-spec : {M : Type 1} → statement M
-list-cuts-spec =
-    tie.close
-    (tie.spec
-    (λ c. search rules)  -- enum_told
-    list-horizontal-requires
-    (λ c. search rules)  -- enum-told-2
-    list-vertical-requires
-    (λ c. search rules)  -- same-length
-    returns
-    (λ c. search rules)  -- same-length-2
-    returns-2)
+pub returns-in-Vertical : goal.returns-in-Vertical
+returns-in-Vertical c =
+    let e = c.list_vertical-l.ensures in
+    let h =
+    does (cuts-by (goal.at.returns-in-Vertical c).Start) (piles-by (goal.at.returns-in-Vertical c).Start) c.args.way Vertical c.in-Vertical.is c.args.out.now _ _ e.written e.counted in
+    record { written = h.0; counted = h.1 }
