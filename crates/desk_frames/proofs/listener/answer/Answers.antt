@@ -1,0 +1,26 @@
+-- `answer` meets its contract: where more is counted than fits, all that is there is the line. Assumes nothing.
+use mathlib.Core.Path.{◌≡◌, ap, sym}
+use native.Mathlib.Omega.{arith}
+use lib.ListN.{length}
+use lib.Seq.{take_all, length-take-le}
+use Rattle.session.proofs.Given.{pending-sized}
+use Rattle.desk_frames.specs.Requests.{desk_request_of}
+use Rattle.desk_frames.proofs.Stepping.{desk-asks}
+use borrow.Author.Rules.{rules}
+use Rattle.desk_frames.proofs.listener.answer.Goals as goal
+use Rattle.desk_frames.proofs.listener.answer.Goals.{Start}
+
+sixty-four : (c : Start) → length c.args.pending.bytes ≡ 64
+sixty-four c = pending-sized c.args.pending _ c.well_formed.1.0
+
+pub returns-then-count-gt-MOST : goal.returns-then-count-gt-MOST
+returns-then-count-gt-MOST c =
+    let p = c.args.pending in
+    desk-asks (ap desk_request_of (take_all p.count p.bytes (omega (arith, sixty-four (goal.at.returns-then-count-gt-MOST c).Start)))) c.step.ensures
+
+pub slice_bounds-bytes-end : goal.slice_bounds-bytes-end
+slice_bounds-bytes-end c = omega (arith, sixty-four (goal.at.slice_bounds-bytes-end c).Start)
+
+pub slice_bounds-step-end-2 : goal.slice_bounds-step-end-2
+slice_bounds-step-end-2 c =
+    sym (length-take-le c.args.pending.count c.args.pending.bytes (omega (arith, sixty-four (goal.at.slice_bounds-step-end-2 c).Start)))

@@ -1,0 +1,9 @@
+-- `write::mark` meets its contract. Assumes nothing.
+use mathlib.Core.Path.{refl}
+use borrow.Author.Rules.{rules}
+use Rattle.frames.proofs.Writing.{answered, and_then}
+use Rattle.desk_frames.proofs.write.mark.Goals as goal
+
+pub returns : goal.returns
+returns c =
+    answered refl (and_then c.begin-pen.ensures c.put_mark-next.ensures) c.end.ensures
