@@ -22,7 +22,6 @@ use Rattle.layout.specs.declared.remove.Removed.{Removed}
 use Rattle.layout.specs.declared.tidy.Tidied.{Tidied}
 use Rattle.layout.specs.declared.restore.Restored.{Restored}
 use Rattle.layout.specs.Check.{tree, sound_b}
-use Rattle.layout.specs.declared.open.OpenOutcome.TheVariants.{Free, Refused}
 use Rattle.layout.specs.SoundLayout.{SoundLayout, Sized}
 use Rattle.layout.specs.Open.{fresh_layout}
 use Rattle.layout.specs.Next.{Next}

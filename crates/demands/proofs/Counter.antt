@@ -83,14 +83,14 @@ the-life-goes-on h run e = ways-go-on h (counter-ways run) e
 -- before any opening the counter stays as it started, and refuses all
 pub before-any-opening : {t : Session} {lines : List Line} {xs : List Answer} → Runs started lines xs t → openings xs ≡ []
     → (t ≡ started) × AllDecline xs
-before-any-opening {t} = go refl
+before-any-opening {t} run h = go run refl h
   where
-    go : {s : Session} {ls : List Line} {ys : List Answer} → s ≡ started → Runs s ls ys t → openings ys ≡ [] → (t ≡ started) × AllDecline ys
-    go e none h = (e, tt)
-    go e (more {s} {t = w} {line = line} {a = a} {xs = zs} step run) h =
+    go : {s : Session} {ls : List Line} {ys : List Answer} → Runs s ls ys t → s ≡ started → openings ys ≡ [] → (t ≡ started) × AllDecline ys
+    go none e h = (e, tt)
+    go (more {s} {t = w} {line = line} {a = a} {xs = zs} step run) e h =
         let z = neither (opens a) (openings zs) h in
         let no = started-declines (asked_in line) w a (rw e at step) z.0 in
-        ⊎_elim (λ o. none-opened o z.0) (λ y. let f = go (started-stays e y.1) run z.1 in (f.0, (no, f.1)))
+        ⊎_elim (λ o. none-opened o z.0) (λ y. let f = go run (started-stays e y.1) z.1 in (f.0, (no, f.1)))
         (opens-or-not (rw e started-shaped) (way s (asked_in line) w a step))
 
 -- ---- the openings of a run

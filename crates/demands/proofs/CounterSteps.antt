@@ -25,7 +25,7 @@ use Rattle.layout.specs.SoundLayout.{Sized}
 use Rattle.layout.specs.Zero.{zero_layout}
 use Rattle.layout.specs.Open.{open_of}
 use Rattle.layout.specs.Insert.{insert_no, InsertSays}
-use Rattle.layout.specs.Remove.{remove_no, RemoveSays}
+use Rattle.layout.specs.Remove.{remove_no}
 use Rattle.layout.specs.Restore.{restore_of}
 use Rattle.layout.proofs.Exactly.{sound-shown, zero-refused}
 use Rattle.layout.proofs.Admitted.{insertable, passed}
@@ -34,7 +34,7 @@ use Rattle.layout.proofs.Gone.{remove-accepted}
 use Rattle.frames.specs.declared.Ask.TheVariants.{Open, Offers, Insert, Remove, Report}
 use Rattle.frames.specs.declared.Request.{Request}
 use Rattle.frames.specs.declared.Request.TheVariants.{OfLayout, Keep, Restore, Malformed}
-use Rattle.frames.specs.Answers.{Answer, opened}
+use Rattle.frames.specs.Answers.{Answer}
 use Rattle.session.specs.declared.Session.{Session}
 use Rattle.session.specs.Session.{started, with_layout, reply, answer_by, opened_by, after_open, marks_said, numbers_said, Answers, op_of}
 use Rattle.session.proofs.Refused.{unsound-refused}

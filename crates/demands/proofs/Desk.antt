@@ -156,3 +156,4 @@ marks-last-at-the-desk {t} {xs = xs} {ys = ys} first q a (question {q = r}) run 
     let s = sound-says t.layout sized sound in
     lasts-so ys
     (a-named-mark-lasts there (desk-ways run) k sound (named sized s (question-gives t.layout sized s sound r k h)) (rw (both-openings xs (a ∷ ys)) at once))
+marks-last-at-the-desk {t = t} {v = v} {before = before} {after = after} {xs = xs} {ys = ys} first _ _ (tidying d _) run k x once = elim x [ ]

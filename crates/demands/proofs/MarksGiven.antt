@@ -1,5 +1,4 @@
 -- Every mark that a call answers names a piece of the state that the call gave, or in which it was asked. Assumes nothing.
-use mathlib.Core.Path.{◌≡◌}
 use mathlib.Core.List.{List}
 use Rattle.marks.specs.declared.Mark.{Mark}
 use Rattle.layout.specs.declared.layout.Layout.{Layout}

@@ -8,7 +8,6 @@ use Rattle.std.specs.Prelude.{◌≡◌, ◌⊎◌, ℕ, take}
 use mathlib.Core.List.{List, [], ◌∷◌, Memᴰ}
 use Rattle.piece.specs.declared.rotation.Rotation.{Rotation}
 use Rattle.piece.specs.declared.parttype.PartType.{PartType}
-use Rattle.piece.specs.declared.node.Datum.{Datum}
 use Rattle.piece.specs.declared.insertion_blueprint.InsertionShape.{InsertionShape}
 use Rattle.piece.specs.declared.settings.Opening.{Opening}
 use Rattle.piece.specs.declared.settings.Settings.{Settings}

@@ -3,13 +3,12 @@
 use mathlib.Core.Path.{◌≡◌, refl, sym, ap, ◌∙◌}
 use mathlib.Core.List.{List, ◌∷◌}
 use Rattle.lines.specs.Text.{Line, whole, long, cut}
-use Rattle.frames.specs.Answers.{Answer}
 use Rattle.frames.specs.Ranges.{more as and_then}
 use Rattle.session.specs.declared.Session.{Session}
 use Rattle.session.specs.Listener.{asked_in, Runs, none, more}
 use Rattle.desk_frames.specs.declared.DeskRequest.{DeskRequest}
-use Rattle.desk_frames.specs.declared.DeskRequest.TheVariants.{Asks, Tidy, AtCounter}
-use Rattle.desk_frames.specs.Desk.{DeskAnswer, counters, told, DeskAnswers, at-counter, question, tidying}
+use Rattle.desk_frames.specs.declared.DeskRequest.TheVariants.{Tidy}
+use Rattle.desk_frames.specs.Desk.{DeskAnswer, DeskAnswers, at-counter, question, tidying}
 use Rattle.desk_frames.specs.Listener.{desk_asked_in, DeskRuns, NoneTidies, counter_lines, counter_answers}
 use Rattle.desk_frames.proofs.Superset.{at_counter, at-counter-is}
 

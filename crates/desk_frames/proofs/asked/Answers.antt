@@ -1,5 +1,4 @@
 -- `asked` meets its contract: a question, tidying, or what the counter is asked. Assumes nothing.
-use borrow.Author.Rules.{rules}
 use Rattle.desk_frames.proofs.Stepping.{desk-asks, question-steps, counter-steps, has_room}
 use Rattle.desk_frames.proofs.asked.Goals as goal
 

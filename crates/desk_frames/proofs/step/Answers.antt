@@ -1,6 +1,5 @@
 -- `step` meets its contract: it asks what the line says. Assumes nothing.
 use mathlib.Core.Path.{sym}
-use borrow.Author.Rules.{rules}
 use Rattle.desk_frames.proofs.Stepping.{desk-asks}
 use Rattle.desk_frames.proofs.step.Goals as goal
 

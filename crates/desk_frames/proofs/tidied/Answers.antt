@@ -1,6 +1,5 @@
 -- `tidied` meets its contract: the layout is tidied, and what is kept stays. Assumes nothing.
 use mathlib.Core.Path.{refl}
-use borrow.Author.Rules.{rules}
 use Rattle.desk_frames.proofs.Stepping.{tidy-steps}
 use Rattle.desk_frames.proofs.tidied.Goals as goal
 

@@ -6,7 +6,6 @@ use lib.Seq.{take_all, length-take-le}
 use Rattle.session.proofs.Given.{pending-sized}
 use Rattle.desk_frames.specs.Requests.{desk_request_of}
 use Rattle.desk_frames.proofs.Stepping.{desk-asks}
-use borrow.Author.Rules.{rules}
 use Rattle.desk_frames.proofs.listener.answer.Goals as goal
 use Rattle.desk_frames.proofs.listener.answer.Goals.{Start}
 

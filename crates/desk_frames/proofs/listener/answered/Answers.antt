@@ -1,6 +1,5 @@
 -- `answered` meets its contract. Assumes nothing.
 use mathlib.Core.Path.{refl}
-use borrow.Author.Rules.{rules}
 use Rattle.desk_frames.proofs.listener.answered.Goals as goal
 
 pub returns : goal.returns

@@ -1,6 +1,5 @@
 -- `finish` meets its contract, with a last line and without. Assumes nothing.
 use Rattle.desk_frames.proofs.Listening.{ends-cut, ends-clean}
-use borrow.Author.Rules.{rules}
 use Rattle.desk_frames.proofs.listener.finish.Goals as goal
 
 pub returns-then-cut : goal.returns-then-cut

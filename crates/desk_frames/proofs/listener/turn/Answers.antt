@@ -1,6 +1,5 @@
 -- `turn` meets its contract: a line, one that is too long, or none yet. Assumes nothing.
 use Rattle.desk_frames.proofs.Listening.{takes_whole, takes-long, takes-more}
-use borrow.Author.Rules.{rules}
 use Rattle.desk_frames.proofs.listener.turn.Goals as goal
 
 pub returns-in-Whole : goal.returns-in-Whole

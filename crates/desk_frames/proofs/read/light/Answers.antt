@@ -1,6 +1,5 @@
 -- `read::light` meets its contract. Assumes nothing.
 use borrow.Author.Tests.{le-leb, lt-leb}
-use borrow.Author.Rules.{rules}
 use Rattle.desk_frames.specs.Requests.{read_light}
 use Rattle.desk_frames.proofs.read.light.Goals as goal
 

@@ -1,6 +1,5 @@
 -- `read::request` meets its contract. Assumes nothing.
 use mathlib.Core.Path.{sym, ap, ◌∙◌}
-use borrow.Author.Rules.{rules}
 use Rattle.desk_frames.specs.declared.DeskRequest.TheVariants.{AtCounter}
 use Rattle.desk_frames.proofs.Reading.{no-desk-frame, counters-op, wrong-desk-length, well-asked}
 use Rattle.desk_frames.proofs.read.request.Goals as goal

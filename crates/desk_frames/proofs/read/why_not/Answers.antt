@@ -1,6 +1,5 @@
 -- `read::why_not` meets its contract. Assumes nothing.
 use borrow.Author.Tests.{le-leb, lt-leb}
-use borrow.Author.Rules.{rules}
 use Rattle.desk_frames.specs.Requests.{read_why_not}
 use Rattle.desk_frames.proofs.read.why_not.Goals as goal
 

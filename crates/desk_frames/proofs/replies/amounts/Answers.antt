@@ -7,7 +7,6 @@ use Rattle.saw.proofs.Layouts.{amounts-length}
 use Rattle.desk_frames.specs.declared.Question.TheVariants.{Amounts}
 use Rattle.desk_frames.specs.Answers.{amounts_found, found_in}
 use Rattle.desk_frames.proofs.Told.{told, refusal-told, sound-found, unsound-found, counted-bytes, lent-count, lent-refused, amounts-fit}
-use borrow.Author.Rules.{rules}
 use Rattle.desk_frames.proofs.replies.amounts.Goals as goal
 
 pub entries-requires : goal.entries-requires

@@ -1,5 +1,4 @@
 -- `replies::answer` meets its contract. Assumes nothing.
-use borrow.Author.Rules.{rules}
 use Rattle.desk_frames.proofs.replies.answer.Goals as goal
 
 pub returns-in-WhyNot : goal.returns-in-WhyNot

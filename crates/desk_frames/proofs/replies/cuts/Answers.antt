@@ -8,7 +8,6 @@ use Rattle.saw.proofs.Layouts.{list_length}
 use Rattle.desk_frames.specs.declared.Question.TheVariants.{Cuts}
 use Rattle.desk_frames.specs.Answers.{cuts_found, found_in}
 use Rattle.desk_frames.proofs.Told.{told, refusal-told, sound-found, unsound-found, counted-bytes, lent-count, lent-refused, cuts_fit}
-use borrow.Author.Rules.{rules}
 use Rattle.desk_frames.proofs.replies.cuts.Goals as goal
 
 pub entries-requires : goal.entries-requires

@@ -3,7 +3,6 @@ use mathlib.Core.Path.{sym, ap, ◌∙◌}
 use Rattle.desk_frames.specs.declared.Question.TheVariants.{EatenArea}
 use Rattle.desk_frames.specs.Answers.{area_found, found_in}
 use Rattle.desk_frames.proofs.Told.{told, refusal-told}
-use borrow.Author.Rules.{rules}
 use Rattle.desk_frames.proofs.replies.eaten_area.Goals as goal
 
 pub returns-in-Area : goal.returns-in-Area

@@ -1,16 +1,12 @@
 -- `replies::figures` meets its contract: refused by the first figure that is, or the six of them, both usages being numbers. Assumes nothing.
 use mathlib.Core.Path.{◌≡◌, refl, ap, ◌∙◌}
 use mathlib.Core.List.{List}
-use mathlib.Core.Bool.{true, false}
+use mathlib.Core.Bool.{false}
 use Prim.Native.Nat.{ℕ}
 use lib.Ieee.{binary64, to_bits}
-use borrow.Author.Rules.{rules}
-use Rattle.piece.specs.Sides.{area}
-use Rattle.tree.specs.Figures.{part_area, sheet_usage, tree_usage}
 use Rattle.marks.specs.declared.Refusal.TheVariants.{NotSound}
 use Rattle.layout.specs.declared.layout.Layout.{Layout}
-use Rattle.layout.specs.Check.{tree, sound_b}
-use Rattle.layout.specs.SoundLayout.{SoundLayout}
+use Rattle.layout.specs.Check.{sound_b}
 use Rattle.layout.proofs.Typed.{typed-sized}
 use Rattle.layout.proofs.Exactly.{sound-says}
 use Rattle.questions.proofs.Usage.{sheet-usage-number, tree-usage-number}

@@ -3,7 +3,6 @@ use mathlib.Core.Path.{sym, ap, ◌∙◌}
 use Rattle.desk_frames.specs.declared.Question.TheVariants.{FreePiece}
 use Rattle.desk_frames.specs.Answers.{mark_found, found_in}
 use Rattle.desk_frames.proofs.Told.{told, refusal-told}
-use borrow.Author.Rules.{rules}
 use Rattle.desk_frames.proofs.replies.free_piece.Goals as goal
 
 pub returns-in-Found : goal.returns-in-Found

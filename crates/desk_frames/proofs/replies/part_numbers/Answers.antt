@@ -9,7 +9,6 @@ use Rattle.frames.specs.Answers.{each}
 use Rattle.desk_frames.specs.declared.Question.TheVariants.{PartNumbers}
 use Rattle.desk_frames.specs.Answers.{numbers_bytes, found_in}
 use Rattle.desk_frames.proofs.Told.{told, refusal-told, sound-found, unsound-found, counted-bytes, lent-count, lent-refused, numbers_fit}
-use borrow.Author.Rules.{rules}
 use Rattle.desk_frames.proofs.replies.part_numbers.Goals as goal
 
 pub numbers-requires : goal.numbers-requires

@@ -6,7 +6,6 @@ use Rattle.frames.specs.Fields.{mark_bytes}
 use Rattle.desk_frames.specs.declared.Question.TheVariants.{RoomLight}
 use Rattle.desk_frames.specs.Answers.{found, light_found, found_in}
 use Rattle.desk_frames.proofs.Told.{told, refusal-told}
-use borrow.Author.Rules.{rules}
 use Rattle.desk_frames.proofs.replies.room_light.Goals as goal
 
 pub returns-in-Room : goal.returns-in-Room

@@ -7,7 +7,6 @@ use Rattle.questions.specs.Written.{snapshot_bytes}
 use Rattle.desk_frames.specs.declared.Question.TheVariants.{Snapshot}
 use Rattle.desk_frames.specs.Answers.{snapshot_found, found_in}
 use Rattle.desk_frames.proofs.Told.{told, refusal-told, sound-found, unsound-found, counted-bytes, lent-count, lent-refused, snapshot-count}
-use borrow.Author.Rules.{rules}
 use Rattle.desk_frames.proofs.replies.snapshot.Goals as goal
 
 pub entries-requires : goal.entries-requires

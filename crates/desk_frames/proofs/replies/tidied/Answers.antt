@@ -1,6 +1,5 @@
 -- `replies::tidied` meets its contract. Assumes nothing.
 use Rattle.frames.specs.Answers.{content_of}
-use borrow.Author.Rules.{rules}
 use Rattle.desk_frames.proofs.replies.tidied.Goals as goal
 
 pub returns-in-Done : goal.returns-in-Done

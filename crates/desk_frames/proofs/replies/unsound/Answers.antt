@@ -1,6 +1,5 @@
 -- `replies::unsound` meets its contract. Assumes nothing.
 use Rattle.frames.specs.Answers.{content_of}
-use borrow.Author.Rules.{rules}
 use Rattle.desk_frames.proofs.replies.unsound.Goals as goal
 
 pub returns : goal.returns

@@ -2,7 +2,6 @@
 use Rattle.desk_frames.specs.declared.Question.TheVariants.{WhyNot}
 use Rattle.desk_frames.specs.Answers.{found_in}
 use Rattle.desk_frames.proofs.Told.{told, refusal-told, reasons-found, why-refused}
-use borrow.Author.Rules.{rules}
 use Rattle.desk_frames.proofs.replies.why_not.Goals as goal
 
 pub returns-in-Done : goal.returns-in-Done

@@ -2,7 +2,6 @@
 use mathlib.Core.Path.{refl}
 use native.Mathlib.Omega.{arith}
 use lib.Seq.{length-take-le}
-use borrow.Author.Rules.{rules}
 use Rattle.frames.proofs.Writing.{answered, and_then, end-room}
 use Rattle.desk_frames.proofs.write.entries.Goals as goal
 

@@ -1,7 +1,6 @@
 -- `write::figures` meets its contract. Assumes nothing.
 use mathlib.Core.Path.{refl}
 use native.Mathlib.Omega.{arith}
-use borrow.Author.Rules.{rules}
 use Rattle.frames.proofs.Writing.{answered, and_then, same-room, end-room}
 use Rattle.desk_frames.proofs.Told.{line-room}
 use Rattle.desk_frames.proofs.write.figures.Goals as goal

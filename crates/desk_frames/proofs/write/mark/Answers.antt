@@ -1,6 +1,5 @@
 -- `write::mark` meets its contract. Assumes nothing.
 use mathlib.Core.Path.{refl}
-use borrow.Author.Rules.{rules}
 use Rattle.frames.proofs.Writing.{answered, and_then}
 use Rattle.desk_frames.proofs.write.mark.Goals as goal
 

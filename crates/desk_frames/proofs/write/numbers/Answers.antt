@@ -1,7 +1,6 @@
 -- `write::numbers` meets its contract. Assumes nothing.
 use mathlib.Core.Path.{refl}
 use native.Mathlib.Omega.{arith}
-use borrow.Author.Rules.{rules}
 use Rattle.frames.specs.Bytes.{two}
 use Rattle.frames.proofs.Writing.{answered, and_then, length_taken, end-room}
 use Rattle.desk_frames.proofs.write.numbers.Goals as goal
