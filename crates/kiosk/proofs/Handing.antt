@@ -1,6 +1,6 @@
 -- From what the call says of the list to what is handed out: there is room for every list, so the call is refused where the layout isn't sound and
 -- nowhere else. And the law of the list, for what is handed out. Rests on specs/Cuts and on what `saw` says of the list and its length.
-use mathlib.Core.Path.{◌≡◌, refl, sym, ap, ◌∙◌}
+use mathlib.Core.Path.{◌≡◌, refl, ap, ◌∙◌}
 use mathlib.Core.Bool.{Bool, true, false, cond}
 use mathlib.Core.List.{List, [], ◌∷◌}
 use mathlib.Core.Option.{some}
@@ -41,9 +41,9 @@ record-sized r vs g = go (all_listed_b r.nodes)
     go : (b : Bool) → Sized (cond b (fields_of r) zero_layout)
     go true =
         record {
-          nodes = length-map r.nodes node_of_record ∙ sym (length-map r.nodes _) ∙ g.1.1.0.1.0.1;
-          free = sym (length-map r.free _) ∙ g.1.1.1.0.1.0.1;
-          removable = sym (length-map r.removable _) ∙ g.1.1.1.1.0.1.0.1;
+          nodes = length-map r.nodes node_of_record ∙ g.1.1.0.1.0.1;
+          free = g.1.1.1.0.1.0.1;
+          removable = g.1.1.1.1.0.1.0.1;
         }
     go false = zero-sized
 

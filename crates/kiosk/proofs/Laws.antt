@@ -35,7 +35,7 @@ use Rattle.session.proofs.Kept.{kept-after}
 use Rattle.session.proofs.Refused.{refused-stays, unsound-refused, unsound-kept-refused}
 use Rattle.kiosk.specs.declared.records.LayoutRecord.{LayoutRecord}
 use Rattle.kiosk.specs.declared.records.SessionRecord.{SessionRecord}
-use Rattle.kiosk.specs.Records.{layout_of, session_of, layout_record, AllListed, all_listed_b}
+use Rattle.kiosk.specs.Records.{layout_of, session_of, AllListed, all_listed_b}
 use Rattle.kiosk.specs.Step.{kept_record, record_after, Answered, record_with_layout}
 use Rattle.desk_frames.specs.declared.Question.{Question}
 use Rattle.desk_frames.specs.declared.DeskRequest.{DeskRequest}

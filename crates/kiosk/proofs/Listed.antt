@@ -5,10 +5,9 @@ use mathlib.Core.Path.{◌≡◌, refl, sym, ap, ◌∙◌}
 use mathlib.Core.Bool.{true, false}
 use mathlib.Core.List.{List, [], ◌∷◌, map}
 use mathlib.Core.Logic.{◌⊎◌, inl, inr}
-use Prim.Native.Nat.{ℕ, zero, suc, ◌<◌, ◌≤◌}
+use Prim.Native.Nat.{ℕ, zero, suc, ◌<◌}
 use native.Mathlib.Omega.{arith}
 use lib.ListN.{length, get_or, replicate, get_or-map}
-use Rattle.piece.specs.Numbers.{kind_no, cut_no, cut_of}
 use borrow.Author.Tests.{leb-true, le-leb}
 use Rattle.piece.proofs.Numbers.{kind-listed, cut-listed, kind-back, cut-back, kind-stays, cut-stays}
 use Rattle.lists.specs.Lists.{limit}

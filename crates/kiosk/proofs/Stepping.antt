@@ -13,11 +13,11 @@ use Rattle.session.specs.declared.Session.{Session}
 use Rattle.session.specs.declared.replies.Said.{Said}
 use Rattle.session.specs.declared.replies.Response.{Response}
 use Rattle.session.specs.declared.replies.Keeping.{Keeping}
-use Rattle.session.specs.Session.{Reply, reply, kept_by, after_keep, Answers, Says}
+use Rattle.session.specs.Session.{Reply, kept_by, after_keep, Answers, Says}
 use Rattle.session.specs.Replies.{both, refusal, Replies, Keeps, Restores}
 use Rattle.session.proofs.Ways.{keep-answers}
 use Rattle.kiosk.specs.declared.records.SessionRecord.{SessionRecord}
-use Rattle.kiosk.specs.Records.{layout_of, session_of, layout_record}
+use Rattle.kiosk.specs.Records.{layout_of, session_of}
 use Rattle.kiosk.specs.Step.{record_after, Answered, record_with_layout}
 use Rattle.kiosk.proofs.Listed.{sound-stays}
 

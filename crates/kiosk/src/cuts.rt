@@ -38,6 +38,7 @@ pub extern "C" fn nickelgrove_cuts(session: &SessionRecord, list: &mut [u8; ROOM
     ensures { Handed session.now.layout list.old list.new result }
 {
     let next = handed(session.layout, *list);
-    *list = next.list;
+    let said = next.list;
+    *list = said;
     next.count
 }

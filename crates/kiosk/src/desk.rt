@@ -106,7 +106,8 @@ pub extern "C" fn nickelgrove_desk(
 {
     let next = desk_stepped(*session, line);
     *session = next.session;
-    *answer = next.line;
+    let line = next.line;
+    *answer = line;
     next.count
 }
 

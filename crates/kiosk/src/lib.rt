@@ -100,6 +100,7 @@ pub extern "C" fn nickelgrove_step(
 {
     let next = stepped(*session, line);
     *session = next.session;
-    *answer = next.line;
+    let line = next.line;
+    *answer = line;
     next.count
 }

@@ -40,7 +40,7 @@ pub struct NodeRecord {
 }
 
 #[repr(C)]
-#[derive(Drop)]
+#[derive(Clone, Copy)]
 pub struct LayoutRecord {
     pub nodes: [NodeRecord; LIMIT],
     pub free: [u16; LIMIT],
@@ -58,7 +58,7 @@ pub struct LayoutRecord {
 }
 
 #[repr(C)]
-#[derive(Drop)]
+#[derive(Clone, Copy)]
 pub struct SessionRecord {
     pub layout: LayoutRecord,
     pub kept: LayoutRecord,

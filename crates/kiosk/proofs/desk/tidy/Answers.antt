@@ -1,0 +1,11 @@
+-- `tidy` meets its contract: the layout's record is written where the tidying is accepted, and nowhere else. Assumes nothing.
+use Rattle.kiosk.proofs.AtDesk.{tidy-done, tidy-refused}
+use Rattle.kiosk.proofs.desk.tidy.Goals as goal
+
+pub returns-in-Done : goal.returns-in-Done
+returns-in-Done c =
+    tidy-done c.tidy-after.result c.layout_of-layout.ensures c.tidy-after.ensures c.tidied-count.ensures c.in-Done.is c.layout_record-given.ensures
+
+pub returns-in-Refused : goal.returns-in-Refused
+returns-in-Refused c =
+    tidy-refused c.tidy-after.result c.layout_of-layout.ensures c.tidy-after.ensures c.tidied-count.ensures c.in-Refused.is
