@@ -1,19 +1,8 @@
-// The C that the kit's library `os` calls (its src/c.rt says what each function does), for the programs that tools/native makes, on either processor: the
-// kit has it compiled for x86-64 alone. rt's own programs don't have it.
+// The C of the kit's library `os` that our programs can call (its src/c.rt says what each function does), for the programs that tools/native makes on another
+// processor than x86-64: the kit has it compiled for x86-64 alone.
 #include <errno.h>
-#include <fcntl.h>
 #include <string.h>
 #include <sys/types.h>
-
-int rattle_open_to_read(const unsigned char *path) { return open((const char *)path, O_RDONLY | O_CLOEXEC); }
-int rattle_open_new(const unsigned char *path, unsigned mode) {
-  return open((const char *)path, O_WRONLY | O_CREAT | O_EXCL | O_CLOEXEC, mode);
-}
-int rattle_open_to_overwrite(const unsigned char *path, unsigned mode) {
-  return open((const char *)path, O_WRONLY | O_CREAT | O_TRUNC | O_CLOEXEC, mode);
-}
-int rattle_open_to_append(const unsigned char *path) { return open((const char *)path, O_WRONLY | O_APPEND | O_CLOEXEC); }
-int rattle_open_to_update(const unsigned char *path) { return open((const char *)path, O_RDWR | O_CLOEXEC); }
 
 int rattle_errno(void) { return errno; }
 void rattle_set_errno(int error) { errno = error; }
