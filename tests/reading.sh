@@ -1,6 +1,7 @@
 #!/usr/bin/env bash
 # What the papers cite is there: every path of README.md and of docs/ that is named below, every name of docs/READING.md as a definition in the file beside it, every
 # must-fail edit where it is said to stand, every entry that is cited by its number, and the commands in the papers' blocks. tests/reading.awk reads the papers.
+# And the recorded lists that stand in crates too are the same there.
 # A path is seen from the top, from crates/, or from the folder of a crate that is named beside it. Made by building and so not looked for: target/. CRATE, NAME and
 # FOLDER stand for others. Outside docs/READING.md, which says in which list an edit stands, an edit may be named as CRATE/NAME.
 # No stand-ins: it runs no program.
@@ -111,4 +112,12 @@ at_least 100 edit 'must-fail edits, where they are said to stand'
 at_least 20 entry 'decisions and differences, by their numbers'
 at_least 0 unfound 'definitions and theorems without a file'
 at_least 10 command 'commands'
-finished 6
+
+# `rt ci` takes no links: what rt runs the programs on stands twice
+apart=
+for pair in sessions.in=inspect/stdin sessions.out=inspect/stdout offers.txt=replay_piece/data/offers.txt blocks.txt=replay_piece/data/blocks.txt; do
+  cmp -s "recorded/${pair%=*}" "crates/${pair#*=}" || apart+=" ${pair%=*}"
+done
+[ -z "$apart" ]
+tried $? "the recorded lists that crates have too are the same there${apart:+, but for$apart}"
+finished 7
