@@ -24,7 +24,8 @@ pub struct DeskRecord {
     pub count: usize,
 }
 
-// A question changes nothing.
+// A question changes nothing. (As code it stays apart, and `tidy` does: in one frame with the counter's step they took more than 512 KiB of stack.)
+#[inline(never)]
 fn told(given: SessionRecord, question: Question) -> DeskRecord
     ensures { DeskAnswered given (asks.Asks question) result.session result.line result.count }
 {
@@ -39,6 +40,7 @@ fn told(given: SessionRecord, question: Question) -> DeskRecord
 }
 
 // The layout is tidied; what is kept stays, and where it is refused all does.
+#[inline(never)]
 fn tidy(mut given: SessionRecord) -> DeskRecord
     ensures { DeskAnswered given asks.Tidy result.session result.line result.count }
 {
