@@ -6,6 +6,7 @@
 ghost use Rattle.std.specs.Prelude.{◌<◌};
 
 use layout::layout::Layout;
+use layout::tidy::Tidied;
 use marks::Mark;
 use piece::node::{Datum, Kind};
 use piece::orientation::Orientation;
@@ -211,6 +212,12 @@ fn nodes_without(l: Layout, place: u16, out: &mut [u16]) -> u64 {
     number(next.held)
 }
 
+// As code it stays apart: it takes as much of the stack as a removal does, and not beside one.
+#[inline(never)]
+fn tidied(l: Layout) -> Tidied {
+    l.tidy()
+}
+
 // The part of the chain is taken out, and what is left is tidied: each of its structures but the top goes.
 fn tidy_without_part(rt: &HostRuntime, l: Layout, out: &mut [u16]) -> io::Result<()> {
     let part = Mark {
@@ -220,12 +227,12 @@ fn tidy_without_part(rt: &HostRuntime, l: Layout, out: &mut [u16]) -> io::Result
     };
     let removed = l.remove(part, out);
     let bare = removed.layout;
-    let tidied = bare.tidy();
-    let left = tidied.layout;
+    let after = tidied(bare);
+    let left = after.layout;
     say(
         rt,
         "structures that tidying takes out without the part ",
-        number(tidied.count),
+        number(after.count),
     )?;
     say(rt, "nodes then ", number(left.held))
 }
