@@ -89,7 +89,9 @@ pub fn copy_first(from: &[u8], n: usize, out: &mut [u8])
     requires { (n ≤ length from.now) × (n ≤ length out.old) }
     ensures { out.new ≡ sets out.old 0 (take n from.now) }
 {
-    out[..n].copy_from_slice(&from[..n]);
+    for i in 0..n {
+        out[i] = from[i];
+    }
 }
 
 // Nine bytes of `list` from `from` on, over those of `out` from `to` on.
