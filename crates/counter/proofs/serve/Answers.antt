@@ -11,9 +11,6 @@ loop-at-init c xs e t = (xs, t)
 pub say-requires : goal.say-requires
 say-requires c = count_fits c.turn-turn.ensures.turned
 
-pub returns-else-say : goal.returns-else-say
-returns-else-say c w = absurd w
-
 pub loop-at-smaller : goal.loop-at-smaller
 loop-at-smaller c =
     omega (arith, turn-forward c.turn-turn.ensures c.loop-at-test.true)
