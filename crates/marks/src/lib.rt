@@ -6,7 +6,7 @@ ghost use Rattle.marks.specs.Marks.{zero_mark};
 ghost use Rattle.marks.specs.Refusals.{refusal_no};
 
 // The mark of a piece: its layout's number, its place and its serial.
-#[derive(Clone, Copy)]
+#[derive(Clone, Copy, PartialEq, Eq)]
 pub struct Mark {
     pub layout: u16,
     pub place: u16,
@@ -27,7 +27,7 @@ impl Mark {
 }
 
 // In the order of document 01's table, which is the order in which they are tested.
-#[derive(Clone, Copy)]
+#[derive(Clone, Copy, PartialEq, Eq)]
 pub enum Refusal {
     NotSound,
     OpeningOutside,
@@ -50,6 +50,29 @@ impl Refusal {
         ensures { result ≡ refusal_no self }
     {
         match self {
+            Refusal::NotSound => 1,
+            Refusal::OpeningOutside => 2,
+            Refusal::PartOutside => 3,
+            Refusal::OtherLayout => 4,
+            Refusal::Gone => 5,
+            Refusal::NotFree => 6,
+            Refusal::NotOffered => 7,
+            Refusal::TheTop => 10,
+            Refusal::FreePiece => 11,
+            Refusal::TooManyNodes => 8,
+            Refusal::SerialsSpent => 9,
+            Refusal::PastTheEnd => 12,
+            Refusal::BufferTooShort => 13,
+            Refusal::Malformed => 14,
+        }
+    }
+}
+
+impl From<Refusal> for u8 {
+    ghost from_gives = { λ r n. n ≡ refusal_no r };
+
+    fn from(refusal: Refusal) -> u8 {
+        match refusal {
             Refusal::NotSound => 1,
             Refusal::OpeningOutside => 2,
             Refusal::PartOutside => 3,

@@ -1,7 +1,7 @@
 -- The numbers that document 01's bytes have for a kind, a cut, a turn, a rotation and a shape: "kind (0 free, 1 part, 2 structure), cut (0
 -- Horizontal, 1 Vertical)" ("Tree snapshot"), "turn 1: 0 either, 1 Default, 2 Rotated" and "Rotation is 0 or 1; shape 1..4 in the table's order"
 -- ("Counter frames").
-use Rattle.std.specs.Prelude.{Bool, cond, ◌&&◌, ℕ, eqb, leb}
+use Rattle.std.specs.Prelude.{Bool, cond, ◌&&◌, ℕ, eqb, leb, Result, Ok, Err}
 use Rattle.piece.specs.declared.orientation.Orientation.{Orientation}
 use Rattle.piece.specs.declared.orientation.Orientation.TheVariants.{Horizontal, Vertical}
 use Rattle.piece.specs.declared.rotation.Rotation.{Rotation}
@@ -10,6 +10,7 @@ use Rattle.piece.specs.declared.parttype.Turn.{Turn}
 use Rattle.piece.specs.declared.parttype.Turn.TheVariants.{Either, Fixed}
 use Rattle.piece.specs.declared.node.Kind.{Kind}
 use Rattle.piece.specs.declared.node.Kind.TheVariants.{Free, Part, Structure}
+use Rattle.piece.specs.declared.unlisted.Unlisted.{Unlisted}
 use Rattle.piece.specs.declared.insertion_blueprint.InsertionShape.{InsertionShape}
 use Rattle.piece.specs.declared.insertion_blueprint.InsertionShape.TheVariants.{AlongCurrentCut, AcrossCurrentCut, AlongThenAcross, AcrossThenAlong}
 
@@ -71,3 +72,19 @@ abbrev pub shape_of : ℕ → InsertionShape
 shape_of n =
     cond (eqb n 1) AlongCurrentCut
     (cond (eqb n 2) AcrossCurrentCut (cond (eqb n 3) AlongThenAcross AcrossThenAlong))
+
+-- ---- what a number says, if it is listed
+abbrev pub if_listed : {A : Type 0} → Bool → A → Result A Unlisted
+if_listed listed a = cond listed (Ok a) (Err (record {}))
+
+abbrev pub listed_kind : ℕ → Result Kind Unlisted
+listed_kind n = if_listed (kind_listed n) (kind_of n)
+
+abbrev pub listed_cut : ℕ → Result Orientation Unlisted
+listed_cut n = if_listed (cut_listed n) (cut_of n)
+
+abbrev pub listed_rotation : ℕ → Result Rotation Unlisted
+listed_rotation n = if_listed (rotation_listed n) (rotation_of n)
+
+abbrev pub listed_shape : ℕ → Result InsertionShape Unlisted
+listed_shape n = if_listed (shape_listed n) (shape_of n)

@@ -1,13 +1,14 @@
 // The four shapes of an insertion and the nodes that each makes. Rust: core/insertion/insertion_blueprint.rs.
 ghost use Rattle.std.specs.Prelude.{◌≡◌};
 ghost use Rattle.piece.specs.Insertion.{blueprint_of, cut_from, laid_out, laid_made, new_nodes, no_node, insertion_node_of};
-ghost use Rattle.piece.specs.Numbers.{shape_no, shape_of};
+ghost use Rattle.piece.specs.Numbers.{listed_shape, shape_no, shape_of};
 
 use crate::node::Kind;
 use crate::orientation::Orientation;
 use crate::size::{Size, eaten_behind, rest};
+use crate::unlisted::Unlisted;
 
-#[derive(Clone, Copy)]
+#[derive(Clone, Copy, PartialEq, Eq)]
 pub enum InsertionShape {
     AlongCurrentCut,
     AcrossCurrentCut,
@@ -52,6 +53,35 @@ impl InsertionShape {
             InsertionShape::AcrossCurrentCut => 3,
             InsertionShape::AlongThenAcross => 4,
             InsertionShape::AcrossThenAlong => 5,
+        }
+    }
+}
+
+impl From<InsertionShape> for u8 {
+    ghost from_gives = { λ s n. n ≡ shape_no s };
+
+    fn from(shape: InsertionShape) -> u8 {
+        match shape {
+            InsertionShape::AlongCurrentCut => 1,
+            InsertionShape::AcrossCurrentCut => 2,
+            InsertionShape::AlongThenAcross => 3,
+            InsertionShape::AcrossThenAlong => 4,
+        }
+    }
+}
+
+impl TryFrom<u8> for InsertionShape {
+    type Error = Unlisted;
+
+    ghost try_from_gives = { λ n r. r ≡ listed_shape n };
+
+    fn try_from(n: u8) -> Result<InsertionShape, Unlisted> {
+        match n {
+            1 => Ok(InsertionShape::AlongCurrentCut),
+            2 => Ok(InsertionShape::AcrossCurrentCut),
+            3 => Ok(InsertionShape::AlongThenAcross),
+            4 => Ok(InsertionShape::AcrossThenAlong),
+            _ => Err(Unlisted),
         }
     }
 }

@@ -9,7 +9,7 @@ use crate::parttype::PartType;
 use crate::rotation::Rotation;
 use crate::settings::Settings;
 
-#[derive(Clone, Copy)]
+#[derive(Clone, Copy, PartialEq, Eq)]
 pub struct Offer {
     pub rotation: Rotation,
     pub shape: InsertionShape,

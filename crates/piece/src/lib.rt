@@ -10,3 +10,4 @@ pub mod parttype;
 pub mod rotation;
 pub mod settings;
 pub mod size;
+pub mod unlisted;

@@ -1,14 +1,15 @@
 // A piece of the sheet, apart from where it stands, and what can be cut from a free one. Rust: core/entities/node.rs.
 ghost use Rattle.std.specs.Prelude.{◌≡◌, Bool};
 ghost use Rattle.piece.specs.Kinds.{is_free, is_part, is_structure};
-ghost use Rattle.piece.specs.Numbers.{kind_no, kind_of};
+ghost use Rattle.piece.specs.Numbers.{kind_no, kind_of, listed_kind};
 ghost use Rattle.piece.specs.Offers.{fits, along, across};
 
 use crate::orientation::Orientation;
 use crate::size::Size;
+use crate::unlisted::Unlisted;
 
 // A free piece, a part, or a structure, which has children.
-#[derive(Clone, Copy)]
+#[derive(Clone, Copy, PartialEq, Eq)]
 pub enum Kind {
     Free,
     Part,
@@ -67,6 +68,33 @@ impl Kind {
             return Kind::Part;
         }
         Kind::Structure
+    }
+}
+
+impl From<Kind> for u8 {
+    ghost from_gives = { λ k n. n ≡ kind_no k };
+
+    fn from(kind: Kind) -> u8 {
+        match kind {
+            Kind::Free => 0,
+            Kind::Part => 1,
+            Kind::Structure => 2,
+        }
+    }
+}
+
+impl TryFrom<u8> for Kind {
+    type Error = Unlisted;
+
+    ghost try_from_gives = { λ n r. r ≡ listed_kind n };
+
+    fn try_from(n: u8) -> Result<Kind, Unlisted> {
+        match n {
+            0 => Ok(Kind::Free),
+            1 => Ok(Kind::Part),
+            2 => Ok(Kind::Structure),
+            _ => Err(Unlisted),
+        }
     }
 }
 

@@ -1,9 +1,11 @@
 // The way of a cut. Rust: core/orientation.rs.
 ghost use Rattle.std.specs.Prelude.{◌≡◌};
-ghost use Rattle.piece.specs.Numbers.{cut_no, cut_of};
+ghost use Rattle.piece.specs.Numbers.{cut_no, cut_of, listed_cut};
 ghost use Rattle.piece.specs.Sides.{is_horizontal, other};
 
-#[derive(Clone, Copy)]
+use crate::unlisted::Unlisted;
+
+#[derive(Clone, Copy, PartialEq, Eq)]
 pub enum Orientation {
     Horizontal,
     Vertical,
@@ -45,6 +47,31 @@ impl Orientation {
             Orientation::Horizontal
         } else {
             Orientation::Vertical
+        }
+    }
+}
+
+impl From<Orientation> for u8 {
+    ghost from_gives = { λ c n. n ≡ cut_no c };
+
+    fn from(cut: Orientation) -> u8 {
+        match cut {
+            Orientation::Horizontal => 0,
+            Orientation::Vertical => 1,
+        }
+    }
+}
+
+impl TryFrom<u8> for Orientation {
+    type Error = Unlisted;
+
+    ghost try_from_gives = { λ n r. r ≡ listed_cut n };
+
+    fn try_from(n: u8) -> Result<Orientation, Unlisted> {
+        match n {
+            0 => Ok(Orientation::Horizontal),
+            1 => Ok(Orientation::Vertical),
+            _ => Err(Unlisted),
         }
     }
 }

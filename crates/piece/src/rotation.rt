@@ -1,9 +1,11 @@
 // How a part is turned before it is cut. Rust: core/rotation.rs.
 ghost use Rattle.std.specs.Prelude.{◌≡◌};
-ghost use Rattle.piece.specs.Numbers.{rotation_no, rotation_of};
+ghost use Rattle.piece.specs.Numbers.{listed_rotation, rotation_no, rotation_of};
 ghost use Rattle.piece.specs.Offers.{other_way};
 
-#[derive(Clone, Copy)]
+use crate::unlisted::Unlisted;
+
+#[derive(Clone, Copy, PartialEq, Eq)]
 pub enum Rotation {
     Default,
     Rotated,
@@ -36,6 +38,31 @@ impl Rotation {
             Rotation::Default
         } else {
             Rotation::Rotated
+        }
+    }
+}
+
+impl From<Rotation> for u8 {
+    ghost from_gives = { λ r n. n ≡ rotation_no r };
+
+    fn from(rotation: Rotation) -> u8 {
+        match rotation {
+            Rotation::Default => 0,
+            Rotation::Rotated => 1,
+        }
+    }
+}
+
+impl TryFrom<u8> for Rotation {
+    type Error = Unlisted;
+
+    ghost try_from_gives = { λ n r. r ≡ listed_rotation n };
+
+    fn try_from(n: u8) -> Result<Rotation, Unlisted> {
+        match n {
+            0 => Ok(Rotation::Default),
+            1 => Ok(Rotation::Rotated),
+            _ => Err(Unlisted),
         }
     }
 }

@@ -5,7 +5,7 @@ ghost use Rattle.piece.specs.Sides.{area, exchanged, laid};
 
 use crate::orientation::Orientation;
 
-#[derive(Clone, Copy)]
+#[derive(Clone, Copy, PartialEq, Eq)]
 pub struct Size {
     pub width: u32,
     pub height: u32,
