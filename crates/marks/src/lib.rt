@@ -49,22 +49,7 @@ impl Refusal {
     pub fn number(self) -> u8
         ensures { result ≡ refusal_no self }
     {
-        match self {
-            Refusal::NotSound => 1,
-            Refusal::OpeningOutside => 2,
-            Refusal::PartOutside => 3,
-            Refusal::OtherLayout => 4,
-            Refusal::Gone => 5,
-            Refusal::NotFree => 6,
-            Refusal::NotOffered => 7,
-            Refusal::TheTop => 10,
-            Refusal::FreePiece => 11,
-            Refusal::TooManyNodes => 8,
-            Refusal::SerialsSpent => 9,
-            Refusal::PastTheEnd => 12,
-            Refusal::BufferTooShort => 13,
-            Refusal::Malformed => 14,
-        }
+        u8::from(self)
     }
 }
 

@@ -1,5 +1,6 @@
 pub mod Tests
 pub mod Numbers
+pub mod Same
 pub mod Sizes
 pub mod Padded
 pub mod Offered

@@ -21,12 +21,7 @@ impl InsertionShape {
     pub fn number(self) -> u8
         ensures { result ≡ shape_no self }
     {
-        match self {
-            InsertionShape::AlongCurrentCut => 1,
-            InsertionShape::AcrossCurrentCut => 2,
-            InsertionShape::AlongThenAcross => 3,
-            InsertionShape::AcrossThenAlong => 4,
-        }
+        u8::from(self)
     }
 
     pub fn of_number(n: u8) -> InsertionShape

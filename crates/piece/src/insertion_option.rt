@@ -113,13 +113,7 @@ pub fn offers(piece: Datum, part: PartType, settings: Settings) -> OfferList
 fn same_offer(rotation: Rotation, shape: InsertionShape, offer: Offer) -> bool
     ensures { result ≡ same_offer rotation shape offer }
 {
-    let r = offer.rotation;
-    let s = offer.shape;
-    if r.number() == rotation.number() {
-        s.number() == shape.number()
-    } else {
-        false
-    }
+    offer.rotation == rotation && offer.shape == shape
 }
 
 // One of the offers is this one.

@@ -20,42 +20,26 @@ impl Kind {
     pub fn is_free(self) -> bool
         ensures { result ≡ is_free self }
     {
-        match self {
-            Kind::Free => true,
-            Kind::Part => false,
-            Kind::Structure => false,
-        }
+        self == Kind::Free
     }
 
     pub fn is_part(self) -> bool
         ensures { result ≡ is_part self }
     {
-        match self {
-            Kind::Free => false,
-            Kind::Part => true,
-            Kind::Structure => false,
-        }
+        self == Kind::Part
     }
 
     pub fn is_structure(self) -> bool
         ensures { result ≡ is_structure self }
     {
-        match self {
-            Kind::Free => false,
-            Kind::Part => false,
-            Kind::Structure => true,
-        }
+        self == Kind::Structure
     }
 
     // Its number in bytes, and the kind of a listed number.
     pub fn number(self) -> u8
         ensures { result ≡ kind_no self }
     {
-        match self {
-            Kind::Free => 0,
-            Kind::Part => 1,
-            Kind::Structure => 2,
-        }
+        u8::from(self)
     }
 
     pub fn of_number(n: u8) -> Kind

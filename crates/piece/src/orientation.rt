@@ -34,10 +34,7 @@ impl Orientation {
     pub fn number(self) -> u8
         ensures { result ≡ cut_no self }
     {
-        match self {
-            Orientation::Horizontal => 0,
-            Orientation::Vertical => 1,
-        }
+        u8::from(self)
     }
 
     pub fn of_number(n: u8) -> Orientation

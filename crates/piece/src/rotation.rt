@@ -25,10 +25,7 @@ impl Rotation {
     pub fn number(self) -> u8
         ensures { result ≡ rotation_no self }
     {
-        match self {
-            Rotation::Default => 0,
-            Rotation::Rotated => 1,
-        }
+        u8::from(self)
     }
 
     pub fn of_number(n: u8) -> Rotation
