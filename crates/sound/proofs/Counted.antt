@@ -139,22 +139,20 @@ module _ {tests ok : Bool} {sum used left : ℕ} (g : Going tests sum used ok le
 -- ---- the end
 
 module _ {tests ok : Bool} {sum used left : ℕ} (g : Going tests sum used ok left) where
-  -- all is as it should be exactly where nothing is left of `used`
-  ends-passed : {b : Bool} → ok ≡ true → b ≡ true → eqb left 0 ≡ (tests && (b && eqb sum used))
-  ends-passed o e =
-      let all = sym g.so_far ∙ o in
-      let lacks = g.lacks (leb-true sum used (and_right tests (leb sum used) all)) in
-      rw (and_left tests (leb sum used) all, e) (none_left left sum used lacks)
-
-  ends-failed : (b : Bool) → ok ≡ false → false ≡ (tests && (b && eqb sum used))
-  ends-failed b o = go tests (sym g.so_far ∙ o)
+  -- nothing is left of `used` exactly where all is as it should be
+  ends : (b : Bool) → (tests && (b && eqb sum used)) ≡ (ok && (b && eqb left 0))
+  ends b = go ok refl
     where
-      go : (t : Bool) → (t && leb sum used) ≡ false → false ≡ (t && (b && eqb sum used))
-      go true e = sym (and-false b (eqb sum used) (ne_eqb sum used (let z = leb-false sum used e in λ q. omega arith)))
-      go false e = refl
+      stopped : (a : Bool) → (a && leb sum used) ≡ false → (a && (b && eqb sum used)) ≡ false
+      stopped true e = and-false b (eqb sum used) (ne_eqb sum used (let z = leb-false sum used e in λ q. omega arith))
+      stopped false e = refl
 
-  ends-miscounted : {b : Bool} → b ≡ false → false ≡ (tests && (b && eqb sum used))
-  ends-miscounted {b} e = sym (and-false tests (b && eqb sum used) (rw e refl))
+      go : (o : Bool) → ok ≡ o → (tests && (b && eqb sum used)) ≡ (ok && (b && eqb left 0))
+      go true o =
+          let all = sym g.so_far ∙ o in
+          let none = none_left left sum used (g.lacks (leb-true sum used (and_right tests (leb sum used) all))) in
+          rw (o, and_left tests (leb sum used) all, none) refl
+      go false o = rw o (stopped tests (sym g.so_far ∙ o))
 
 -- the places before i are passed
 pub record Counting (limit : ℕ) (t : List Node) (last used : ℕ) (free removable hung : List ℕ) (ok : Bool) (count left i : ℕ) : Type 0 where
@@ -168,16 +166,6 @@ counting-none limit t last used free removable hung = record { counted = refl; g
 
 module _ {limit : ℕ} {t : List Node} {last used : ℕ} {free removable hung : List ℕ} {ok : Bool} {count left : ℕ}
     (held : ℕ) (p : Counting limit t last used free removable hung ok count left limit) where
-  pub census-passed : ok ≡ true → eqb count held ≡ true → eqb left 0 ≡ census_b limit t last used held free removable hung
+  pub census-is : census_b limit t last used held free removable hung ≡ (ok && (eqb count held && eqb left 0))
   unfolding census_b
-  census-passed o e =
-      rw (← passes-are limit t last free removable hung, ← p.counted) (ends-passed p.going o e)
-
-  pub census-failed : ok ≡ false → false ≡ census_b limit t last used held free removable hung
-  unfolding census_b
-  census-failed o = rw (← passes-are limit t last free removable hung) (ends-failed p.going (eqb (held_in (serials_of t) limit) held) o)
-
-  pub census-miscounted : eqb count held ≡ false → false ≡ census_b limit t last used held free removable hung
-  unfolding census_b
-  census-miscounted e =
-      rw (← passes-are limit t last free removable hung, ← p.counted) (ends-miscounted p.going e)
+  census-is = rw (← passes-are limit t last free removable hung, ← p.counted) (ends p.going (eqb count held))

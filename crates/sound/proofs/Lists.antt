@@ -78,17 +78,17 @@ ordered_at area serial l n k = leb n (k + 1) || before area serial (get_or l k 0
 
 module _ (area serial l : List ℕ) (n : ℕ) where
   -- a turn of the loop, and its end
-  pub ordered-here : (k : ℕ) (r : Bool) → r ≡ before area serial (get_or l k 0) (get_or l (k + 1) 0) → r ≡ true
-      → ordered_at area serial l n k ≡ true
-  ordered-here k r b e = rw (sym b ∙ e) (or-true (leb n (k + 1)))
+  pub ordered-here : (j k : ℕ) {r : Bool} → k ≡ j + 1 → r ≡ before area serial (get_or l j 0) (get_or l k 0) → r ≡ true
+      → ordered_at area serial l n j ≡ true
+  ordered-here j k z b e = rw (sym (rw z at b) ∙ e) (or-true (leb n (j + 1)))
     where
       or-true : (b : Bool) → (b || true) ≡ true
       or-true true = refl
       or-true false = refl
 
-  pub ordered-bad : (k : ℕ) (r : Bool) → k + 1 < n → r ≡ before area serial (get_or l k 0) (get_or l (k + 1) 0) → r ≡ false
-      → ordered_at area serial l n k ≡ false
-  ordered-bad k r h b e = rw (lt-leb n (k + 1) h, sym b ∙ e) refl
+  pub ordered-bad : (j k : ℕ) {r : Bool} → k ≡ j + 1 → k < n → r ≡ before area serial (get_or l j 0) (get_or l k 0) → r ≡ false
+      → ordered_at area serial l n j ≡ false
+  ordered-bad j k z h b e = rw (lt-leb n (j + 1) (omega arith), sym (rw z at b) ∙ e) refl
 
   pub ordered_end : (k : ℕ) → k ≤ n → n ≤ k + 1 → every (ordered_at area serial l n) k ≡ true → sorted_b area serial l n ≡ true
   unfolding sorted_b
@@ -112,7 +112,7 @@ module _ (area serial l : List ℕ) (n : ℕ) where
     where
       go : (k : ℕ) (b : Bool) → leb n (k + 1) ≡ b → ordered_at area serial l n k ≡ true
       go k true z = rw z refl
-      go k false z = ordered-here k _ refl (ahead-shown _ _ _ _ (h k (leb-false n (k + 1) z)))
+      go k false z = ordered-here k (k + 1) refl refl (ahead-shown _ _ _ _ (h k (leb-false n (k + 1) z)))
 
   -- each entry comes before all later ones
   pub sorted_all : sorted_b area serial l n ≡ true → (m j : ℕ) → j < m → m < n → InOrder area serial l j m

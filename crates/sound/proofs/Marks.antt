@@ -18,7 +18,7 @@ use Rattle.table.specs.Table.{at, Held, zero_node}
 use Rattle.table.proofs.Linkage.{Among}
 use Rattle.sound.specs.Columns.{firsts_of, nexts_of, serials_of}
 use Rattle.sound.specs.Rows.{parent_b}
-use Rattle.sound.specs.Hung.{mark_row, mark_rows, hang_rows, marked_at, marked_b, hung_b}
+use Rattle.sound.specs.Hung.{mark_row, mark_rows, hang_row, hang_rows, marked_at, marked_b, hung_b}
 use Rattle.lists.proofs.Scan.{every-all, every-at}
 
 less_one : (n : ℕ) → suc n - 1 ≡ n
@@ -85,7 +85,7 @@ zeros-unmarked zero i e = omega arith
 zeros-unmarked (suc n) zero e = omega arith
 zeros-unmarked (suc n) (suc i) e = zeros-unmarked n i e
 
--- the marks that `rows_ok` makes as it walks
+-- the marks that `row_ok` makes as it walks
 module _ (limit : ℕ) (t : List Node) where
   -- a turn along a row, and its end
   pub hang-on : (m p : ℕ) (f : List ℕ) → 0 < m → p < limit
@@ -99,16 +99,14 @@ module _ (limit : ℕ) (t : List Node) where
   unfolding hang_rows
   hang-none f = refl
 
-  -- a held structure's row is marked, and another place has none
-  pub hang-row : (n : ℕ) (f : List ℕ) {a : Bool} → a ≡ parent_b (at t n) → a ≡ true
-      → hang_rows limit t (n + 1) f ≡ mark_row limit (nexts_of t) limit (at t n).first (hang_rows limit t n f)
+  pub hang-next : (n : ℕ) (f : List ℕ) → hang_rows limit t (n + 1) f ≡ hang_row limit t n (hang_rows limit t n f)
   unfolding hang_rows
-  hang-row n f e y = rw (add-one n, sym e ∙ y) refl
+  hang-next n f = rw (add-one n) refl
 
-  pub hang-skip : (n : ℕ) (f : List ℕ) {a : Bool} → a ≡ parent_b (at t n) → a ≡ false
-      → hang_rows limit t (n + 1) f ≡ hang_rows limit t n f
-  unfolding hang_rows
-  hang-skip n f e y = rw (add-one n, sym e ∙ y) refl
+  -- a held structure's row is marked
+  pub hang-here : (q : ℕ) (f : List ℕ) {a : Bool} → a ≡ parent_b (at t q) → a ≡ true
+      → hang_row limit t q f ≡ mark_row limit (nexts_of t) limit (at t q).first f
+  hang-here q f e y = rw (sym e ∙ y) refl
 
 module _ (limit : ℕ) (t : List Node) where
   -- a mark of a row was there before, or is at one of the siblings

@@ -1,4 +1,4 @@
--- The walk along a row, as the loop of `rows_ok` goes: what the rest of the walk says, from what the loop has seen.
+-- The walk along a row, as the loop of `row_ok` goes: what the rest of the walk says, from what the loop has seen.
 use mathlib.Core.Path.{◌≡◌, refl, sym, ◌∙◌}
 use mathlib.Core.List.{List}
 use mathlib.Core.Bool.{Bool, true, false}
@@ -30,21 +30,16 @@ module _ (limit : ℕ) (settings : Settings) (t : List Node) (q : ℕ) where
   chain-bad zero pv p sum l e n = refl
   chain-bad (suc m) pv p sum l e n = rw (lt-leb limit p l, ← e, n) refl
 
-  -- the walk has stopped: at no place, or after as many steps as there are
-  pub chain-fails : (m pv p sum : ℕ) {b : Bool} → (limit ≤ p) ⊎ (m ≤ 0) → b ≡ end_b limit (at t q) pv p sum → (b ≡ false) ⊎ (m ≤ 0)
-      → chain_b limit settings t q m pv p sum ≡ false
+  -- the walk has stopped at no place, or after as many steps as there are
+  pub chain-ends : (m pv p sum : ℕ) → 0 < m → limit ≤ p → chain_b limit settings t q m pv p sum ≡ end_b limit (at t q) pv p sum
   unfolding chain_b
-  chain-fails zero pv p sum l e n = refl
-  chain-fails (suc m) pv p sum (inl l) e (inl n) = rw (le-leb limit p l) (sym e ∙ n)
-  chain-fails (suc m) pv p sum (inl l) e (inr n) = absurd (not-suc-le-zero n)
-  chain-fails (suc m) pv p sum (inr l) e n = absurd (not-suc-le-zero l)
+  chain-ends zero pv p sum h l = absurd (not-suc-le-zero h)
+  chain-ends (suc m) pv p sum h l = rw (le-leb limit p l) refl
 
-  pub chain-ends : (m pv p sum : ℕ) {b : Bool} → (limit ≤ p) ⊎ (m ≤ 0) → b ≡ end_b limit (at t q) pv p sum → b ≡ true → 0 < m
-      → chain_b limit settings t q m pv p sum ≡ true
+  pub chain-out : (m pv p sum : ℕ) → m ≤ 0 → chain_b limit settings t q m pv p sum ≡ false
   unfolding chain_b
-  chain-ends zero pv p sum l e y h = absurd (not-suc-le-zero h)
-  chain-ends (suc m) pv p sum (inl l) e y h = rw (le-leb limit p l) (sym e ∙ y)
-  chain-ends (suc m) pv p sum (inr l) e y h = absurd (not-suc-le-zero l)
+  chain-out zero pv p sum h = refl
+  chain-out (suc m) pv p sum h = absurd (not-suc-le-zero h)
 
   -- a held structure's row is walked, and another place has none
   pub row_is : {a b : Bool} → a ≡ parent_b (at t q) → a ≡ true → chain_b limit settings t q limit limit (at t q).first 0 ≡ b

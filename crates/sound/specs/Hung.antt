@@ -18,11 +18,14 @@ unfoldable pub mark_rows : ℕ → List ℕ → List ℕ → ℕ → List ℕ �
 mark_rows limit first next zero f = f
 mark_rows limit first next (suc n) f = mark_row limit next limit (get_or first n 0) (mark_rows limit first next n f)
 
+-- the row of a held structure; another place has none
+abbrev pub hang_row : ℕ → List Node → ℕ → List ℕ → List ℕ
+hang_row limit t q f = cond (parent_b (at t q)) (mark_row limit (nexts_of t) limit (at t q).first f) f
+
 -- the rows of the held structures among the first n places; proofs/ByRows.antt says that this marks as much as `mark_rows`
 unfoldable pub hang_rows : ℕ → List Node → ℕ → List ℕ → List ℕ
 hang_rows limit t zero f = f
-hang_rows limit t (suc n) f =
-    let r = hang_rows limit t n f in cond (parent_b (at t n)) (mark_row limit (nexts_of t) limit (at t n).first r) r
+hang_rows limit t (suc n) f = hang_row limit t n (hang_rows limit t n f)
 
 -- held places but the top are marked
 abbrev pub marked_at : List ℕ → List ℕ → ℕ → Bool

@@ -13,13 +13,7 @@ use table::{LIMIT, Node};
 fn hangs_ok(n: Node, i: usize, hung: u8) -> bool
     ensures { result ≡ hangs_b i n hung }
 {
-    if i == 0 {
-        return true;
-    }
-    if n.datum.serial == 0 {
-        return true;
-    }
-    hung == 1
+    i == 0 || n.datum.serial == 0 || hung == 1
 }
 
 // Whether the flags of the two lists are those of the node: none where the place is unheld, the free list's at a free piece, the removable list's at
@@ -27,32 +21,21 @@ fn hangs_ok(n: Node, i: usize, hung: u8) -> bool
 fn flags_ok(n: Node, free: u8, removable: u8) -> bool
     ensures { result ≡ flags_b n free removable }
 {
-    let d = n.datum;
-    let kind = d.kind;
-    if d.serial == 0 {
-        if free == 1 { false } else { removable != 1 }
-    } else if kind.number() == 0 {
-        if free == 1 { removable != 1 } else { false }
+    if n.datum.serial == 0 {
+        free != 1 && removable != 1
+    } else if n.datum.kind.is_free() {
+        free == 1 && removable != 1
     } else {
-        if free == 1 { false } else { removable == 1 }
+        free != 1 && removable == 1
     }
 }
 
 // Whether the place i, where n stands, is as it should be, by itself and by its flags.
+#[tactic(auto, unfolding(crate::specs::Census::node_b))]
 fn node_ok(n: Node, i: usize, last: u32, free: u8, removable: u8, hung: u8) -> bool
     ensures { result ≡ node_b limit last i n free removable hung }
 {
-    if place_ok(n) {} else {
-        return false;
-    }
-    if last < n.datum.serial {
-        return false;
-    }
-    if hangs_ok(n, i, hung) {
-        flags_ok(n, free, removable)
-    } else {
-        false
-    }
+    place_ok(n) && n.datum.serial <= last && hangs_ok(n, i, hung) && flags_ok(n, free, removable)
 }
 
 // 1 where the place is held.
@@ -66,21 +49,22 @@ fn held_one(n: Node) -> usize
 fn used_by(n: Node) -> u64
     ensures { result ≡ used_by n }
 {
-    let d = n.datum;
-    let kind = d.kind;
-    let size = d.size;
-    if kind.number() == 1 { size.area() } else { 0 }
+    if n.datum.kind.is_part() {
+        n.datum.size.area()
+    } else {
+        0
+    }
 }
 
 // The parts' areas are taken away from `used`, so that nothing overflows on any record.
-pub fn census_ok<'a>(
+pub fn census_ok(
     nodes: [Node; LIMIT],
     last: u32,
     used: u64,
     held: usize,
-    free: &'a [u8; LIMIT],
-    removable: &'a [u8; LIMIT],
-    hung: &'a [u8; LIMIT],
+    free: &[u8; LIMIT],
+    removable: &[u8; LIMIT],
+    hung: &[u8; LIMIT],
     serial: &mut [u32; LIMIT],
     area: &mut [u64; LIMIT],
 ) -> bool
@@ -91,14 +75,11 @@ pub fn census_ok<'a>(
     let mut ok = true;
     let mut count: usize = 0;
     let mut left = used;
-    let mut i: usize = 0;
-    while i < LIMIT {
+    for i in 0..LIMIT {
         let n = nodes[i];
-        let d = n.datum;
-        let size = d.size;
-        serial[i] = d.serial;
-        area[i] = size.area();
-        if node_ok(n, i, last, free[i], removable[i], hung[i]) {} else {
+        serial[i] = n.datum.serial;
+        area[i] = n.datum.size.area();
+        if !node_ok(n, i, last, free[i], removable[i], hung[i]) {
             ok = false;
         }
         let part = used_by(n);
@@ -108,11 +89,6 @@ pub fn census_ok<'a>(
             left -= part;
         }
         count += held_one(n);
-        i += 1;
     }
-    if ok && count == held {
-        left == 0
-    } else {
-        false
-    }
+    ok && count == held && left == 0
 }

@@ -28,64 +28,42 @@ pub const MAX_SERIAL: u32 = 1000000;
 pub fn side_ok(side: u32) -> bool
     ensures { result ≡ side_b side }
 {
-    if 1 <= side { side <= MAX_SIDE } else { false }
+    1 <= side && side <= MAX_SIDE
 }
 
 // Sheet sides, stages and blade width are in the domain.
 pub fn domain_ok(settings: Settings) -> bool
     ensures { result ≡ domain_b settings }
 {
-    if side_ok(settings.sheet.width) {} else {
-        return false;
-    }
-    if side_ok(settings.sheet.height) {} else {
-        return false;
-    }
-    if settings.stages < 1 {
-        return false;
-    }
-    if MAX_STAGES < settings.stages {
-        return false;
-    }
-    settings.blade <= MAX_BLADE
+    side_ok(settings.sheet.width)
+        && side_ok(settings.sheet.height)
+        && 1 <= settings.stages
+        && settings.stages <= MAX_STAGES
+        && settings.blade <= MAX_BLADE
 }
 
 // What stands beside the lists: the settings, the top, and the last serial issued.
 pub fn frame_ok(settings: Settings, top: Node, last: u32) -> bool
     ensures { result ≡ (domain_b settings && (top_b limit settings top && leb last max_serial)) }
 {
-    if domain_ok(settings) {} else {
-        return false;
-    }
-    if top_ok(top, settings) {
-        last <= MAX_SERIAL
-    } else {
-        false
-    }
+    domain_ok(settings) && top_ok(top, settings) && last <= MAX_SERIAL
 }
 
 // What waits for the passes: the serials differ, the free list is in order, and both lists have a zero tail.
-pub fn rest_ok<'a>(
-    area: &'a [u64; LIMIT],
-    serial: &'a [u32; LIMIT],
-    free: &'a [u16; LIMIT],
+pub fn rest_ok(
+    area: &[u64; LIMIT],
+    serial: &[u32; LIMIT],
+    free: &[u16; LIMIT],
     frees: usize,
-    removable: &'a [u16; LIMIT],
+    removable: &[u16; LIMIT],
     removables: usize,
 ) -> bool
     requires { (ok_b limit free.now frees ≡ true) × Low serial.now }
     ensures { result ≡ (differ limit serial.now && (sorted_b area.now serial.now free.now frees
         && (zero_tail limit free.now frees && zero_tail limit removable.now removables))) }
 {
-    if all_differ(serial) {} else {
-        return false;
-    }
-    if is_sorted(area, serial, free, frees) {} else {
-        return false;
-    }
-    if zero_tail(free, frees) {
-        zero_tail(removable, removables)
-    } else {
-        false
-    }
+    all_differ(serial)
+        && is_sorted(area, serial, free, frees)
+        && zero_tail(free, frees)
+        && zero_tail(removable, removables)
 }

@@ -6,39 +6,29 @@ ghost use Rattle.sound.specs.Listed.{area_listed, before, sorted_b};
 use table::LIMIT;
 
 // Whether the piece at p comes before the one at q: greatest area first, equal areas by rising serial.
-fn is_before<'a>(area: &'a [u64; LIMIT], serial: &'a [u32; LIMIT], p: u16, q: u16) -> bool
+fn is_before(area: &[u64; LIMIT], serial: &[u32; LIMIT], p: u16, q: u16) -> bool
     requires { (p < limit) × (q < limit) }
     ensures { result ≡ before area.now serial.now p q }
 {
     let i = p as usize;
     let j = q as usize;
-    let a = area[i];
-    let b = area[j];
-    if b < a {
-        return true;
-    }
-    if a == b {
-        return serial[i] < serial[j];
-    }
-    false
+    area[j] < area[i] || area[i] == area[j] && serial[i] < serial[j]
 }
 
 // Whether each of the first count entries comes before the next.
-pub fn is_sorted<'a>(
-    area: &'a [u64; LIMIT],
-    serial: &'a [u32; LIMIT],
-    list: &'a [u16; LIMIT],
+pub fn is_sorted(
+    area: &[u64; LIMIT],
+    serial: &[u32; LIMIT],
+    list: &[u16; LIMIT],
     count: usize,
 ) -> bool
     requires { (count ≤ limit) × ((k : ℕ) → k < count → get_or list.now k 0 < limit) }
     ensures { result ≡ sorted_b area.now serial.now list.now count }
 {
-    let mut k: usize = 0;
-    while k + 1 < count {
-        if !is_before(area, serial, list[k], list[k + 1]) {
+    for k in 1..count {
+        if !is_before(area, serial, list[k - 1], list[k]) {
             return false;
         }
-        k += 1;
     }
     true
 }

@@ -12,77 +12,41 @@ use table::{NONE, Node};
 fn is_sided(size: Size) -> bool
     ensures { result ≡ sided_b size }
 {
-    if 1 <= size.width {
-        1 <= size.height
-    } else {
-        false
-    }
+    1 <= size.width && 1 <= size.height
 }
 
 // Whether there is no child.
 fn is_leaf(n: Node) -> bool
     ensures { result ≡ leaf_b limit n }
 {
-    if n.first == NONE {
-        n.last == NONE
-    } else {
-        false
-    }
+    n.first == NONE && n.last == NONE
 }
 
+#[tactic(auto, unfolding(crate::specs::Places::zero_links_b))]
 fn zero_links(n: Node) -> bool
     ensures { result ≡ zero_links_b n }
 {
-    if n.parent != 0 {
-        return false;
-    }
-    if n.first != 0 {
-        return false;
-    }
-    if n.last != 0 {
-        return false;
-    }
-    if n.prev != 0 {
-        return false;
-    }
-    n.next == 0
+    n.parent == 0 && n.first == 0 && n.last == 0 && n.prev == 0 && n.next == 0
 }
 
+#[tactic(auto, unfolding(crate::specs::Places::zero_datum_b))]
 fn zero_datum(d: Datum) -> bool
     ensures { result ≡ zero_datum_b d }
 {
-    if d.serial != 0 {
-        return false;
-    }
-    if d.size.width != 0 {
-        return false;
-    }
-    if d.size.height != 0 {
-        return false;
-    }
-    if d.number != 0 {
-        return false;
-    }
-    if d.level != 0 {
-        return false;
-    }
-    if d.eaten != 0 {
-        return false;
-    }
-    let kind = d.kind;
-    let cut = d.cut;
-    if kind.is_free() {
-        cut.is_horizontal()
-    } else {
-        false
-    }
+    d.serial == 0
+        && d.size.width == 0
+        && d.size.height == 0
+        && d.number == 0
+        && d.level == 0
+        && d.eaten == 0
+        && d.kind.is_free()
+        && d.cut.is_horizontal()
 }
 
 fn is_zero(n: Node) -> bool
     ensures { result ≡ zero_b n }
 {
-    let d = n.datum;
-    if zero_datum(d) { zero_links(n) } else { false }
+    zero_datum(n.datum) && zero_links(n)
 }
 
 // Whether a held node's links, number and sides suit its kind.
@@ -90,38 +54,15 @@ fn kind_ok(n: Node) -> bool
     ensures { result ≡ kind_b limit n.datum.kind n }
 {
     let d = n.datum;
-    let kind = d.kind;
-    let size = d.size;
-    match kind {
-        Kind::Free => {
-            if is_leaf(n) {
-                if d.number == 0 { n.next == NONE } else { false }
-            } else {
-                false
-            }
-        }
-        Kind::Part => {
-            if is_leaf(n) {
-                if d.number <= 65535 {
-                    is_sided(size)
-                } else {
-                    false
-                }
-            } else {
-                false
-            }
-        }
-        Kind::Structure => {
-            if n.first < NONE {
-                if d.number == 0 { is_sided(size) } else { false }
-            } else {
-                false
-            }
-        }
+    match d.kind {
+        Kind::Free => is_leaf(n) && d.number == 0 && n.next == NONE,
+        Kind::Part => is_leaf(n) && d.number <= 65535 && is_sided(d.size),
+        Kind::Structure => n.first < NONE && d.number == 0 && is_sided(d.size),
     }
 }
 
 // A place is all zero where its serial is.
+#[tactic(auto, unfolding(crate::specs::Places::place_b))]
 pub fn place_ok(n: Node) -> bool
     ensures { result ≡ place_b limit n }
 {
@@ -133,49 +74,30 @@ pub fn place_ok(n: Node) -> bool
 }
 
 // Whether it is a structure at level 0 with the sheet's size and nothing eaten behind it.
+#[tactic(auto, unfolding(crate::specs::Places::top_datum_b))]
 fn top_datum(d: Datum, settings: Settings) -> bool
     ensures { result ≡ top_datum_b settings d }
 {
-    if d.serial == 0 {
-        return false;
-    }
-    if d.level != 0 {
-        return false;
-    }
-    if d.eaten != 0 {
-        return false;
-    }
-    let kind = d.kind;
-    if kind.is_structure() {} else {
-        return false;
-    }
-    if d.size.width != settings.sheet.width {
-        return false;
-    }
-    d.size.height == settings.sheet.height
+    d.serial != 0
+        && d.level == 0
+        && d.eaten == 0
+        && d.kind.is_structure()
+        && d.size.width == settings.sheet.width
+        && d.size.height == settings.sheet.height
 }
 
 // Whether it hangs under no node and beside none.
+#[tactic(auto, unfolding(crate::specs::Places::top_links_b))]
 fn top_links(n: Node) -> bool
     ensures { result ≡ top_links_b limit n }
 {
-    if n.parent != NONE {
-        return false;
-    }
-    if n.prev != NONE {
-        return false;
-    }
-    n.next == NONE
+    n.parent == NONE && n.prev == NONE && n.next == NONE
 }
 
 // Whether the node at place 0 is a top with the sheet's size.
+#[tactic(auto, unfolding(crate::specs::Places::top_b))]
 pub fn top_ok(n: Node, settings: Settings) -> bool
     ensures { result ≡ top_b limit settings n }
 {
-    let d = n.datum;
-    if top_datum(d, settings) {
-        top_links(n)
-    } else {
-        false
-    }
+    top_datum(n.datum, settings) && top_links(n)
 }

@@ -1,6 +1,5 @@
 -- The pass: the columns are written as far as it has come, and the tests and the sums are those of the places passed.
 use mathlib.Core.Path.{◌≡◌}
-use Prim.Native.Nat.{◌-◌, ◌≤◌}
 use Rattle.lists.specs.Lists.{limit}
 use Rattle.lists.proofs.Fill.{filled}
 use Rattle.sound.specs.Columns.{areas_of, serials_of}
@@ -9,11 +8,8 @@ use Rattle.sound.proofs.census.census_ok.Given as goal
 
 abbrev pub invariant-loop-i : goal.invariant-loop-i
 invariant-loop-i l =
-    (l.i ≤ limit)
-    × (l.serial ≡ filled l.initial.serial (serials_of l.nodes) l.i)
-    × (l.area ≡ filled l.initial.area (areas_of l.nodes) l.i)
-    × Counting limit l.nodes l.last l.used l.free l.removable l.hung l.ok l.count l.left l.i
-
-abbrev pub decreases-loop-i : goal.decreases-loop-i
-decreases-loop-i l =
-    limit - l.i
+    record {
+      serials : l.serial ≡ filled l.initial.serial (serials_of l.nodes) l.i;
+      areas : l.area ≡ filled l.initial.area (areas_of l.nodes) l.i;
+      counting : Counting limit l.nodes l.last l.used l.free l.removable l.hung l.ok l.count l.left l.i;
+    }
