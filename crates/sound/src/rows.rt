@@ -2,27 +2,11 @@
 ghost use Rattle.std.specs.Prelude.{◌≡◌, true, ◌<◌};
 ghost use Rattle.lists.specs.Lists.{limit};
 ghost use Rattle.sound.specs.Hung.{hang_row, hang_rows};
-ghost use Rattle.sound.specs.Rows.{child_b, child_datum_b, eaten_b, end_b, hung_under_b, parent_b, room, row_b, rows_b, same_cut, step};
+ghost use Rattle.sound.specs.Rows.{child_b, child_datum_b, eaten_b, end_b, hung_under_b, parent_b, room, row_b, rows_b, step};
 
 use piece::node::Datum;
-use piece::orientation::Orientation;
 use piece::settings::Settings;
 use table::{LIMIT, NONE, Node};
-
-fn same_cut(a: Orientation, b: Orientation) -> bool
-    ensures { result ≡ same_cut a b }
-{
-    match a {
-        Orientation::Horizontal => match b {
-            Orientation::Horizontal => true,
-            Orientation::Vertical => false,
-        },
-        Orientation::Vertical => match b {
-            Orientation::Horizontal => false,
-            Orientation::Vertical => true,
-        },
-    }
-}
 
 // Whether n hangs under q, after the sibling pv.
 #[tactic(auto, unfolding(crate::specs::Rows::hung_under_b))]
@@ -39,7 +23,7 @@ fn child_datum(settings: Settings, parent: Datum, d: Datum) -> bool
 {
     d.level as u32 == parent.level as u32 + 1
         && d.level <= settings.stages
-        && same_cut(d.cut, parent.cut.rotate())
+        && d.cut == parent.cut.rotate()
         && d.size.laid(d.cut).height == parent.size.laid(d.cut).height
 }
 

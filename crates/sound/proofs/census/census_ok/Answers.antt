@@ -7,7 +7,7 @@ use Rattle.std.proofs.Common.{rules}
 use lib.ListN.{length}
 use Rattle.lists.specs.Lists.{limit}
 use Rattle.lists.specs.Search.{every}
-use Rattle.lists.proofs.Fill.{fill_more, fill-all}
+use Rattle.lists.proofs.Fill.{fill_more}
 use Rattle.table.specs.Table.{zero_node}
 use Rattle.table.specs.Columns.{area_of, serial_of}
 use Rattle.sound.specs.Columns.{areas_of, serials_of, kinds_of}
