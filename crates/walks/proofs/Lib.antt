@@ -5,6 +5,7 @@ mod UsageSteps
 pub mod Meaning
 mod Following
 pub mod Entries
+mod OfNodes
 mod NodeBytes
 mod Everywhere
 pub mod Along

@@ -2,11 +2,14 @@
 // values with those of its children, and its `from_node`; document 01, "Tree snapshot", says the bytes.
 ghost use Rattle.std.specs.Prelude.{◌≡◌, [], ◌+◌, ◌≤◌, ◌<◌, length};
 ghost use Rattle.std.proofs.lemmas.List.Edits.{sets};
+ghost use Rattle.piece.specs.Numbers.{cut_no, kind_no};
 ghost use Rattle.tree.specs.Snapshot.{two_then, four_then};
 ghost use Rattle.lists.specs.Lists.{limit};
-ghost use Rattle.walks.specs.Snapshot.{bytes_of_node, bytes_at, snapshot_of};
+ghost use Rattle.walks.specs.Snapshot.{bytes_of_node};
+ghost use Rattle.walks.specs.Columns.{columns_of, snapshot_in};
 
-use table::{LIMIT, NONE};
+use piece::node::Datum;
+use table::{LIMIT, NONE, Node};
 
 // The two bytes of a number, the highest first.
 pub fn put_two(v: u16, out: &mut [u8], at: usize)
@@ -34,90 +37,41 @@ pub fn put_four(v: u32, out: &mut [u8], at: usize)
 pub const NODE: usize = 14;
 
 // "level, kind .., cut .., part number 2, width 4, height 4, highest byte first", and what was eaten behind it.
-fn put_node(
-    level: u8,
-    kind: u8,
-    cut: u8,
-    number: u16,
-    width: u32,
-    height: u32,
-    eaten: u8,
-    out: &mut [u8],
-    at: usize,
-)
+fn put_node(d: Datum, out: &mut [u8], at: usize)
     requires { at + 14 ≤ length out.old }
-    ensures { out.new ≡ sets out.old at (bytes_of_node level kind cut number width height eaten) }
+    ensures { out.new
+        ≡ sets out.old at (bytes_of_node d.level (kind_no d.kind) (cut_no d.cut) d.number d.size.width d.size.height d.eaten) }
 {
-    out[at] = level;
-    out[at + 1] = kind;
-    out[at + 2] = cut;
-    put_two(number, out, at + 3);
-    put_four(width, out, at + 5);
-    put_four(height, out, at + 9);
-    out[at + 13] = eaten;
+    out[at] = d.level;
+    out[at + 1] = d.kind.number();
+    out[at + 2] = d.cut.number();
+    put_two(d.number, out, at + 3);
+    put_four(d.size.width, out, at + 5);
+    put_four(d.size.height, out, at + 9);
+    out[at + 13] = d.eaten;
 }
 
 // Writes the nodes of the subtree of x into `out`, from `at` on, and gives the index past the last byte: the node's own bytes, and then those of
 // each child's subtree, by calling itself ("each node before its children's subtrees, these in order"). What is behind them stays. `left`, the
 // most nodes that there can be in the subtree, falls from each call to the next, so that the walk ends whatever the links are.
-pub fn put_subtree<'a>(
-    first: &'a [u16; LIMIT],
-    next: &'a [u16; LIMIT],
-    level: &'a [u8; LIMIT],
-    kind: &'a [u8; LIMIT],
-    cut: &'a [u8; LIMIT],
-    number: &'a [u16; LIMIT],
-    width: &'a [u32; LIMIT],
-    height: &'a [u32; LIMIT],
-    eaten: &'a [u8; LIMIT],
-    x: u16,
-    left: usize,
-    out: &mut [u8],
-    at: usize,
-) -> usize
-    requires { (x < limit)
-        × (at + length (snapshot_of limit first.now next.now
-        (bytes_at level.now kind.now cut.now number.now width.now height.now eaten.now) left x) ≤ length out.old) }
-    ensures written { out.new
-        ≡ sets out.old at (snapshot_of limit first.now next.now
-        (bytes_at level.now kind.now cut.now number.now width.now
-        height.now eaten.now) left x) }
-    ensures counted { result ≡ at + length (snapshot_of limit first.now next.now
-        (bytes_at level.now kind.now cut.now number.now width.now
-        height.now eaten.now) left x) }
+pub fn put_subtree(nodes: &[Node; LIMIT], x: u16, left: usize, out: &mut [u8], at: usize) -> usize
+    requires { (x < limit) × (at + length (snapshot_in limit (columns_of nodes.now) left x) ≤ length out.old) }
+    ensures written { out.new ≡ sets out.old at (snapshot_in limit (columns_of nodes.now) left x) }
+    ensures counted { result ≡ at + length (snapshot_in limit (columns_of nodes.now) left x) }
 {
     if left == 0 {
         return at;
     }
-    let i = x as usize;
-    put_node(
-        level[i], kind[i], cut[i], number[i], width[i], height[i], eaten[i], out, at,
-    );
+    let own = nodes[x as usize];
+    put_node(own.datum, out, at);
     let mut k = at + NODE;
-    let mut c = first[i];
-    let mut turns = left - 1;
-    while 0 < turns {
+    let mut c = own.first;
+    for _turn in 1..left {
         if NONE <= c {
             break;
         }
-        k = put_subtree(
-            first,
-            next,
-            level,
-            kind,
-            cut,
-            number,
-            width,
-            height,
-            eaten,
-            c,
-            left - 1,
-            out,
-            k,
-        );
-        let here = c as usize;
-        c = next[here];
-        turns -= 1;
+        k = put_subtree(nodes, c, left - 1, out, k);
+        c = nodes[c as usize].next;
     }
     k
 }
