@@ -24,10 +24,8 @@ use Rattle.tree.proofs.Usage.{sheet-small}
 use Rattle.tree.proofs.Laws.AreaConserved.{area-conserved}
 use Rattle.table.specs.declared.Node.{Node}
 use Rattle.table.specs.Table.{zero_node, at, Holds}
-use Rattle.walks.specs.Usage.{usage_along}
 use Rattle.walks.specs.Inner.{Small}
-use Rattle.walks.specs.Columns.{usage_in, columns_of}
-use Rattle.walks.specs.declared.columns.Columns.{Columns}
+use Rattle.walks.specs.Columns.{kinds_of, areas_of, usage_in}
 use Rattle.walks.proofs.Meaning.{usage-top, small}
 use Rattle.sound.specs.Listed.{area_listed}
 use Rattle.sound.proofs.Worth.{holds-free-area}
@@ -104,17 +102,14 @@ module _ (l : Layout) (s : SoundLayout l) where
       place-each P zero l.nodes (tree l) s.holds (readable-each P says 0 (tree l) (sound-readable (tree l) s.sound))
 
   -- over the columns of the table
-  module _ (c : Columns) (e : c ≡ columns_of l.nodes) where
-    pub areas-small : Small c.area
-    areas-small =
-        rw e
-        (small limit l.nodes
-        (each-place (λ d. area d.size < 2 ^ 52) (omega arith) (λ k d w. area_small d.size w.small.width w.small.height)))
+  pub areas-small : Small (areas_of l.nodes)
+  areas-small =
+      small limit l.nodes
+      (each-place (λ d. area d.size < 2 ^ 52) (omega arith) (λ k d w. area_small d.size w.small.width w.small.height))
 
-    pub free-area-is : area_listed 0 c.kind c.area limit ≡ free_area (tree l)
-    free-area-is = rw e (holds-free-area limit l.nodes (tree l) s.holds)
+  pub free-area-is : area_listed 0 (kinds_of l.nodes) (areas_of l.nodes) limit ≡ free_area (tree l)
+  free-area-is = holds-free-area limit l.nodes (tree l) s.holds
 
-    -- the walk from the top, with the nodes held as fuel
-    pub usage-is : usage_along limit c.first c.next c.kind c.area l.held 0 ≡ tree_usage (tree l)
-    usage-is =
-        rw e (top-usage l.settings l.nodes (tree l) s.sound.topped s.holds l.held (omega (arith, s.held)))
+  -- the walk from the top, with the nodes held as fuel
+  pub usage-is : usage_in limit l.nodes l.held 0 ≡ tree_usage (tree l)
+  usage-is = top-usage l.settings l.nodes (tree l) s.sound.topped s.holds l.held (omega (arith, s.held))

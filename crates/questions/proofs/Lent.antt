@@ -16,7 +16,6 @@ use Rattle.tree.specs.Sound.{Sound}
 use Rattle.tree.specs.Removal.{subtree}
 use Rattle.tree.specs.Snapshot.{snapshot}
 use Rattle.lists.specs.Lists.{entries}
-use Rattle.walks.specs.declared.columns.Columns.{Columns}
 use Rattle.walks.specs.Columns.{columns_of, snapshot_in}
 use Rattle.walks.specs.Along.{below, numbers_along}
 use Rattle.walks.specs.Inner.{Placed}
@@ -59,10 +58,6 @@ top-whole : {limit : ℕ} {settings : Settings} (w : Tree) → Sound limit setti
 top-whole nil s = absurd s.topped
 top-whole (grow p d k r) s = rw (eq-eqb p 0 s.topped.0.place, s.topped.0.alone) refl
 
--- what is written down the tree from place 0, over columns
-abbrev pub written : Layout → Columns → List ℕ
-written l c = snapshot_in limit c l.held 0
-
 module _ (l : Layout) (s : SoundLayout l) where
   pub held-room : l.held ≤ limit
   held-room = omega (arith, s.held, s.sound.room)
@@ -71,12 +66,11 @@ module _ (l : Layout) (s : SoundLayout l) where
   unfolding snapshot_bytes
   bytes-length = length-snapshot (tree l) ∙ rw s.held refl
 
-  -- is the snapshot
-  pub written_is : {c : Columns} → c ≡ columns_of l.nodes → written l c ≡ snapshot_bytes l
+  -- what is written down the tree from place 0 is the snapshot
+  pub written_is : snapshot_in limit (columns_of l.nodes) l.held 0 ≡ snapshot_bytes l
   unfolding snapshot_bytes
-  written_is e =
-      ap (written l) e
-      ∙ snapshot-subtree limit l.nodes (tree l) 0 l.held s.holds (top_in (tree l) s.sound) (omega (arith, s.held))
+  written_is =
+      snapshot-subtree limit l.nodes (tree l) 0 l.held s.holds (top_in (tree l) s.sound) (omega (arith, s.held))
       ∙ ap snapshot (top-whole (tree l) s.sound)
 
 -- ---- the part numbers

@@ -7,7 +7,6 @@ use crate::replies::{AreaAnswer, CountAnswer, EmptyAnswer, UsageAnswer};
 use layout::layout::Layout;
 use marks::Refusal;
 use sound::listed::free_sum;
-use walks::columns::columns_of;
 use walks::usage::usage_of;
 
 pub fn used_area(layout: Layout) -> AreaAnswer
@@ -27,11 +26,7 @@ pub fn free_area(layout: Layout) -> AreaAnswer
     if layout.sound() {} else {
         return AreaAnswer::Refused(Refusal::NotSound);
     }
-    let nodes = layout.nodes;
-    let c = columns_of(nodes);
-    let kind = c.kind;
-    let area = c.area;
-    AreaAnswer::Area(free_sum(&kind, &area))
+    AreaAnswer::Area(free_sum(&layout.nodes))
 }
 
 // What the saw's blade has eaten: the strip behind each piece.
@@ -74,14 +69,7 @@ pub fn tree_usage(layout: Layout) -> UsageAnswer
     if layout.sound() {} else {
         return UsageAnswer::Refused(Refusal::NotSound);
     }
-    let nodes = layout.nodes;
-    let c = columns_of(nodes);
-    let first = c.first;
-    let next = c.next;
-    let kind = c.kind;
-    let area = c.area;
-    let held = layout.held as usize;
-    UsageAnswer::Usage(usage_of(&first, &next, &kind, &area, 0, held))
+    UsageAnswer::Usage(usage_of(&layout.nodes, 0, layout.held as usize))
 }
 
 // No on every sound layout: the top has a child.

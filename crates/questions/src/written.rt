@@ -7,7 +7,6 @@ use crate::replies::CountAnswer;
 use layout::layout::Layout;
 use marks::Refusal;
 use table::LIMIT;
-use walks::columns::columns_of;
 use walks::numbers::{count_numbers, every_place, put_numbers};
 use walks::snapshot::{NODE, put_subtree};
 
@@ -24,12 +23,7 @@ pub fn snapshot(layout: Layout, out: &mut [u8]) -> CountAnswer
     if out.len() < bytes {
         return CountAnswer::Refused(Refusal::BufferTooShort);
     }
-    let nodes = layout.nodes;
-    let c = columns_of(nodes);
-    put_subtree(
-        &c.first, &c.next, &c.level, &c.kind, &c.cut, &c.number, &c.width, &c.height, &c.eaten, 0,
-        held, out, 0,
-    );
+    put_subtree(&layout.nodes, 0, held, out, 0);
     CountAnswer::Count(bytes as u16)
 }
 

@@ -1,9 +1,10 @@
 // The clauses on the two lists and on the sums, over columns of the table.
 ghost use Rattle.std.specs.Prelude.{◌≡◌, ℕ, ◌<◌, ◌≤◌, ◌^◌, get_or};
 ghost use Rattle.lists.specs.Lists.{limit};
+ghost use Rattle.table.specs.Columns.{areas_of, kinds_of};
 ghost use Rattle.sound.specs.Listed.{area_listed, before, sorted_b};
 
-use table::LIMIT;
+use table::{LIMIT, Node};
 
 // Whether the piece at p comes before the one at q: greatest area first, equal areas by rising serial.
 fn is_before(area: &[u64; LIMIT], serial: &[u32; LIMIT], p: u16, q: u16) -> bool
@@ -34,17 +35,15 @@ pub fn is_sorted(
 }
 
 // The area of the free pieces, where it is known to be small.
-pub fn free_sum<'a>(kind: &'a [u8; LIMIT], area: &'a [u64; LIMIT]) -> u64
-    requires { area_listed 0 kind.now area.now limit < 2 ^ 52 }
-    ensures { result ≡ area_listed 0 kind.now area.now limit }
+pub fn free_sum(nodes: &[Node; LIMIT]) -> u64
+    requires { area_listed 0 (kinds_of nodes.now) (areas_of nodes.now) limit < 2 ^ 52 }
+    ensures { result ≡ area_listed 0 (kinds_of nodes.now) (areas_of nodes.now) limit }
 {
     let mut sum: u64 = 0;
-    let mut i: usize = 0;
-    while i < LIMIT {
-        if kind[i] == 0 {
-            sum += area[i];
+    for node in nodes {
+        if node.datum.kind.is_free() {
+            sum += node.datum.size.area();
         }
-        i += 1;
     }
     sum
 }

@@ -1,13 +1,13 @@
 -- A column at a place is that field of the node there: what the walks, which read nodes, owe to their definitions, which stand over columns. Assumes
 -- nothing.
-use mathlib.Core.Path.{◌≡◌, refl, ap, ◌∙◌}
+use mathlib.Core.Path.{◌≡◌, refl}
 use mathlib.Core.List.{List, map}
 use Prim.Native.Nat.{ℕ}
 use lib.ListN.{get_or, get_or-map}
 use Rattle.piece.specs.Numbers.{kind_no, cut_no}
 use Rattle.table.specs.declared.Node.{Node}
 use Rattle.table.specs.Table.{zero_node, at}
-use Rattle.table.specs.Columns.{first_of, next_of, kind_no_of, area_of}
+use Rattle.table.specs.Columns.{kind_no_of}
 use Rattle.walks.specs.Snapshot.{bytes_of_node}
 use Rattle.walks.specs.Columns.{level_of, cut_no_of, number_of, width_of, height_of, eaten_of, columns_of, node_bytes_in}
 

@@ -1,4 +1,4 @@
--- `free_area` meets its contract: what the columns add up to is the area of the free pieces, which is small.
+-- `free_area` meets its contract: what the nodes add up to is the area of the free pieces, which is small.
 use mathlib.Core.Path.{ap, ◌∙◌}
 use native.Mathlib.Omega.{arith}
 use Rattle.layout.specs.SoundLayout.{SoundLayout}
@@ -22,10 +22,10 @@ pub free_sum-requires : goal.free_sum-requires
 free_sum-requires c =
     let l = c.args.layout in
     let s = sound-here (goal.at.free_sum-requires c).Then-sound in
-    omega (arith, free-area-is l s c.columns_of-c.result c.columns_of-c.ensures, free-small l s)
+    omega (arith, free-area-is l s, free-small l s)
 
 pub returns : goal.returns
 unfolding free_area_of
 returns c =
-    let e = free-area-is c.args.layout (sound-here (goal.at.returns c).Then-sound) c.columns_of-c.result c.columns_of-c.ensures in
+    let e = free-area-is c.args.layout (sound-here (goal.at.returns c).Then-sound) in
     answered _ c.sound.ensures c.if-sound.true (ap Area (c.free_sum.ensures ∙ e))

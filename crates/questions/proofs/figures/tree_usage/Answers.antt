@@ -1,4 +1,4 @@
--- `tree_usage` meets its contract: the walk over the columns from the top finds the usage of the tree.
+-- `tree_usage` meets its contract: the walk over the nodes from the top finds the usage of the tree.
 use mathlib.Core.Path.{ap, ◌∙◌}
 use native.Mathlib.Omega.{arith}
 use Rattle.layout.specs.SoundLayout.{SoundLayout}
@@ -20,10 +20,10 @@ sound-here c =
 
 pub usage_of-requires : goal.usage_of-requires
 usage_of-requires c =
-    (omega arith, areas-small c.args.layout (sound-here (goal.at.usage_of-requires c).Then-sound) c.columns_of-c.result c.columns_of-c.ensures)
+    (omega arith, areas-small c.args.layout (sound-here (goal.at.usage_of-requires c).Then-sound))
 
 pub returns : goal.returns
 unfolding tree_usage_of
 returns c =
-    let e = usage-is c.args.layout (sound-here (goal.at.returns c).Then-sound) c.columns_of-c.result c.columns_of-c.ensures in
+    let e = usage-is c.args.layout (sound-here (goal.at.returns c).Then-sound) in
     answered _ c.sound.ensures c.if-sound.true (ap Usage (c.usage_of.ensures ∙ e))

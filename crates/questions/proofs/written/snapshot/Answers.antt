@@ -11,7 +11,7 @@ use Rattle.layout.proofs.Typed.{typed-sized}
 use Rattle.questions.specs.Written.{snapshot_bytes}
 use Rattle.questions.proofs.Lent.{not_sound, too_short, done, held-room, bytes-length, written_is}
 use Rattle.questions.proofs.written.snapshot.Goals as goal
-use Rattle.questions.proofs.written.snapshot.Goals.{After-columns_of-c, After-put_subtree-arg-10-1, Else-out-bytes, Then-sound}
+use Rattle.questions.proofs.written.snapshot.Goals.{Then-sound}
 
 -- past the first test
 checked : (c : Then-sound) → sound_b c.args.layout ≡ true
@@ -32,7 +32,7 @@ returns-then-out-bytes c =
 pub put_subtree-requires : goal.put_subtree-requires
 put_subtree-requires c =
     let l = c.args.layout in
-    (omega arith, omega (arith, ap length (written_is l (stands (goal.at.put_subtree-requires c).Then-sound) c.columns_of-c.ensures), bytes-length l (stands (goal.at.put_subtree-requires c).Then-sound), c.if-out-bytes.false))
+    (omega arith, omega (arith, ap length (written_is l (stands (goal.at.put_subtree-requires c).Then-sound)), bytes-length l (stands (goal.at.put_subtree-requires c).Then-sound), c.if-out-bytes.false))
 
 pub overflow_cast-result : goal.overflow_cast-result
 overflow_cast-result c =
@@ -43,4 +43,4 @@ returns c =
     let a = c.args in
     let l = a.layout in
     let n = bytes-length l (stands (goal.at.returns c).Then-sound) in let gives = done l (snapshot_bytes l) a.out.now (checked (goal.at.returns c).Then-sound) (omega (arith, n, c.if-out-bytes.false)) (omega (arith, n))
-    (c.put_subtree.ensures.written ∙ ap (sets a.out.now 0) (written_is l (stands (goal.at.returns c).Then-sound) c.columns_of-c.ensures)) in record { answer = gives.0; written = gives.1 }
+    (c.put_subtree.ensures.written ∙ ap (sets a.out.now 0) (written_is l (stands (goal.at.returns c).Then-sound))) in record { answer = gives.0; written = gives.1 }

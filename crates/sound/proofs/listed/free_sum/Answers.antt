@@ -1,35 +1,59 @@
--- The sum after i places is `area_listed` of these, and no more than that of all.
-use mathlib.Core.Path.{◌≡◌, sym}
-use Prim.Native.Nat.{◌+◌}
+-- The sum after so many nodes is `area_listed` of these, and no more than that of all.
+use mathlib.Core.Path.{◌≡◌, refl, sym}
+use mathlib.Core.Bool.{Bool, cond}
+use mathlib.Core.List.{List}
+use Prim.Native.Nat.{ℕ, ◌+◌}
+use native.Mathlib.Numerals.{add-one}
 use native.Mathlib.Omega.{arith}
+use lib.Dec.{eqb}
+use Rattle.piece.specs.declared.node.Kind.{Kind}
+use Rattle.piece.specs.declared.node.Kind.TheVariants.{Free, Part, Structure}
+use Rattle.piece.specs.Kinds.{is_free}
+use Rattle.piece.specs.Numbers.{kind_no}
+use Rattle.piece.specs.Sides.{area}
 use Rattle.lists.specs.Lists.{limit}
+use Rattle.table.specs.declared.Node.{Node}
+use Rattle.table.specs.Table.{at}
+use Rattle.table.specs.Columns.{kinds_of, areas_of}
 use Rattle.sound.specs.Listed.{area_listed}
-use Rattle.sound.proofs.Sums.{area-none, area-here, area-pass, area-grows}
+use Rattle.sound.proofs.Sums.{area-none, area-grows}
+use Rattle.sound.proofs.Worth.{kind_at, area-at}
 use Rattle.sound.proofs.listed.free_sum.Goals as goal
-use Rattle.sound.proofs.listed.free_sum.Goals.{else-kind-i-eq0, then-kind-i-eq0}
+use Rattle.sound.proofs.listed.free_sum.Goals.{else-is_free, then-is_free}
+
+free-no : (k : Kind) → eqb (kind_no k) 0 ≡ is_free k
+free-no Free = refl
+free-no Part = refl
+free-no Structure = refl
+
+-- the sum of one node more
+next : (t : List Node) (i : ℕ) {b : Bool} → b ≡ is_free (at t i).datum.kind
+    → area_listed 0 (kinds_of t) (areas_of t) (i + 1) ≡ area_listed 0 (kinds_of t) (areas_of t) i + cond b (area (at t i).datum.size) 0
+unfolding area_listed
+next t i e = rw (e, add-one i, kind_at t i, area-at t i, free-no (at t i).datum.kind) refl
 
 pub overflow_add-sum : goal.overflow_add-sum
 overflow_add-sum c =
-    let l = c.loop-i in
-    let k = c.args.kind.now in
-    let a = c.args.area.now in
-    omega (arith, c.requires, area-grows 0 k a limit (l.i + 1) (omega arith), area-here 0 k a l.i c.if-kind-i-eq0.true)
+    let l = c.loop-node in
+    let t = c.args.nodes.now in
+    omega (
+      arith,
+      c.requires,
+      area-grows 0 (kinds_of t) (areas_of t) limit (l.node-index + 1) (omega arith),
+      rw c.if-is_free.true at (next t l.node-index c.is_free.ensures),
+    )
 
-pub loop-i-preserved : goal.loop-i-preserved
-loop-i-preserved c =
-    let l = c.loop-i in
-    let k = c.args.kind.now in
-    let a = c.args.area.now in
-    let more : c.if-kind-i-eq0.sum ≡ area_listed 0 k a (l.i + 1) = elim c.if-kind-i-eq0.branch [ then-kind-i-eq0 w ↦ omega (arith, w.sum-is, area-here 0 k a l.i w.if-kind-i-eq0.true) | else-kind-i-eq0 w ↦ omega (arith, w.sum-is, area-pass 0 k a l.i w.if-kind-i-eq0.false) ]
-    in
-    (omega arith, more)
+pub loop-node-preserved : goal.loop-node-preserved
+loop-node-preserved c =
+    let l = c.loop-node in
+    let t = c.args.nodes.now in
+    let n = next t l.node-index c.is_free.ensures in
+    elim c.if-is_free.branch [ then-is_free w ↦ omega (arith, w.sum-is, w.area-sum.ensures, rw w.if-is_free.true at n) | else-is_free w ↦ omega (arith, w.sum-is, rw w.if-is_free.false at n) ]
 
 pub returns : goal.returns
 returns c =
-    let l = c.loop-i in
-    let full : l.i ≡ limit = omega arith in
-    rw full at l.invariant.1
+    let full : c.loop-node.node-index ≡ limit = omega arith in
+    rw full at c.loop-node.invariant
 
-pub loop-i-init : goal.loop-i-init
-loop-i-init c =
-    (omega arith, sym (area-none 0 c.args.kind.now c.args.area.now))
+pub loop-node-init : goal.loop-node-init
+loop-node-init c = sym (area-none 0 (kinds_of c.args.nodes.now) (areas_of c.args.nodes.now))

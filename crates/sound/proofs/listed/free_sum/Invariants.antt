@@ -1,12 +1,8 @@
--- The sum after i places is `area_listed` of these, and no more than that of all.
+-- The sum after so many nodes is `area_listed` of these.
 use mathlib.Core.Path.{◌≡◌}
-use Prim.Native.Nat.{◌-◌, ◌≤◌}
-use Rattle.lists.specs.Lists.{limit}
+use Rattle.table.specs.Columns.{kinds_of, areas_of}
 use Rattle.sound.specs.Listed.{area_listed}
 use Rattle.sound.proofs.listed.free_sum.Given as goal
 
-abbrev pub invariant-loop-i : goal.invariant-loop-i
-invariant-loop-i l = (l.i ≤ limit) × (l.sum ≡ area_listed 0 l.kind l.area l.i)
-
-abbrev pub decreases-loop-i : goal.decreases-loop-i
-decreases-loop-i l = limit - l.i
+abbrev pub invariant-loop-node : goal.invariant-loop-node
+invariant-loop-node l = l.sum ≡ area_listed 0 (kinds_of l.nodes) (areas_of l.nodes) l.node-index

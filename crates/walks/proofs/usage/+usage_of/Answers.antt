@@ -1,11 +1,10 @@
 -- `walks::usage::usage_of` meets its contract: by the kind, and else by the sum. UsageSteps has the steps. Assumes nothing.
 use mathlib.Core.Path.{◌≡◌, refl, sym, ap, ◌∙◌}
 use mathlib.Core.List.{List, []}
-use Prim.Native.Nat.{ℕ, ◌+◌, ◌-◌, ◌<◌, ◌≤◌, ◌^◌}
+use Prim.Native.Nat.{ℕ, ◌+◌, ◌-◌, ◌<◌}
 use native.Mathlib.Omega.{arith}
 use lib.Dec.{T}
 use lib.IntN.{pos}
-use lib.ListN.{get_or}
 use lib.Ieee.{Float, binary64, add, mul, div, in_float}
 use Rattle.piece.specs.Numbers.{kind_no}
 use Rattle.tree.specs.Figures.{nought, whole}
