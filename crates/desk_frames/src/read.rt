@@ -120,17 +120,15 @@ fn asked_by(op: u8, b: &[u8; 32]) -> DeskRequest
 pub fn request(line: &[u8]) -> DeskRequest
     ensures { result ≡ desk_request_of line.now }
 {
-    let given = frame_in(line);
-    if given.good {} else {
+    let Some(frame) = frame_in(line) else {
         return no();
-    }
-    let bytes = given.bytes;
-    let op = bytes[0];
-    if own(op) {} else {
+    };
+    let op = frame.bytes[0];
+    if !own(op) {
         return DeskRequest::AtCounter(frames::read::request(line));
     }
-    if given.count != length_of(op) {
+    if frame.count != length_of(op) {
         return no();
     }
-    asked_by(op, &bytes)
+    asked_by(op, &frame.bytes)
 }

@@ -1,5 +1,5 @@
 -- The turns of the loop in `read::decode`.
-use Rattle.std.proofs.Common.{◌≡◌, ℕ, suc, ◌+◌, ◌*◌, ◌/◌, ◌%◌, ◌^◌, ◌<◌, ◌≤◌, Bool, true, false, List, [], ◌∷◌, ◌++◌, length, get_or, take, drop, set, replicate, sym, refl, ap, ◌∙◌, add-one, arith, length-take-le, take_all, take-suc, le-ltb, lt-ltb}
+use Rattle.std.proofs.Common.{◌≡◌, ℕ, suc, ◌+◌, ◌*◌, ◌/◌, ◌%◌, ◌^◌, ◌<◌, ◌≤◌, true, false, Some, None, List, [], ◌∷◌, ◌++◌, length, get_or, take, drop, set, replicate, sym, refl, ap, ◌∙◌, add-one, arith, length-take-le, take_all, take-suc, le-ltb, lt-ltb}
 use lib.Seq.{split_at}
 use Rattle.hexadecimal.specs.Hex.{pair_of}
 use Rattle.frames.specs.Bytes.{pairs, all_bytes, total}
@@ -48,26 +48,22 @@ module _ (line bytes : List ℕ) (sum i : ℕ) (r : Read line bytes sum i) (more
       digits = ap all_bytes taken ∙ all_append (take i (pairs line)) (b ∷ []) ∙ simp (r.digits, lt-ltb b 256 small);
     }
 
-    pub no-digits : 256 ≤ b → all_bytes (pairs line) ≡ false
-    unfolding all_bytes
-    no-digits large =
-        ap all_bytes (split_at (pairs line) i 0 inside)
-        ∙ all_append (take i (pairs line)) (get_or (pairs line) i 0 ∷ drop (suc i) (pairs line))
-        ∙ simp (r.digits, here, le-ltb b 256 large)
+  pub no-digits : 256 ≤ pair_of (get_or line (i * 2) 0) (get_or line (i * 2 + 1) 0) → all_bytes (pairs line) ≡ false
+  unfolding all_bytes
+  no-digits large =
+      ap all_bytes (split_at (pairs line) i 0 inside)
+      ∙ all_append (take i (pairs line)) (get_or (pairs line) i 0 ∷ drop (suc i) (pairs line))
+      ∙ simp (r.digits, pair-at line i more, le-ltb (pair_of (get_or line (i * 2) 0) (get_or line (i * 2 + 1) 0)) 256 large)
 
-no : ◌≡◌ {A = Bool} false true → ⊥
-no t = let z : ◌≡◌ {A = ℕ} 0 1 = cc in omega arith
-
-pub not-decoded : (line bytes : List ℕ) (sum : ℕ) → all_bytes (pairs line) ≡ false
-    → Decodes line (record { bytes = bytes; sum = sum; good = false })
-not-decoded line bytes sum e = record { good = sym e; bytes = λ t. absurd (no t); sum = λ t. absurd (no t) }
+pub not-decoded : (line : List ℕ) → all_bytes (pairs line) ≡ false → Decodes line None
+not-decoded line e = record { good = sym e; bytes = tt; sum = tt }
 
 pub decoded : (line bytes : List ℕ) (sum i : ℕ) → Read line bytes sum i → length line / 2 ≤ i
-    → Decodes line (record { bytes = bytes; sum = sum; good = true })
+    → Decodes line (Some (record { bytes = bytes; sum = sum }))
 decoded line bytes sum i r h =
     let all : take i (pairs line) ≡ pairs line = take_all i (pairs line) (omega (arith, length_pairs line)) in
     record {
       good = sym (ap all_bytes (sym all) ∙ r.digits);
-      bytes = λ t. r.stored ∙ ap padded_bytes all;
-      sum = λ t. r.added ∙ ap (λ (l : List ℕ). total l % 256) all;
+      bytes = r.stored ∙ ap padded_bytes all;
+      sum = r.added ∙ ap (λ (l : List ℕ). total l % 256) all;
     }

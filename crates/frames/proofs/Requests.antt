@@ -1,6 +1,6 @@
 -- What `read::frame_in` finds at each exit, over any line; and what a reader that goes by a table of forms answers at each of its own, over any table: the
 -- counter's (`read::request`) and the desk's go by it. And bytes ask the same with zeros after them.
-use Rattle.std.proofs.Common.{◌≡◌, ℕ, zero, suc, ◌+◌, ◌/◌, ◌%◌, ◌<◌, ◌≤◌, Bool, true, false, ◌&&◌, eqb, leb, List, [], ◌∷◌, ◌++◌, length, get_or, drop, replicate, sym, refl, ap, ◌∙◌, arith, get_or-drop, eq-eqb, ne_eqb, le-leb, leb-true}
+use Rattle.std.proofs.Common.{◌≡◌, ℕ, zero, suc, ◌+◌, ◌/◌, ◌%◌, ◌<◌, ◌≤◌, Bool, true, false, Some, None, ◌&&◌, eqb, leb, List, [], ◌∷◌, ◌++◌, length, get_or, drop, replicate, sym, refl, ap, ◌∙◌, arith, get_or-drop, eq-eqb, ne_eqb, le-leb, leb-true}
 use lib.Seq.{sets-eq}
 use borrow.Author.Tests.{lt-leb}
 use Rattle.frames.specs.declared.read.Frame.{Frame}
@@ -59,15 +59,12 @@ module _ (line : List ℕ) where
       let short = leb-true (length line) 64 (first-true (leb (length line) 64) rest h) in
       omega (arith, length_pairs line)
 
-no : ◌≡◌ {A = Bool} false true → ⊥
-no t = let z : ◌≡◌ {A = ℕ} 0 1 = cc in omega arith
-
-pub reads_none : {line : List ℕ} {f : Frame} → f.good ≡ false → is_frame line ≡ false → ReadsFrame line f
-reads_none {line} {f} g e = record { good = g ∙ sym e; bytes = λ t. absurd (no (sym g ∙ t)); count = λ t. absurd (no (sym g ∙ t)) }
+pub reads_none : {line : List ℕ} → is_frame line ≡ false → ReadsFrame line None
+reads_none e = record { good = sym e; bytes = tt; count = tt }
 
 pub reads-one : {line bytes : List ℕ} → is_frame line ≡ true → bytes ≡ padded_bytes (pairs line)
-    → ReadsFrame line (record { bytes = bytes; count = length line / 2; good = true })
-reads-one {line} e b = record { good = sym e; bytes = λ t. b; count = λ t. sym (length_pairs line) }
+    → ReadsFrame line (Some (record { bytes = bytes; count = length line / 2 }))
+reads-one {line} e b = record { good = sym e; bytes = b; count = sym (length_pairs line) }
 
 -- ---- the exits of a reader that goes by a table of forms, and says what is bad where a line is malformed
 module _ {A : Type 0} (bad : A) (forms : ℕ → Form A) (line : List ℕ) where
@@ -75,15 +72,15 @@ module _ {A : Type 0} (bad : A) (forms : ℕ → Form A) (line : List ℕ) where
   read_same : (x b : List ℕ) → ((i : ℕ) → get_or x i 0 ≡ get_or b i 0) → (f : Form A) → read_by bad f x ≡ read_by bad f b
   read_same x b same f = ap (made_by bad f) (values_same x b same f.fields 1)
 
-  pub no-frame : is_frame line ≡ false → bad ≡ line_asks bad forms line
-  no-frame h = rw h refl
+  pub no-frame : ReadsFrame line None → bad ≡ line_asks bad forms line
+  no-frame r = rw (sym r.good) refl
 
-  module _ {f : Frame} (r : ReadsFrame line f) (good : f.good ≡ true) where
+  module _ {f : Frame} (r : ReadsFrame line (Some f)) where
     is-frame : is_frame line ≡ true
-    is-frame = sym r.good ∙ good
+    is-frame = sym r.good
 
     held : (i : ℕ) → get_or f.bytes i 0 ≡ get_or (pairs line) i 0
-    held i = ap (λ (l : List ℕ). get_or l i 0) (r.bytes good) ∙ held_at (pairs line) (short-bytes line is-frame) i
+    held i = ap (λ (l : List ℕ). get_or l i 0) (r.bytes) ∙ held_at (pairs line) (short-bytes line is-frame) i
 
     pub op-read : get_or f.bytes 0 0 ≡ op_in line
     op-read = held 0
@@ -93,12 +90,12 @@ module _ {A : Type 0} (bad : A) (forms : ℕ → Form A) (line : List ℕ) where
 
     pub wrong-length : (f.count ≡ form_length (forms (get_or f.bytes 0 0)) → ⊥) → bad ≡ line_asks bad forms line
     wrong-length h =
-        let not : length (pairs line) ≡ form_length (forms (op_in line)) → ⊥ = λ e. h (r.count good ∙ e ∙ sym length-is) in
+        let not : length (pairs line) ≡ form_length (forms (op_in line)) → ⊥ = λ e. h (r.count ∙ e ∙ sym length-is) in
         rw (is-frame, ne_eqb (length (pairs line)) (form_length (forms (op_in line))) not) refl
 
     pub well : f.count ≡ form_length (forms (get_or f.bytes 0 0)) → read_by bad (forms (get_or f.bytes 0 0)) f.bytes ≡ line_asks bad forms line
     well h =
-        let yes : length (pairs line) ≡ form_length (forms (op_in line)) = sym (r.count good) ∙ h ∙ length-is in
+        let yes : length (pairs line) ≡ form_length (forms (op_in line)) = sym (r.count) ∙ h ∙ length-is in
         ap (λ (op : ℕ). read_by bad (forms op) f.bytes) op-read
         ∙ read_same f.bytes (pairs line) held (forms (op_in line))
         ∙ sym (rw (is-frame, eq-eqb (length (pairs line)) (form_length (forms (op_in line))) yes) refl)

@@ -75,40 +75,26 @@ const REMOVE: usize = FIRST + MARK + CHECK;
 
 pub const BARE: usize = FIRST + CHECK;
 
-// The bytes of a line, zero past the last; their sum, counting past 255 from 0 again; and whether all characters are digits.
+// The bytes of a line, zero past the last; and their sum, counting past 255 from 0 again.
 #[derive(Clone, Copy)]
 struct Decoded {
     bytes: [u8; 32],
     sum: u8,
-    good: bool,
 }
 
-fn decode(line: &[u8]) -> Decoded
+// None, where a character is no digit.
+fn decode(line: &[u8]) -> Option<Decoded>
     requires { length line.now ≤ 64 }
     ensures { Decodes line.now result }
 {
     let mut bytes = [0u8; 32];
     let mut sum: u8 = 0;
-    let mut i: usize = 0;
-    while i < line.len() / 2 {
-        let pair = hexadecimal::byte(line[i * 2], line[i * 2 + 1]);
-        if hexadecimal::NO_BYTE <= pair {
-            return Decoded {
-                bytes,
-                sum,
-                good: false,
-            };
-        }
-        let byte = pair as u8;
+    for i in 0..line.len() / 2 {
+        let byte = hexadecimal::byte(line[i * 2], line[i * 2 + 1])?;
         bytes[i] = byte;
-        sum = std::num::wrapping_add_u8(sum, byte);
-        i += 1;
+        sum = sum.wrapping_add(byte);
     }
-    Decoded {
-        bytes,
-        sum,
-        good: true,
-    }
+    Some(Decoded { bytes, sum })
 }
 
 // Fields, from the byte i on.
@@ -262,62 +248,45 @@ fn asked_by(op: u8, b: &[u8; 32]) -> Request
     }
 }
 
-// A line as the bytes of a frame, its op first, zero past the last; how many there are; and whether it is a frame at all.
+// A line as the bytes of a frame, its op first, zero past the last; and how many there are.
 #[derive(Clone, Copy)]
 pub struct Frame {
     pub bytes: [u8; 32],
     pub count: usize,
-    pub good: bool,
 }
 
-fn no_frame() -> Frame
-    ensures { result.good ≡ false }
-{
-    Frame {
-        bytes: [0u8; 32],
-        count: 0,
-        good: false,
-    }
-}
-
-// The frame in a line, whose newline is not among its characters, whatever its op is.
-pub fn frame_in(line: &[u8]) -> Frame
+// The frame in a line, whose newline is not among its characters, whatever its op is; none, where it is no frame.
+pub fn frame_in(line: &[u8]) -> Option<Frame>
     ensures { ReadsFrame line.now result }
 {
     let n = line.len();
     if LONGEST_LINE < n {
-        return no_frame();
+        return None;
     }
     if n % 2 != 0 {
-        return no_frame();
+        return None;
     }
-    let decoded = decode(line);
-    if decoded.good {} else {
-        return no_frame();
-    }
+    let decoded = decode(line)?;
     if decoded.sum != 0 {
-        return no_frame();
+        return None;
     }
     let bytes = decoded.bytes;
-    Frame {
+    Some(Frame {
         bytes,
         count: n / 2,
-        good: true,
-    }
+    })
 }
 
 // What a line asks.
 pub fn request(line: &[u8]) -> Request
     ensures { result ≡ request_of line.now }
 {
-    let given = frame_in(line);
-    if given.good {} else {
+    let Some(frame) = frame_in(line) else {
+        return Request::Malformed;
+    };
+    let op = frame.bytes[0];
+    if frame.count != length_of(op) {
         return Request::Malformed;
     }
-    let bytes = given.bytes;
-    let op = bytes[0];
-    if given.count != length_of(op) {
-        return Request::Malformed;
-    }
-    asked_by(op, &bytes)
+    asked_by(op, &frame.bytes)
 }

@@ -26,7 +26,7 @@ pub fn put(out: &mut [u8], pen: Pen, byte: u8) -> Pen
     out[at + 1] = hexadecimal::letter(byte % 16);
     Pen {
         at: at + 2,
-        sum: std::num::wrapping_add_u8(pen.sum, byte),
+        sum: pen.sum.wrapping_add(byte),
     }
 }
 
@@ -155,7 +155,7 @@ pub fn end(out: &mut [u8], pen: Pen) -> usize
     requires { pen.at + 3 ≤ length out.old }
     ensures { (result ≡ pen.at + 3) × (out.new ≡ sets out.old pen.at (ending pen.sum)) }
 {
-    let next = put(out, pen, std::num::wrapping_sub_u8(0, pen.sum));
+    let next = put(out, pen, 0u8.wrapping_sub(pen.sum));
     let at = next.at;
     out[at] = b'\n';
     at + 1

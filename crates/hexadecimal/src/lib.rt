@@ -2,45 +2,25 @@
 #![tactic(auto)]
 
 ghost use Rattle.std.specs.Prelude.{◌≡◌, ◌+◌, ◌*◌, ◌<◌};
-ghost use Rattle.hexadecimal.specs.Hex.{digit_of, letter_of, pair_of};
+ghost use Rattle.hexadecimal.specs.Hex.{below, digit_of, letter_of, pair_of};
 
-// What value() answers for a character that is no digit, and byte() for a pair that is no byte.
-pub const NO_DIGIT: u8 = 16;
-
-pub const NO_BYTE: u16 = 256;
-
-// The value of a digit.
-pub fn value(letter: u8) -> u8
-    ensures { result ≡ digit_of letter }
+#[tactic(auto, using(crate::proofs::Pairs::below_all, crate::proofs::Pairs::decimal, crate::proofs::Pairs::between, crate::proofs::Pairs::from_a, crate::proofs::Pairs::above_all))]
+// The value of a digit; none, where the character is no digit.
+pub fn value(letter: u8) -> Option<u8>
+    ensures { result ≡ below 16 (digit_of letter) }
 {
-    if letter < 48 {
-        return NO_DIGIT;
+    match letter {
+        b'0'..=b'9' => Some(letter - b'0'),
+        b'a'..=b'f' => Some(letter - b'a' + 10),
+        _ => None,
     }
-    if letter < 58 {
-        return letter - 48;
-    }
-    if letter < 97 {
-        return NO_DIGIT;
-    }
-    if letter < 103 {
-        return letter - 87;
-    }
-    NO_DIGIT
 }
 
-// The byte that two characters write.
-pub fn byte(high: u8, low: u8) -> u16
-    ensures { result ≡ pair_of high low }
+// The byte that two characters write; none, where one of them is no digit.
+pub fn byte(high: u8, low: u8) -> Option<u8>
+    ensures { result ≡ below 256 (pair_of high low) }
 {
-    let h = value(high);
-    let l = value(low);
-    if 16 <= h {
-        return NO_BYTE;
-    }
-    if 16 <= l {
-        return NO_BYTE;
-    }
-    (h as u16) * 16 + l as u16
+    Some(value(high)? * 16 + value(low)?)
 }
 
 // The character of a digit.

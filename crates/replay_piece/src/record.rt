@@ -13,13 +13,10 @@ pub fn decoded(line: &[u8; 149], n: usize) -> Record {
     }
     let mut i: usize = 0;
     while i < n {
-        let high = line[2 * i];
-        let low = line[2 * i + 1];
-        let b = hexadecimal::byte(high, low);
-        if 256 <= b {
+        let Some(byte) = hexadecimal::byte(line[2 * i], line[2 * i + 1]) else {
             return Record { ok: false, bytes };
-        }
-        bytes[i] = b as u8;
+        };
+        bytes[i] = byte;
         i += 1;
     }
     let end = line[2 * n];

@@ -1,24 +1,16 @@
--- `hexadecimal::byte` meets its contract. Assumes nothing.
-use mathlib.Core.Path.{ap₂, ◌∙◌, subst}
-use Prim.Native.Nat.{ℕ, ◌+◌, ◌*◌, ◌≤◌, ◌<◌}
-use Rattle.hexadecimal.proofs.Pairs.{high-bad, low-bad, both-good}
+-- `hexadecimal::byte` meets its contract: each exit is a case of `below`. Assumes nothing.
+use Rattle.std.proofs.Common.{sym, ◌∙◌}
+use Rattle.hexadecimal.proofs.Pairs.{high-none, low-none, both-some}
 use Rattle.hexadecimal.proofs.byte.Goals as goal
 
-pub returns-then-h-ge16 : goal.returns-then-h-ge16
-returns-then-h-ge16 c =
-    let a = c.args in
-    high-bad a.high a.low (subst (λ (z : ℕ). 16 ≤ z) c.value-h.ensures c.if-h-ge16.true)
+pub returns-in_err-value : goal.returns-in_err-value
+returns-in_err-value c =
+    c.from_residual.ensures ∙ high-none c.args.high c.args.low (sym c.in_err-value.was ∙ c.value.ensures)
 
-pub returns-then-l-ge16 : goal.returns-then-l-ge16
-returns-then-l-ge16 c =
-    let a = c.args in
-    low-bad a.high a.low (subst (λ (z : ℕ). 16 ≤ z) c.value-l.ensures c.if-l-ge16.true)
+pub returns-in_err-value-2 : goal.returns-in_err-value-2
+returns-in_err-value-2 c =
+    c.from_residual-in_err-value-2.ensures ∙ low-none c.args.high c.args.low (sym c.in_err-value-2.was ∙ c.value-2.ensures)
 
 pub returns : goal.returns
 returns c =
-    let a = c.args in
-    let eh = c.value-h.ensures in
-    let el = c.value-l.ensures in
-    ap₂ (λ (x y : ℕ). x * 16 + y) eh el
-    ∙ both-good a.high a.low (subst (λ (z : ℕ). z < 16) eh c.if-h-ge16.false)
-    (subst (λ (z : ℕ). z < 16) el c.if-l-ge16.false)
+    both-some c.args.high c.args.low _ _ (sym c.in_ok-value.was ∙ c.value.ensures) (sym c.in_ok-value-2.was ∙ c.value-2.ensures)

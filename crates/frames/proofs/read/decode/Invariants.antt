@@ -1,10 +1,6 @@
 -- `read::decode` meets its contract. The loop's invariant, `Read`: the first i bytes are stored, added up and all digits. Assumes nothing.
-use Rattle.std.proofs.Common.{◌-◌, ◌/◌, length}
 use Rattle.frames.proofs.Decoding.{Read}
 use Rattle.frames.proofs.read.decode.Given as goal
 
 abbrev pub invariant-loop-i : goal.invariant-loop-i
 invariant-loop-i l = Read l.line l.bytes l.sum l.i
-
-abbrev pub decreases-loop-i : goal.decreases-loop-i
-decreases-loop-i l = length l.line / 2 - l.i

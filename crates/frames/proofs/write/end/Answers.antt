@@ -5,4 +5,4 @@ use Rattle.frames.proofs.write.end.Goals as goal
 
 pub returns : goal.returns
 returns c =
-    end-put c.put-next.ensures c.wrapping_sub_u8.ensures.value (omega arith)
+    end-put c.put-next.ensures (omega arith) (omega arith)

@@ -1,5 +1,5 @@
 -- `write::put` meets its contract. Assumes nothing.
-use Rattle.std.proofs.Common.{arith, length-set}
+use Rattle.std.proofs.Common.{refl, arith, length-set}
 use Rattle.frames.proofs.Writing.{put_one}
 use Rattle.frames.proofs.write.put.Goals as goal
 
@@ -9,4 +9,4 @@ bounds-out-at-2 c =
 
 pub returns : goal.returns
 returns c =
-    put_one _ _ _ _ _ _ c.letter.ensures c.letter-2.ensures c.wrapping_add_u8.ensures.value
+    put_one _ _ _ _ _ _ c.letter.ensures c.letter-2.ensures refl
