@@ -52,6 +52,9 @@ pub held-count : (l : List Offer) → (as_offer_list l).count ≡ length l
 unfolding as_offer_list
 held-count l = refl
 
+pub counted : (piece : Datum) (part : PartType) (settings : Settings) → (as_offer_list (offers_of piece part settings)).count ≤ 4
+counted piece part settings = rw (held-count (offers_of piece part settings)) (offers-few piece part settings)
+
 -- the offers are the list's first entries, as many as the count says
 pub held_whole : (l : List Offer) → length l ≤ 4 → take (as_offer_list l).count (as_offer_list l).list ≡ l
 unfolding as_offer_list

@@ -1,12 +1,8 @@
 -- What is offered: a rotation and a shape among the offers of a free piece. What is offered can be booked: it fits. Assumes nothing.
 use mathlib.Core.Path.{◌≡◌, refl, sym, ap, ◌∙◌, subst}
-use mathlib.Core.Bool.{Bool, true, false, cond, ◌&&◌, ◌||◌, or-true, false≢true}
+use mathlib.Core.Bool.{Bool, true, false, cond, ◌&&◌, ◌||◌, false≢true}
 use mathlib.Core.List.{List, [], ◌∷◌, ◌++◌, Memᴰ}
 use mathlib.Core.Logic.{◌⊎◌, inl, inr, ⊎_elim}
-use Prim.Native.Nat.{ℕ, zero, suc, ◌+◌, ◌<◌, ◌≤◌}
-use native.Mathlib.Numerals.{add-one}
-use native.Mathlib.Omega.{arith}
-use lib.ListN.{get_or, length, take}
 use borrow.Author.Tests.{eqb-true}
 use Rattle.piece.specs.declared.rotation.Rotation.{Rotation}
 use Rattle.piece.specs.declared.rotation.Rotation.TheVariants.{Default, Rotated}
@@ -16,35 +12,10 @@ use Rattle.piece.specs.declared.insertion_blueprint.InsertionShape.{InsertionSha
 use Rattle.piece.specs.declared.insertion_option.Offer.{Offer}
 use Rattle.piece.specs.declared.settings.Settings.{Settings}
 use Rattle.piece.specs.Numbers.{rotation_no, shape_no, rotation_of, shape_of}
-use Rattle.piece.specs.Offers.{allowed, along, across, fits, in_rotation, no_offer, offers_in, offers_of, shapes, turned}
+use Rattle.piece.specs.Offers.{allowed, along, across, fits, in_rotation, offers_in, offers_of, shapes, turned}
 use Rattle.piece.specs.Offered.{same_rotation, same_shape, same_offer, among_b, offered_b}
 use Rattle.piece.proofs.Tests.{both}
 use Rattle.piece.proofs.Numbers.{rotation-back, shape-back}
-
-module _ (r : Rotation) (s : InsertionShape) where
-  -- an offer that is found among the first n
-  pub among-at : (i n : ℕ) (l : List Offer) → i < n → n ≤ length l → same_offer r s (get_or l i no_offer) ≡ true → among_b r s (take n l) ≡ true
-  among-at i zero l h m e = let no : ⊥ = omega arith in absurd no
-  among-at i (suc n) [] h m e = let no : ⊥ = omega arith in absurd no
-  among-at zero (suc n) (o ∷ os) h m e = rw e refl
-  among-at (suc i) (suc n) (o ∷ os) h m e =
-      rw (among-at i n os (omega arith) (omega arith) e) (or-true (same_offer r s o))
-
-  -- none among the first i, and not the next
-  more : (i : ℕ) (l : List Offer) → among_b r s (take i l) ≡ false → same_offer r s (get_or l i no_offer) ≡ false → among_b r s (take (suc i) l) ≡ false
-  more zero [] f e = refl
-  more (suc i) [] f e = refl
-  more zero (o ∷ os) f e = rw e refl
-  more (suc i) (o ∷ os) f e = step (same_offer r s o) f (λ g. more i os g e)
-    where
-      step : (b : Bool) → (b || among_b r s (take i os)) ≡ false → (among_b r s (take i os) ≡ false → among_b r s (take (suc i) os) ≡ false)
-          → (b || among_b r s (take (suc i) os)) ≡ false
-      step true f g = f
-      step false f g = g f
-
-  pub among-more : (i : ℕ) (l : List Offer) → among_b r s (take i l) ≡ false → same_offer r s (get_or l i no_offer) ≡ false
-      → among_b r s (take (i + 1) l) ≡ false
-  among-more i l f e = rw (add-one i) (more i l f e)
 
 -- ---- what is offered fits
 

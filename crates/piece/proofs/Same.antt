@@ -1,5 +1,7 @@
 -- What `==` says of two kinds, rotations and shapes: that a kind is the one named, and that two have the same number.
 use mathlib.Core.Path.{◌≡◌, refl}
+use mathlib.Core.Bool.{◌&&◌}
+use mathlib.Core.List.{List, [], ◌∷◌}
 use denote.Enum.Bare.{sameb}
 use Rattle.piece.specs.contracts.node.Kind as kind
 use Rattle.piece.specs.contracts.orientation.Orientation as cut
@@ -13,9 +15,11 @@ use Rattle.piece.specs.declared.rotation.Rotation.{Rotation}
 use Rattle.piece.specs.declared.rotation.Rotation.TheVariants.{Default, Rotated}
 use Rattle.piece.specs.declared.insertion_blueprint.InsertionShape.{InsertionShape}
 use Rattle.piece.specs.declared.insertion_blueprint.InsertionShape.TheVariants.{AlongCurrentCut, AcrossCurrentCut, AlongThenAcross, AcrossThenAlong}
+use Rattle.std.specs.List.{list_any}
+use Rattle.piece.specs.declared.insertion_option.Offer.{Offer}
 use Rattle.piece.specs.Kinds.{is_free, is_part, is_structure}
 use Rattle.piece.specs.Sides.{is_horizontal}
-use Rattle.piece.specs.Offered.{same_rotation, same_shape}
+use Rattle.piece.specs.Offered.{same_rotation, same_shape, among_b}
 
 pub same-free : (k : Kind) → sameb kind.the_type k Free ≡ is_free k
 same-free Free = refl
@@ -59,3 +63,9 @@ same-shape AcrossThenAlong AlongCurrentCut = refl
 same-shape AcrossThenAlong AcrossCurrentCut = refl
 same-shape AcrossThenAlong AlongThenAcross = refl
 same-shape AcrossThenAlong AcrossThenAlong = refl
+
+-- an offer that is equal to one of a list is among them
+pub among-same : (r : Rotation) (s : InsertionShape) (l : List Offer)
+    → list_any (λ (o : Offer). sameb rotation.the_type o.rotation r && sameb shape.the_type o.shape s) l ≡ among_b r s l
+among-same r s [] = refl
+among-same r s (o ∷ l) = rw (same-rotation o.rotation r, same-shape o.shape s, among-same r s l) refl

@@ -27,16 +27,12 @@ impl InsertionShape {
     pub fn of_number(n: u8) -> InsertionShape
         ensures { result ≡ shape_of n }
     {
-        if n == 1 {
-            return InsertionShape::AlongCurrentCut;
+        match n {
+            1 => InsertionShape::AlongCurrentCut,
+            2 => InsertionShape::AcrossCurrentCut,
+            3 => InsertionShape::AlongThenAcross,
+            _ => InsertionShape::AcrossThenAlong,
         }
-        if n == 2 {
-            return InsertionShape::AcrossCurrentCut;
-        }
-        if n == 3 {
-            return InsertionShape::AlongThenAcross;
-        }
-        InsertionShape::AcrossThenAlong
     }
 
     // How many nodes it makes.

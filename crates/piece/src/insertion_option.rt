@@ -1,6 +1,6 @@
 // The offers of a free piece for a part, and whether a rotation and a shape are among them. Rust: core/insertion/insertion_option.rs, with the shapes of core/entities/node.rs.
-ghost use Rattle.std.specs.Prelude.{◌≡◌, ◌<◌, ◌≤◌, take};
-ghost use Rattle.piece.specs.Offered.{among_b, offered_b, same_offer};
+ghost use Rattle.std.specs.Prelude.{◌≡◌, ◌<◌, ◌≤◌};
+ghost use Rattle.piece.specs.Offered.{offered_b};
 ghost use Rattle.piece.specs.Offers.{as_offer_list, in_rotation, no_offers, offer, offers_in, offers_of, shapes, with_offer, with_offers};
 
 use crate::insertion_blueprint::InsertionShape;
@@ -40,9 +40,8 @@ impl OfferList {
         requires { self.count < 4 }
         ensures { result ≡ with_offer self (offer rotation shape) }
     {
-        let at = self.count;
-        self.list[at] = Offer { rotation, shape };
-        self.count = at + 1;
+        self.list[self.count] = Offer { rotation, shape };
+        self.count += 1;
         self
     }
 
@@ -85,17 +84,12 @@ impl OfferList {
         requires { self.count ≤ 2 }
         ensures { result ≡ with_offers self (offers_in piece part settings rotation) }
     {
-        if part.allows(rotation) {} else {
-            return self;
-        }
-        let whole = piece.size;
-        let cut = piece.cut;
         let size = part.size_in(rotation);
-        if insertion_possible(whole, size) {} else {
+        if !part.allows(rotation) || !insertion_possible(piece.size, size) {
             return self;
         }
-        let along = fits_along(cut, whole, size);
-        let across = fits_across(cut, whole, size);
+        let along = fits_along(piece.cut, piece.size, size);
+        let across = fits_across(piece.cut, piece.size, size);
         self.with_shapes(rotation, along, across, piece.level, settings.stages)
     }
 }
@@ -108,31 +102,8 @@ pub fn offers(piece: Datum, part: PartType, settings: Settings) -> OfferList
     first.with_rotation(piece, part, settings, Rotation::Rotated)
 }
 
-// Whether a rotation and a shape are among the offers.
-
-fn same_offer(rotation: Rotation, shape: InsertionShape, offer: Offer) -> bool
-    ensures { result ≡ same_offer rotation shape offer }
-{
-    offer.rotation == rotation && offer.shape == shape
-}
-
-// One of the offers is this one.
-fn is_among(rotation: Rotation, shape: InsertionShape, offers: OfferList) -> bool
-    requires { offers.count ≤ 4 }
-    ensures { result ≡ among_b rotation shape (take offers.count offers.list) }
-{
-    let count = offers.count;
-    let mut i: usize = 0;
-    while i < count {
-        if same_offer(rotation, shape, offers.list[i]) {
-            return true;
-        }
-        i += 1;
-    }
-    false
-}
-
 // The free piece offers the part in this rotation and shape.
+#[tactic(auto, using(crate::proofs::Offered::counted))]
 pub fn is_offered(
     piece: Datum,
     part: PartType,
@@ -142,5 +113,6 @@ pub fn is_offered(
 ) -> bool
     ensures { result ≡ offered_b piece part settings rotation shape }
 {
-    is_among(rotation, shape, offers(piece, part, settings))
+    let offers = offers(piece, part, settings);
+    offers.list[..offers.count].contains(&Offer { rotation, shape })
 }

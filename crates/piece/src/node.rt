@@ -45,13 +45,11 @@ impl Kind {
     pub fn of_number(n: u8) -> Kind
         ensures { result ≡ kind_of n }
     {
-        if n == 0 {
-            return Kind::Free;
+        match n {
+            0 => Kind::Free,
+            1 => Kind::Part,
+            _ => Kind::Structure,
         }
-        if n == 1 {
-            return Kind::Part;
-        }
-        Kind::Structure
     }
 }
 
@@ -99,25 +97,17 @@ pub struct Datum {
 pub fn insertion_possible(piece: Size, part: Size) -> bool
     ensures { result ≡ fits piece part }
 {
-    if part.width <= piece.width {
-        part.height <= piece.height
-    } else {
-        false
-    }
+    part.width <= piece.width && part.height <= piece.height
 }
 
 pub fn fits_along(cut: Orientation, piece: Size, part: Size) -> bool
     ensures { result ≡ along cut piece part }
 {
-    let whole = piece.laid(cut);
-    let wanted = part.laid(cut);
-    whole.height == wanted.height
+    piece.laid(cut).height == part.laid(cut).height
 }
 
 pub fn fits_across(cut: Orientation, piece: Size, part: Size) -> bool
     ensures { result ≡ across cut piece part }
 {
-    let whole = piece.laid(cut);
-    let wanted = part.laid(cut);
-    whole.width == wanted.width
+    piece.laid(cut).width == part.laid(cut).width
 }

@@ -24,10 +24,7 @@ impl Orientation {
     pub fn is_horizontal(self) -> bool
         ensures { result ≡ is_horizontal self }
     {
-        match self {
-            Orientation::Horizontal => true,
-            Orientation::Vertical => false,
-        }
+        self == Orientation::Horizontal
     }
 
     // Its number in bytes, and the cut of a listed number.
@@ -40,10 +37,9 @@ impl Orientation {
     pub fn of_number(n: u8) -> Orientation
         ensures { result ≡ cut_of n }
     {
-        if n == 0 {
-            Orientation::Horizontal
-        } else {
-            Orientation::Vertical
+        match n {
+            0 => Orientation::Horizontal,
+            _ => Orientation::Vertical,
         }
     }
 }

@@ -60,10 +60,9 @@ impl PartType {
     pub fn size_in(self, rotation: Rotation) -> Size
         ensures { result ≡ turned rotation self.size }
     {
-        let size = self.size;
         match rotation {
-            Rotation::Default => size,
-            Rotation::Rotated => size.exchanged(),
+            Rotation::Default => self.size,
+            Rotation::Rotated => self.size.exchanged(),
         }
     }
 }

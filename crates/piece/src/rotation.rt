@@ -31,10 +31,9 @@ impl Rotation {
     pub fn of_number(n: u8) -> Rotation
         ensures { result ≡ rotation_of n }
     {
-        if n == 0 {
-            Rotation::Default
-        } else {
-            Rotation::Rotated
+        match n {
+            0 => Rotation::Default,
+            _ => Rotation::Rotated,
         }
     }
 }

@@ -2,19 +2,19 @@
 use mathlib.Core.Path.{sym, ◌∙◌}
 use Rattle.piece.specs.Offers.{offers_in}
 use Rattle.piece.proofs.insertion_option.OfferList.with_rotation.Goals as goal
+use Rattle.piece.proofs.insertion_option.OfferList.with_rotation.Goals.{then-not-allows-via-then-not-allows, then-not-allows-via-else-not-allows+then-not-insertion_possible}
 
-pub returns-else-allows : goal.returns-else-allows
+pub returns-then-not-allows : goal.returns-then-not-allows
 unfolding offers_in
-returns-else-allows c = simp (sym c.allows.ensures ∙ c.if-allows.false)
-
-pub returns-else-insertion_possible : goal.returns-else-insertion_possible
-unfolding offers_in
-returns-else-insertion_possible c =
-    simp (
-      ← c.size_in-size.ensures,
-      sym c.allows.ensures ∙ c.if-allows.true,
-      sym c.insertion_possible.ensures ∙ c.if-insertion_possible.false,
-    )
+returns-then-not-allows c =
+    elim c.then-not-allows.branch [
+      | then-not-allows-via-then-not-allows w ↦ simp (sym c.allows.ensures ∙ w.if-not-allows.true)
+      | then-not-allows-via-else-not-allows+then-not-insertion_possible w ↦ simp (
+        ← c.size_in-size.ensures,
+        sym c.allows.ensures ∙ w.if-not-allows.false,
+        sym w.insertion_possible.ensures ∙ w.if-not-insertion_possible.true,
+      )
+    ]
 
 pub returns : goal.returns
 unfolding offers_in
@@ -24,6 +24,6 @@ returns c =
       c.fits_along-along.ensures,
       c.fits_across-across.ensures,
       ← c.size_in-size.ensures,
-      sym c.allows.ensures ∙ c.if-allows.true,
-      sym c.insertion_possible.ensures ∙ c.if-insertion_possible.true,
+      sym c.allows.ensures ∙ c.if-not-allows.false,
+      sym c.insertion_possible.ensures ∙ c.if-not-insertion_possible.false,
     )
