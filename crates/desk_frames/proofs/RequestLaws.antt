@@ -51,9 +51,9 @@ pub desk-request-back : (q : DeskRequest) → DeskRequestFits q → desk_request
 unfolding desk_carried_by question_form
 desk-request-back (Asks (WhyNot m p)) f =
     asks 17 why_not_form _ refl refl (omega arith) (mark-fits (part-fits none p f.1) m f.0) (omega arith)
-    ∙ rw (turn-listed p.turn, turn-back p.turn) refl
+    ∙ rw (turn-listed p.fixed_rotation, turn-back p.fixed_rotation) refl
 desk-request-back (Asks (RoomLight p)) f =
-    asks 18 light_form _ refl refl (omega arith) (part-fits none p f) (omega arith) ∙ rw (turn-listed p.turn, turn-back p.turn) refl
+    asks 18 light_form _ refl refl (omega arith) (part-fits none p f) (omega arith) ∙ rw (turn-listed p.fixed_rotation, turn-back p.fixed_rotation) refl
 desk-request-back (Asks (FreePiece k)) f = asks 19 (position_form FreePiece) (k ∷ []) refl refl (omega arith) (more f none) (omega arith)
 desk-request-back (Asks (RemovablePiece k)) f = asks 20 (position_form RemovablePiece) (k ∷ []) refl refl (omega arith) (more f none) (omega arith)
 desk-request-back (Asks PartNumbers) f = asks 21 (bare_form (Asks PartNumbers)) [] refl refl (omega arith) none (omega arith)

@@ -25,7 +25,7 @@ module _ {fs : List Field} {vs : List ℕ} (rest : Fits fs vs) where
   mark-fits m f = more f.layout (more f.place (more f.serial rest))
 
   pub part-fits : (p : PartType) → PartFits p → Fits (part_fields ++ fs) (part_nos p ++ vs)
-  part-fits p f = more f.number (more f.size.width (more f.size.height (more (turn_small p.turn) rest)))
+  part-fits p f = more f.number (more f.size.width (more f.size.height (more (turn_small p.fixed_rotation) rest)))
 
 abbrev cons : ℕ → List ℕ → List ℕ
 cons v vs = v ∷ vs

@@ -70,10 +70,10 @@ request-back (OfLayout (Open o)) f =
     (more f.number (more f.sheet.width (more f.sheet.height (more (cut_small o.cut) (more f.stages (more f.blade none)))))) (omega arith)
     ∙ rw (cut-listed o.cut, cut-back o.cut) refl
 request-back (OfLayout (Offers m p)) f =
-    asks 2 offers_form _ refl (omega arith) (mark-fits (part-fits none p f.1) m f.0) (omega arith) ∙ rw (turn-listed p.turn, turn-back p.turn) refl
+    asks 2 offers_form _ refl (omega arith) (mark-fits (part-fits none p f.1) m f.0) (omega arith) ∙ rw (turn-listed p.fixed_rotation, turn-back p.fixed_rotation) refl
 request-back (OfLayout (Insert m p r s)) f =
     asks 3 insert_form _ refl (omega arith) (mark-fits (part-fits (more (rotation-small r) (more (shape-small s) none)) p f.1) m f.0) (omega arith)
-    ∙ rw (turn-listed p.turn, rotation-listed r, shape-listed s, turn-back p.turn, rotation-back r, shape-back s) refl
+    ∙ rw (turn-listed p.fixed_rotation, rotation-listed r, shape-listed s, turn-back p.fixed_rotation, rotation-back r, shape-back s) refl
 request-back (OfLayout (Remove m)) f = asks 4 remove_form _ refl (omega arith) (mark-fits none m f) (omega arith)
 request-back (OfLayout Report) f = asks 7 (bare_form (OfLayout Report)) [] refl (omega arith) none (omega arith)
 request-back Keep f = asks 5 (bare_form Keep) [] refl (omega arith) none (omega arith)

@@ -6,7 +6,7 @@ use Prim.Native.String.{String, [], ◌∷◌}
 use Rattle.hexadecimal.specs.Hex.{digit_of, letter_of, pair_of}
 use Rattle.piece.specs.declared.orientation.Orientation.TheVariants.{Vertical}
 use Rattle.piece.specs.declared.rotation.Rotation.TheVariants.{Default}
-use Rattle.piece.specs.declared.parttype.Turn.TheVariants.{Either}
+use Rattle.std.specs.Prelude.{None}
 use Rattle.piece.specs.declared.insertion_blueprint.InsertionShape.TheVariants.{AlongCurrentCut}
 use Rattle.marks.specs.declared.Mark.{Mark}
 use Rattle.marks.specs.declared.Refusal.TheVariants.{Gone}
@@ -31,7 +31,7 @@ asks-opening = refl
 
 pub asks-insertion :
     request_of (codes "03000101000000020007000000280000003c0000018d")
-    ≡ OfLayout (Insert (mark 1 2) (record { number = 7; size = record { width = 40; height = 60 }; turn = Either }) Default AlongCurrentCut)
+    ≡ OfLayout (Insert (mark 1 2) (record { number = 7; size = record { width = 40; height = 60 }; fixed_rotation = None }) Default AlongCurrentCut)
 unfolding codes request_of is_frame pairs all_bytes total form_of digit_of pair_of
 asks-insertion = refl
 

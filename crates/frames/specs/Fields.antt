@@ -101,7 +101,7 @@ abbrev pub a_mark : ℕ → ℕ → ℕ → Mark
 a_mark layout place serial = record { layout = layout; place = place; serial = serial }
 
 abbrev pub a_part : ℕ → ℕ → ℕ → ℕ → PartType
-a_part n w h t = record { number = n; size = a_size w h; turn = turn_of t }
+a_part n w h t = record { number = n; size = a_size w h; fixed_rotation = turn_of t }
 
 abbrev pub opening_nos : Opening → List ℕ
 opening_nos o = o.number ∷ o.settings.sheet.width ∷ o.settings.sheet.height ∷ cut_no o.cut ∷ o.settings.stages ∷ o.settings.blade ∷ []
@@ -110,7 +110,7 @@ abbrev pub mark_nos : Mark → List ℕ
 mark_nos m = m.layout ∷ m.place ∷ m.serial ∷ []
 
 abbrev pub part_nos : PartType → List ℕ
-part_nos p = p.number ∷ p.size.width ∷ p.size.height ∷ turn_no p.turn ∷ []
+part_nos p = p.number ∷ p.size.width ∷ p.size.height ∷ turn_no p.fixed_rotation ∷ []
 
 abbrev pub mark_bytes : Mark → List ℕ
 mark_bytes m = written mark_fields (mark_nos m)

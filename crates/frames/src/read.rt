@@ -10,7 +10,7 @@ use crate::{Ask, Request};
 use marks::Mark;
 use piece::insertion_blueprint::InsertionShape;
 use piece::orientation::Orientation;
-use piece::parttype::{PartType, Turn};
+use piece::parttype::{PartType, fixed_rotation_of};
 use piece::rotation::Rotation;
 use piece::settings::{Opening, Settings};
 use piece::size::Size;
@@ -147,7 +147,7 @@ pub fn part_at(b: &[u8; 32], i: usize) -> PartType
     PartType {
         number: two_at(b, i),
         size: size_at(b, i + PART_SIZE),
-        turn: Turn::of_number(b[i + PART_TURN]),
+        fixed_rotation: fixed_rotation_of(b[i + PART_TURN]),
     }
 }
 

@@ -2,6 +2,7 @@
 -- specs/Numbers.
 use mathlib.Core.Path.{◌≡◌, refl}
 use mathlib.Core.Bool.{true, false≢true}
+use Rattle.std.specs.Prelude.{Option, Some, None}
 use Prim.Native.Nat.{ℕ, zero, suc, ◌<◌}
 use native.Mathlib.Omega.{arith}
 use lib.Dec.{leb}
@@ -10,8 +11,6 @@ use Rattle.piece.specs.declared.orientation.Orientation.{Orientation}
 use Rattle.piece.specs.declared.orientation.Orientation.TheVariants.{Horizontal, Vertical}
 use Rattle.piece.specs.declared.rotation.Rotation.{Rotation}
 use Rattle.piece.specs.declared.rotation.Rotation.TheVariants.{Default, Rotated}
-use Rattle.piece.specs.declared.parttype.Turn.{Turn}
-use Rattle.piece.specs.declared.parttype.Turn.TheVariants.{Either, Fixed}
 use Rattle.piece.specs.declared.node.Kind.{Kind}
 use Rattle.piece.specs.declared.node.Kind.TheVariants.{Free, Part, Structure}
 use Rattle.piece.specs.declared.insertion_blueprint.InsertionShape.{InsertionShape}
@@ -30,10 +29,10 @@ pub cut-listed : (c : Orientation) → cut_listed (cut_no c) ≡ true
 cut-listed Horizontal = refl
 cut-listed Vertical = refl
 
-pub turn-listed : (t : Turn) → turn_listed (turn_no t) ≡ true
-turn-listed Either = refl
-turn-listed (Fixed Default) = refl
-turn-listed (Fixed Rotated) = refl
+pub turn-listed : (t : Option Rotation) → turn_listed (turn_no t) ≡ true
+turn-listed None = refl
+turn-listed (Some Default) = refl
+turn-listed (Some Rotated) = refl
 
 pub rotation-listed : (r : Rotation) → rotation_listed (rotation_no r) ≡ true
 rotation-listed Default = refl
@@ -49,7 +48,7 @@ shape-listed AcrossThenAlong = refl
 pub cut_small : (c : Orientation) → cut_no c < 256
 cut_small c = omega (arith, leb-true (cut_no c) 1 (cut-listed c))
 
-pub turn_small : (t : Turn) → turn_no t < 256
+pub turn_small : (t : Option Rotation) → turn_no t < 256
 turn_small t = omega (arith, leb-true (turn_no t) 2 (turn-listed t))
 
 pub rotation-small : (r : Rotation) → rotation_no r < 256
@@ -69,10 +68,10 @@ pub cut-back : (c : Orientation) → cut_of (cut_no c) ≡ c
 cut-back Horizontal = refl
 cut-back Vertical = refl
 
-pub turn-back : (t : Turn) → turn_of (turn_no t) ≡ t
-turn-back Either = refl
-turn-back (Fixed Default) = refl
-turn-back (Fixed Rotated) = refl
+pub turn-back : (t : Option Rotation) → turn_of (turn_no t) ≡ t
+turn-back None = refl
+turn-back (Some Default) = refl
+turn-back (Some Rotated) = refl
 
 pub rotation-back : (r : Rotation) → rotation_of (rotation_no r) ≡ r
 rotation-back Default = refl

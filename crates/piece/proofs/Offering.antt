@@ -52,7 +52,7 @@ among-rotation q r s (u ∷ us) e =
 
 -- what a rotation and a shape have that are offered
 pub record Offers (d : Datum) (p : PartType) (settings : Settings) (r : Rotation) (s : InsertionShape) : Type 0 where
-  pub allows : allowed p.turn r ≡ true
+  pub allows : allowed p.fixed_rotation r ≡ true
   pub inside : fits d.size (turned r p.size) ≡ true
   pub shaped : Memᴰ s
       (shapes (along d.cut d.size (turned r p.size)) (across d.cut d.size (turned r p.size)) d.level settings.stages)
@@ -60,16 +60,16 @@ pub record Offers (d : Datum) (p : PartType) (settings : Settings) (r : Rotation
 module _ (d : Datum) (p : PartType) (settings : Settings) (r : Rotation) (s : InsertionShape) where
   in-rotation : (q : Rotation) → among_b r s (offers_in d p settings q) ≡ true → Offers d p settings r s
   unfolding offers_in
-  in-rotation q e = go (allowed p.turn q && fits d.size (turned q p.size)) refl e
+  in-rotation q e = go (allowed p.fixed_rotation q && fits d.size (turned q p.size)) refl e
     where
       ss : List InsertionShape
       ss = shapes (along d.cut d.size (turned q p.size)) (across d.cut d.size (turned q p.size)) d.level settings.stages
 
-      go : (c : Bool) → (allowed p.turn q && fits d.size (turned q p.size)) ≡ c → among_b r s (cond c (in_rotation q ss) []) ≡ true
+      go : (c : Bool) → (allowed p.fixed_rotation q && fits d.size (turned q p.size)) ≡ c → among_b r s (cond c (in_rotation q ss) []) ≡ true
           → Offers d p settings r s
       go true t e =
           let g = among-rotation q r s ss e in
-          let h = both (allowed p.turn q) (fits d.size (turned q p.size)) t in
+          let h = both (allowed p.fixed_rotation q) (fits d.size (turned q p.size)) t in
           let offers : Offers d p settings q s = record { allows = h.0; inside = h.1; shaped = g.1 } in
           subst (λ (z : Rotation). Offers d p settings z s) g.0 offers
       go false t e = absurd (false≢true e)

@@ -1,13 +1,11 @@
 -- The numbers that document 01's bytes have for a kind, a cut, a turn, a rotation and a shape: "kind (0 free, 1 part, 2 structure), cut (0
 -- Horizontal, 1 Vertical)" ("Tree snapshot"), "turn 1: 0 either, 1 Default, 2 Rotated" and "Rotation is 0 or 1; shape 1..4 in the table's order"
 -- ("Counter frames").
-use Rattle.std.specs.Prelude.{Bool, cond, ◌&&◌, ℕ, eqb, leb, Result, Ok, Err}
+use Rattle.std.specs.Prelude.{Bool, cond, ◌&&◌, ℕ, eqb, leb, Option, Some, None, Result, Ok, Err}
 use Rattle.piece.specs.declared.orientation.Orientation.{Orientation}
 use Rattle.piece.specs.declared.orientation.Orientation.TheVariants.{Horizontal, Vertical}
 use Rattle.piece.specs.declared.rotation.Rotation.{Rotation}
 use Rattle.piece.specs.declared.rotation.Rotation.TheVariants.{Default, Rotated}
-use Rattle.piece.specs.declared.parttype.Turn.{Turn}
-use Rattle.piece.specs.declared.parttype.Turn.TheVariants.{Either, Fixed}
 use Rattle.piece.specs.declared.node.Kind.{Kind}
 use Rattle.piece.specs.declared.node.Kind.TheVariants.{Free, Part, Structure}
 use Rattle.piece.specs.declared.unlisted.Unlisted.{Unlisted}
@@ -24,10 +22,10 @@ abbrev pub cut_no : Orientation → ℕ
 cut_no Horizontal = 0
 cut_no Vertical = 1
 
-abbrev pub turn_no : Turn → ℕ
-turn_no Either = 0
-turn_no (Fixed Default) = 1
-turn_no (Fixed Rotated) = 2
+abbrev pub turn_no : Option Rotation → ℕ
+turn_no None = 0
+turn_no (Some Default) = 1
+turn_no (Some Rotated) = 2
 
 abbrev pub rotation_no : Rotation → ℕ
 rotation_no Default = 0
@@ -62,8 +60,8 @@ kind_of n = cond (eqb n 0) Free (cond (eqb n 1) Part Structure)
 abbrev pub cut_of : ℕ → Orientation
 cut_of n = cond (eqb n 0) Horizontal Vertical
 
-abbrev pub turn_of : ℕ → Turn
-turn_of n = cond (eqb n 0) Either (cond (eqb n 1) (Fixed Default) (Fixed Rotated))
+abbrev pub turn_of : ℕ → Option Rotation
+turn_of n = cond (eqb n 0) None (cond (eqb n 1) (Some Default) (Some Rotated))
 
 abbrev pub rotation_of : ℕ → Rotation
 rotation_of n = cond (eqb n 0) Default Rotated

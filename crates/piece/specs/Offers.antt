@@ -1,10 +1,8 @@
 -- Document 01, "Offers": what a free piece offers for a part.
-use Rattle.std.specs.Prelude.{Bool, true, false, cond, ◌&&◌, List, [], ◌∷◌, ◌++◌, ℕ, ◌+◌, eqb, ltb, leb, length, take, replicate, set}
+use Rattle.std.specs.Prelude.{Bool, true, false, cond, ◌&&◌, List, [], ◌∷◌, ◌++◌, ℕ, ◌+◌, eqb, ltb, leb, length, take, replicate, set, Option, Some, None}
 use Rattle.piece.specs.declared.orientation.Orientation.{Orientation}
 use Rattle.piece.specs.declared.rotation.Rotation.{Rotation}
 use Rattle.piece.specs.declared.rotation.Rotation.TheVariants.{Default, Rotated}
-use Rattle.piece.specs.declared.parttype.Turn.{Turn}
-use Rattle.piece.specs.declared.parttype.Turn.TheVariants.{Either, Fixed}
 use Rattle.piece.specs.declared.parttype.PartType.{PartType}
 use Rattle.piece.specs.declared.size.Size.{Size}
 use Rattle.piece.specs.declared.settings.Settings.{Settings}
@@ -25,12 +23,12 @@ turned Default s = s
 turned Rotated s = exchanged s
 
 -- "less those the part forbids"
-abbrev pub allowed : Turn → Rotation → Bool
-allowed Either r = true
-allowed (Fixed Default) Default = true
-allowed (Fixed Default) Rotated = false
-allowed (Fixed Rotated) Default = false
-allowed (Fixed Rotated) Rotated = true
+abbrev pub allowed : Option Rotation → Rotation → Bool
+allowed None r = true
+allowed (Some Default) Default = true
+allowed (Some Default) Rotated = false
+allowed (Some Rotated) Default = false
+allowed (Some Rotated) Rotated = true
 
 -- "A rotation that does not fit both ways gives nothing."
 abbrev pub fits : Size → Size → Bool
@@ -64,7 +62,7 @@ in_rotation r (s ∷ ss) = offer r s ∷ in_rotation r ss
 unfoldable pub offers_in : Datum → PartType → Settings → Rotation → List Offer
 offers_in piece part settings r =
     let p = turned r part.size in
-    cond (allowed part.turn r && fits piece.size p)
+    cond (allowed part.fixed_rotation r && fits piece.size p)
     (in_rotation r (shapes (along piece.cut piece.size p) (across piece.cut piece.size p) piece.level settings.stages))
     []
 

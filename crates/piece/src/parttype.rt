@@ -6,53 +6,33 @@ ghost use Rattle.piece.specs.Offers.{allowed, turned};
 use crate::rotation::Rotation;
 use crate::size::Size;
 
-// The Rust's `fixed_rotation`, an Option there.
-#[derive(Clone, Copy)]
-pub enum Turn {
-    Either,
-    Fixed(Rotation),
-}
-
-impl Turn {
-    // The turn of a listed number.
-    pub fn of_number(n: u8) -> Turn
-        ensures { result ≡ turn_of n }
-    {
-        if n == 0 {
-            return Turn::Either;
-        }
-        if n == 1 {
-            return Turn::Fixed(Rotation::Default);
-        }
-        Turn::Fixed(Rotation::Rotated)
+// The rotation that the number of a part's turn fixes: 0 none, 1 Default, 2 Rotated.
+pub fn fixed_rotation_of(turn: u8) -> Option<Rotation>
+    ensures { result ≡ turn_of turn }
+{
+    match turn {
+        0 => None,
+        1 => Some(Rotation::Default),
+        _ => Some(Rotation::Rotated),
     }
 }
 
+// A part whose rotation is not fixed may be cut in either.
 #[derive(Clone, Copy)]
 pub struct PartType {
     pub number: u16,
     pub size: Size,
-    pub turn: Turn,
+    pub fixed_rotation: Option<Rotation>,
 }
 
 impl PartType {
     // Whether the part may be cut in this rotation.
     pub fn allows(self, rotation: Rotation) -> bool
-        ensures { result ≡ allowed self.turn rotation }
+        ensures { result ≡ allowed self.fixed_rotation rotation }
     {
-        let turn = self.turn;
-        match turn {
-            Turn::Either => true,
-            Turn::Fixed(fixed) => match fixed {
-                Rotation::Default => match rotation {
-                    Rotation::Default => true,
-                    Rotation::Rotated => false,
-                },
-                Rotation::Rotated => match rotation {
-                    Rotation::Default => false,
-                    Rotation::Rotated => true,
-                },
-            },
+        match self.fixed_rotation {
+            None => true,
+            Some(fixed) => fixed == rotation,
         }
     }
 

@@ -73,14 +73,14 @@ module _ (piece : Datum) (part : PartType) (settings : Settings) (r : Rotation) 
   cut_as = turned r part.size
 
   abbrev Allowed : Type 0
-  Allowed = allowed part.turn r ≡ true
+  Allowed = allowed part.fixed_rotation r ≡ true
 
   abbrev Fits : Type 0
   Fits = fits piece.size cut_as ≡ true
 
   -- when each holds
   abbrev When : Reason → Type 0
-  When Forbidden = allowed part.turn r ≡ false
+  When Forbidden = allowed part.fixed_rotation r ≡ false
   When TooWide = Allowed × (piece.size.width < cut_as.width) × (cut_as.height ≤ piece.size.height)
   When TooTall = Allowed × (cut_as.width ≤ piece.size.width) × (piece.size.height < cut_as.height)
   When TooWideAndTall = Allowed × (piece.size.width < cut_as.width) × (piece.size.height < cut_as.height)
@@ -91,10 +91,10 @@ module _ (piece : Datum) (part : PartType) (settings : Settings) (r : Rotation) 
   holds : When (reason_in piece part settings r)
   unfolding reason_in
   holds =
-      go (allowed part.turn r) refl (too_wide piece.size cut_as) refl (too_tall piece.size cut_as) refl
+      go (allowed part.fixed_rotation r) refl (too_wide piece.size cut_as) refl (too_tall piece.size cut_as) refl
       (along piece.cut piece.size cut_as) refl (leb settings.stages piece.level) refl
     where
-      go : (a : Bool) → allowed part.turn r ≡ a → (w : Bool) → too_wide piece.size cut_as ≡ w → (t : Bool) → too_tall piece.size cut_as ≡ t
+      go : (a : Bool) → allowed part.fixed_rotation r ≡ a → (w : Bool) → too_wide piece.size cut_as ≡ w → (t : Bool) → too_tall piece.size cut_as ≡ t
           → (al : Bool) → along piece.cut piece.size cut_as ≡ al → (n : Bool) → leb settings.stages piece.level ≡ n → When (reason_of a w t al n)
       go false a w ew t et al eal n en = a
       go true a true w true t al eal n en = (a, ltb-true _ _ w, ltb-true _ _ t)
@@ -130,7 +130,7 @@ module _ (piece : Datum) (part : PartType) (settings : Settings) (r : Rotation) 
   -- holds, forbidden first"
 
   -- "turn forbidden": whatever else holds
-  pub forbidden-exactly : (reason_in piece part settings r ≡ Forbidden) ↔ (allowed part.turn r ≡ false)
+  pub forbidden-exactly : (reason_in piece part settings r ≡ Forbidden) ↔ (allowed part.fixed_rotation r ≡ false)
   forbidden-exactly = exactly Forbidden
 
   -- "too wide": and not too tall

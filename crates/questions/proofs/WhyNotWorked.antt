@@ -3,9 +3,9 @@
 use mathlib.Core.Path.{◌≡◌, refl}
 use mathlib.Core.List.{List, [], ◌∷◌}
 use Prim.Native.Nat.{ℕ}
+use Rattle.std.specs.Prelude.{Option, Some, None}
+use Rattle.piece.specs.declared.rotation.Rotation.{Rotation}
 use Rattle.piece.specs.declared.rotation.Rotation.TheVariants.{Default, Rotated}
-use Rattle.piece.specs.declared.parttype.Turn.{Turn}
-use Rattle.piece.specs.declared.parttype.Turn.TheVariants.{Either, Fixed}
 use Rattle.piece.specs.declared.parttype.PartType.{PartType}
 use Rattle.piece.specs.Sides.{sized}
 use Rattle.tree.specs.Open.{first_free}
@@ -15,28 +15,28 @@ use Rattle.questions.specs.declared.reason.Reason.TheVariants.{Forbidden, TooWid
 use Rattle.questions.specs.Reasons.{reason_in}
 
 -- the part, number 7, w x h
-abbrev pub part : Turn → ℕ → ℕ → PartType
-part t w h = record { number = 7; size = sized w h; turn = t }
+abbrev pub part : Option Rotation → ℕ → ℕ → PartType
+part t w h = record { number = 7; size = sized w h; fixed_rotation = t }
 
 abbrev pub both : Reason → Reason → List Reason
 both d r = d ∷ r ∷ []
 
-abbrev pub reasons : Turn → ℕ → ℕ → ℕ → List Reason
+abbrev pub reasons : Option Rotation → ℕ → ℕ → ℕ → List Reason
 reasons t w h stages =
     let o = opening stages in
     both (reason_in (first_free o) (part t w h) o.settings Default) (reason_in (first_free o) (part t w h) o.settings Rotated)
 
 unfoldable pub computed : List (List Reason)
 computed =
-    reasons Either 40 60 3
-    ∷ reasons Either 40 60 1
-    ∷ reasons Either 40 30 1
-    ∷ reasons Either 100 20 1
-    ∷ reasons Either 101 60 3
-    ∷ reasons Either 200 200 3
-    ∷ reasons (Fixed Default) 40 60 3
-    ∷ reasons (Fixed Default) 200 200 1
-    ∷ reasons (Fixed Rotated) 101 60 1
+    reasons None 40 60 3
+    ∷ reasons None 40 60 1
+    ∷ reasons None 40 30 1
+    ∷ reasons None 100 20 1
+    ∷ reasons None 101 60 3
+    ∷ reasons None 200 200 3
+    ∷ reasons (Some Default) 40 60 3
+    ∷ reasons (Some Default) 200 200 1
+    ∷ reasons (Some Rotated) 101 60 1
     ∷ []
 
 unfoldable pub paper : List (List Reason)

@@ -39,5 +39,5 @@ too_tall piece part = ltb piece.height part.height
 unfoldable pub reason_in : Datum → PartType → Settings → Rotation → Reason
 reason_in piece part settings r =
     let p = turned r part.size in
-    reason_of (allowed part.turn r) (too_wide piece.size p) (too_tall piece.size p) (along piece.cut piece.size p)
+    reason_of (allowed part.fixed_rotation r) (too_wide piece.size p) (too_tall piece.size p) (along piece.cut piece.size p)
     (leb settings.stages piece.level)

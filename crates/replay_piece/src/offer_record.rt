@@ -3,7 +3,7 @@ use hexadecimal::four;
 use piece::insertion_option::{Offer, OfferList, offers};
 use piece::node::{Datum, Kind};
 use piece::orientation::Orientation;
-use piece::parttype::{PartType, Turn};
+use piece::parttype::{PartType, fixed_rotation_of};
 use piece::settings::Settings;
 use piece::size::Size;
 
@@ -28,7 +28,7 @@ fn asked(b: [u8; 74]) -> OfferList {
             width: four(b[12], b[13], b[14], b[15]),
             height: four(b[16], b[17], b[18], b[19]),
         },
-        turn: Turn::of_number(b[3]),
+        fixed_rotation: fixed_rotation_of(b[3]),
     };
     let settings = Settings {
         stages: b[1],

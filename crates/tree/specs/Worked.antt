@@ -1,10 +1,9 @@
 -- Document 01, "Sheet 100 x 60, first cut Vertical": what the definitions give in the cases a to k, and what the paper says, as one table. The parts
 -- are in rotation Default.
-use Rattle.std.specs.Prelude.{List, [], ◌∷◌, map, cond, ℕ, zero, suc, eqb, Float}
+use Rattle.std.specs.Prelude.{List, [], ◌∷◌, map, cond, ℕ, zero, suc, eqb, Some, Float}
 use Rattle.piece.specs.declared.orientation.Orientation.{Orientation}
 use Rattle.piece.specs.declared.orientation.Orientation.TheVariants.{Horizontal, Vertical}
 use Rattle.piece.specs.declared.rotation.Rotation.TheVariants.{Default}
-use Rattle.piece.specs.declared.parttype.Turn.TheVariants.{Fixed}
 use Rattle.piece.specs.declared.parttype.PartType.{PartType}
 use Rattle.piece.specs.declared.settings.Opening.{Opening}
 use Rattle.piece.specs.declared.node.Kind.{Kind}
@@ -49,7 +48,7 @@ opening_tree = opened (opening 3)
 
 -- the part, number 7, w x h
 abbrev pub wanted_part : ℕ → ℕ → PartType
-wanted_part w h = record { number = 7; size = sized w h; turn = Fixed Default }
+wanted_part w h = record { number = 7; size = sized w h; fixed_rotation = Some Default }
 
 abbrev pub offers : ℕ → ℕ → ℕ → CaseAnswer
 offers w h stages = offered (offers_of (first_free (opening stages)) (wanted_part w h) (opening stages).settings)
