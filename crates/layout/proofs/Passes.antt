@@ -1,5 +1,5 @@
 -- `sound_b`, clause by clause, is what the passes of `sound` and the tests behind them say together; and the passes say what those tests rest on.
-use mathlib.Core.Path.{◌≡◌, sym, ap, ◌∙◌}
+use mathlib.Core.Path.{◌≡◌, refl, sym, ap, ◌∙◌}
 use mathlib.Core.List.{List}
 use mathlib.Core.Bool.{Bool, true, false, ◌&&◌}
 use mathlib.Core.Logic.{◌⊎◌, inl, inr}
@@ -8,12 +8,13 @@ use native.Mathlib.Omega.{arith}
 use lib.Dec.{eqb, leb}
 use lib.ListN.{get_or}
 use borrow.Author.Tests.{leb-true}
-use Rattle.lists.specs.declared.flags.Flags.{Flags}
+use Rattle.std.specs.Prelude.{Some}
 use Rattle.lists.specs.Lists.{zeros}
 use Rattle.lists.specs.Search.{differ, zero_tail}
-use Rattle.lists.specs.Flags.{flagged}
+use Rattle.lists.specs.Flags.{ok_b, flags_of, flagged}
 use Rattle.lists.specs.Inner.{Low}
-use Rattle.lists.proofs.Scan.{and_left, and_right, every-at, test}
+use Rattle.lists.proofs.Named.{accepted-says}
+use Rattle.lists.proofs.Scan.{and_left, and_right, and-false, every-at, test}
 use Rattle.table.specs.Table.{at}
 use Rattle.sound.specs.Columns.{areas_of, serials_of, firsts_of, nexts_of, kinds_of}
 use Rattle.sound.specs.Places.{places_b, top_b}
@@ -24,6 +25,7 @@ use Rattle.sound.specs.Census.{census_b}
 use Rattle.sound.proofs.Says.{Says, clash, and-says}
 use Rattle.sound.proofs.ByRows.{hung-by-rows}
 use Rattle.layout.specs.declared.layout.Layout.{Layout}
+use Rattle.sound.specs.Columns.{checked_columns}
 use Rattle.layout.specs.Check.{limit, max_serial, domain_b, table_b, covered_b, serials_b, sums_b, free_b, removable_b, columns_b, sound_b}
 
 -- two tests that say the same are equal
@@ -107,37 +109,56 @@ rest_b l serial area =
     differ limit serial
     && (sorted_b area serial l.free l.frees && (zero_tail limit l.free l.frees && zero_tail limit l.removable l.removables))
 
+-- a list that is not as it should be
+pub free-refused : (l : Layout) → ok_b limit l.free l.frees ≡ false → sound_b l ≡ false
+unfolding sound_b columns_b free_b covered_b
+free-refused l e =
+    let c = checked_columns l.nodes in
+    and-false (domain_b l.settings) _
+    (and-false (table_b l) _
+    (and-false (hung_b limit c.serial c.first c.next) _
+    (and-false (sums_b l c) _
+    (and-false (serials_b c.serial l.serial) _ (rw e refl)))))
+
+pub removable-refused : (l : Layout) → ok_b limit l.removable l.removables ≡ false → sound_b l ≡ false
+unfolding sound_b columns_b removable_b covered_b
+removable-refused l e =
+    let c = checked_columns l.nodes in
+    and-false (domain_b l.settings) _
+    (and-false (table_b l) _
+    (and-false (hung_b limit c.serial c.first c.next) _
+    (and-false (sums_b l c) _
+    (and-false (serials_b c.serial l.serial) _
+    (and-false (free_b l c) _ (rw e refl))))))
+
 -- what the passes find of a layout, and what that makes of the tests behind them
-pub sound-is : (l : Layout) {named kept : Flags} {hung serial area : List ℕ} {linked counted framed : Bool}
-    → named ≡ flagged l.free l.frees
-    → kept ≡ flagged l.removable l.removables
+pub sound-is : (l : Layout) {named kept hung serial area : List ℕ} {linked counted framed : Bool}
+    → Some named ≡ flagged l.free l.frees
+    → Some kept ≡ flagged l.removable l.removables
     → linked ≡ rows_b limit l.settings l.nodes
     → (linked ≡ true → hung ≡ hang_rows limit l.nodes limit (zeros limit))
-    → counted ≡ census_b limit l.nodes l.serial l.used l.held named.flag kept.flag hung
+    → counted ≡ census_b limit l.nodes l.serial l.used l.held named kept hung
     → serial ≡ serials_of l.nodes
     → area ≡ areas_of l.nodes
     → framed ≡ (domain_b l.settings && (top_b limit l.settings (at l.nodes 0) && leb l.serial max_serial))
-    → sound_b l ≡ (((((named.ok && kept.ok) && linked) && counted) && framed) && rest_b l serial area)
+    → sound_b l ≡ (((linked && counted) && framed) && rest_b l serial area)
 unfolding sound_b table_b covered_b serials_b sums_b free_b removable_b columns_b census_b
 sound-is l {hung = hung} named kept rows hanging places serials areas frame =
     let t = l.nodes in
     let s = serials_of t in
     let k = kinds_of t in
-    let f = flagged l.free l.frees in
-    let g = flagged l.removable l.removables in
-    rw (frame, places, rows, named, kept, areas, serials)
+    let n = accepted-says l.free l.frees named in
+    let m = accepted-says l.removable l.removables kept in
+    rw (frame, places, rows, n.1, m.1, areas, serials)
     (regroup (domain_b l.settings) (places_b limit t) (top_b limit l.settings (at t 0)) _
     (hung_b limit s (firsts_of t) (nexts_of t)) (eqb (held_in s limit) l.held) (eqb (area_listed 1 k (areas_of t) limit) l.used)
-    (leb l.serial max_serial) (none_above_b limit s l.serial) (differ limit s) f.ok (covers_b limit true s k f.flag)
-    (zero_tail limit l.free l.frees) (sorted_b (areas_of t) s l.free l.frees) g.ok (covers_b limit false s k g.flag)
-    (zero_tail limit l.removable l.removables) (marked_b limit s hung)
-    (λ x y z. ap (marked_b limit s) (hanging (rows ∙ z)) ∙ hung-by-rows limit l.settings t x y))
-
--- the passes' answers that the tests behind them rest on: the first, and the last two
-pub some_of : (a b c d e : Bool) → ((((a && b) && c) && d) && e) ≡ true → (a ≡ true) × (d ≡ true) × (e ≡ true)
-some_of a b c d e x =
-    let y = and_left (((a && b) && c) && d) e x in
-    (and_left a b (and_left (a && b) c (and_left ((a && b) && c) d y)), and_right ((a && b) && c) d y, and_right (((a && b) && c) && d) e x)
+    (leb l.serial max_serial) (none_above_b limit s l.serial) (differ limit s) (ok_b limit l.free l.frees)
+    (covers_b limit true s k (flags_of limit l.free l.frees)) (zero_tail limit l.free l.frees)
+    (sorted_b (areas_of t) s l.free l.frees) (ok_b limit l.removable l.removables)
+    (covers_b limit false s k (flags_of limit l.removable l.removables)) (zero_tail limit l.removable l.removables)
+    (marked_b limit s hung)
+    (λ x y z. ap (marked_b limit s) (hanging (rows ∙ z)) ∙ hung-by-rows limit l.settings t x y)
+    ∙ rw (n.0, m.0) refl)
 
 -- where the census and the frame are as they should be, the serials are low enough to be told apart
 pub serials-low : (l : Layout) (free removable hung : List ℕ) {serial : List ℕ} {counted framed : Bool}

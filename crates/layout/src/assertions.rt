@@ -1,6 +1,6 @@
 // The soundness check. Rust: util/assertions.rs, made complete by document 01, "Sound layout". Its clauses are crate `sound`'s; here they are asked of a
-// layout. The table is gone through twice: by its rows, which marks what hangs, and by its places. The answers are looked at together, since the
-// compiler takes what stands behind an early return for rare; `rest_ok` waits for them.
+// layout. The table is gone through twice: by its rows, which marks what hangs, and by its places. The answers of the passes are looked at together,
+// since the compiler takes what stands behind an early return for rare; `rest_ok` waits for them.
 ghost use Rattle.std.specs.Prelude.{◌≡◌};
 ghost use Rattle.layout.specs.Check.{sound_b};
 
@@ -17,17 +17,15 @@ impl Layout {
         ensures { result ≡ sound_b self }
     {
         let nodes = self.nodes;
-        let free = self.free;
-        let removable = self.removable;
         let settings = self.settings;
-        let top = nodes[0];
-        let held = self.held as usize;
         let frees = self.frees as usize;
         let removables = self.removables as usize;
-        let named = flags_of(&free, frees);
-        let kept = flags_of(&removable, removables);
-        let in_free = named.flag;
-        let in_removable = kept.flag;
+        let Some(in_free) = flags_of(&self.free, frees) else {
+            return false;
+        };
+        let Some(in_removable) = flags_of(&self.removable, removables) else {
+            return false;
+        };
         let mut hung = [0u8; LIMIT];
         let linked = rows_ok(nodes, settings, &mut hung);
         let mut serial = [0u32; LIMIT];
@@ -36,18 +34,14 @@ impl Layout {
             nodes,
             self.serial,
             self.used,
-            held,
+            self.held as usize,
             &in_free,
             &in_removable,
             &hung,
             &mut serial,
             &mut area,
         );
-        let framed = frame_ok(settings, top, self.serial);
-        if named.ok & kept.ok & linked & counted & framed {
-            rest_ok(&area, &serial, &free, frees, &removable, removables)
-        } else {
-            false
-        }
+        let framed = frame_ok(settings, nodes[0], self.serial);
+        linked & counted & framed && rest_ok(&area, &serial, &self.free, frees, &self.removable, removables)
     }
 }

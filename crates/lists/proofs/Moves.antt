@@ -61,9 +61,10 @@ raised l n j = sets l (j + 1) (take (n - j) (drop j l))
 pub raised-none : (l : List ℕ) (n : ℕ) → l ≡ raised l n n
 raised-none l n = rw (sub_self n) refl
 
-pub raised-more : (l : List ℕ) (n i j : ℕ) → j ≡ i + 1 → j ≤ n → set (raised l n j) j (get_or (raised l n j) i 0) ≡ raised l n i
-raised-more l n i j e h =
-    ap (set (raised l n j) j) (get_d_sets_before (take (n - j) (drop j l)) l (j + 1) i (omega arith))
+pub raised-more : (l : List ℕ) (n i j k : ℕ) → j ≡ i + 1 → k ≡ j → j ≤ n → set (raised l n j) k (get_or (raised l n j) i 0) ≡ raised l n i
+raised-more l n i j k e q h =
+    ap (λ (x : ℕ). set (raised l n j) x (get_or (raised l n j) i 0)) q
+    ∙ ap (set (raised l n j) j) (get_d_sets_before (take (n - j) (drop j l)) l (j + 1) i (omega arith))
     ∙ set-sets (take (n - j) (drop j l)) l (j + 1) j (get_or l i 0) (omega arith)
     ∙ go (dec_lt i (length l))
   where

@@ -2,6 +2,7 @@
 use mathlib.Core.Path.{◌≡◌, refl, sym, ap, ◌∙◌}
 use mathlib.Core.List.{List}
 use mathlib.Core.Bool.{Bool, true, false, cond, ◌&&◌}
+use Rattle.std.specs.Prelude.{Some, None}
 use mathlib.Core.Logic.{◌⊎◌, inl, inr}
 use Prim.Native.Nat.{ℕ, zero, suc, ◌+◌, ◌≤◌, ◌<◌}
 use native.Mathlib.Nat.{not-suc-le-zero, add-zero}
@@ -14,7 +15,7 @@ use lib.Seq.{get_or-set_same, get_or-set_other, ext_get_or}
 use borrow.Author.Tests.{eq-eqb, ne_eqb, lt-ltb, le-ltb, le-leb, lt-leb, leb-true, ltb-true, eqb-true, not-false}
 use Rattle.lists.specs.Lists.{limit, zeros}
 use Rattle.lists.specs.Search.{every}
-use Rattle.lists.specs.Flags.{other_at, unnamed, new_at, ok_b, column, flag_at, flags_of, no_flags, flagged}
+use Rattle.lists.specs.Flags.{other_at, unnamed, new_at, ok_b, column, flag_at, flags_of, flagged}
 use Rattle.lists.proofs.Scan.{test, clash, and_left, and_right, and-false, every-none, every-all, every-fails, every-at, every-missing}
 
 -- ---- a column of values
@@ -117,10 +118,6 @@ module _ (bound : ℕ) (l : List ℕ) where
   unfolding ok_b
   all_new n h e = rw (le-leb n bound h, e) refl
 
-  pub flags-none : (n : ℕ) → ok_b bound l n ≡ false → flags_of bound l n ≡ zeros bound
-  unfolding flags_of
-  flags-none n e = rw e refl
-
   pub flags-column : (n : ℕ) → ok_b bound l n ≡ true → flags_of bound l n ≡ column (flag_at l n) bound 0
   unfolding flags_of
   flags-column n e = rw e refl
@@ -135,9 +132,30 @@ module _ (bound : ℕ) (l : List ℕ) where
       one : (i : ℕ) → i < bound → get_or flag i 0 ≡ get_or (column (flag_at l n) bound 0) i 0
       one i h = s.at i h ∙ ap (flag_at l n) (omega arith) ∙ sym (get_or-column (flag_at l n) bound 0 i h)
 
--- both answers of a list that is not as it should be
-pub refused : (l : List ℕ) (n : ℕ) → ok_b limit l n ≡ false → no_flags ≡ flagged l n
-refused l n e = rw (flags-none limit l n e, e) refl
+-- the answer of a list that is not as it should be, and of one that is
+pub refused : (l : List ℕ) (n : ℕ) → ok_b limit l n ≡ false → None ≡ flagged l n
+refused l n e = rw e refl
+
+pub accepted : (l : List ℕ) (n : ℕ) {flag : List ℕ} → ok_b limit l n ≡ true → flag ≡ flags_of limit l n → Some flag ≡ flagged l n
+accepted l n e f = rw (e, f) refl
+
+-- and back: a list that has no flags is not as it should be, and one that has is
+pub refused-says : (l : List ℕ) (n : ℕ) → None ≡ flagged l n → ok_b limit l n ≡ false
+refused-says l n e = go (ok_b limit l n) refl e
+  where
+    go : (b : Bool) → ok_b limit l n ≡ b → None ≡ cond b (Some (flags_of limit l n)) None → ok_b limit l n ≡ false
+    go true q e = cc
+    go false q e = q
+
+pub accepted-says : (l : List ℕ) (n : ℕ) {flag : List ℕ} → Some flag ≡ flagged l n → (ok_b limit l n ≡ true) × (flag ≡ flags_of limit l n)
+accepted-says l n {flag} e = go (ok_b limit l n) refl e
+  where
+    go : (b : Bool) → ok_b limit l n ≡ b → Some flag ≡ cond b (Some (flags_of limit l n)) None → (ok_b limit l n ≡ true) × (flag ≡ flags_of limit l n)
+    go true q e = (q, cc)
+    go false q e = absurd (no e)
+      where
+        no : Some flag ≡ None → ⊥
+        no e = cc
 
 -- ---- what the answer says
 

@@ -1,8 +1,7 @@
 -- Which places a list names.
-use Rattle.std.specs.Prelude.{List, [], ◌∷◌, Bool, false, cond, ◌&&◌, not, ℕ, zero, suc, ◌+◌, eqb, ltb, leb, get_or}
+use Rattle.std.specs.Prelude.{List, [], ◌∷◌, Bool, cond, ◌&&◌, not, ℕ, zero, suc, ◌+◌, eqb, ltb, leb, get_or, Option, Some, None}
 use Rattle.lists.specs.Lists.{limit, zeros}
 use Rattle.lists.specs.Search.{every}
-use Rattle.lists.specs.declared.flags.Flags.{Flags}
 
 -- p is not the entry at j
 abbrev pub other_at : List ℕ → ℕ → ℕ → Bool
@@ -33,10 +32,6 @@ flag_at l n p = cond (unnamed l n p) 0 1
 unfoldable pub flags_of : ℕ → List ℕ → ℕ → List ℕ
 flags_of bound l n = cond (ok_b bound l n) (column (flag_at l n) bound 0) (zeros bound)
 
--- no flags
-abbrev pub no_flags : Flags
-no_flags = record { ok = false; flag = zeros limit }
-
--- both answers
-abbrev pub flagged : List ℕ → ℕ → Flags
-flagged l n = record { ok = ok_b limit l n; flag = flags_of limit l n }
+-- the flags of a list that is as it should be
+abbrev pub flagged : List ℕ → ℕ → Option (List ℕ)
+flagged l n = cond (ok_b limit l n) (Some (flags_of limit l n)) None

@@ -17,29 +17,22 @@ pub fn index_of(list: &[u16; LIMIT], count: usize, place: u16) -> usize
     requires { count ≤ limit }
     ensures { result ≡ index_of list.now count place }
 {
-    let mut i: usize = 0;
-    let found = loop {
-        if count <= i {
-            break count;
-        }
+    for i in 0..count {
         if list[i] == place {
-            break i;
+            return i;
         }
-        i += 1;
-    };
-    found
+    }
+    count
 }
 
 // Every entry from the count on is 0.
 pub fn zero_tail(list: &[u16; LIMIT], count: usize) -> bool
     ensures { result ≡ zero_tail limit list.now count }
 {
-    let mut i = count;
-    while i < LIMIT {
+    for i in count..LIMIT {
         if list[i] != 0 {
             return false;
         }
-        i += 1;
     }
     true
 }

@@ -21,9 +21,7 @@ fn residues_differ(s: &[u32; LIMIT]) -> bool
     ensures { result ≡ residues_differ limit s.now }
 {
     let mut flag = [0u8; 4096];
-    let mut i: usize = 0;
-    while i < LIMIT {
-        let a = s[i];
+    for &a in s {
         if a != 0 {
             let r = (a % 4096) as usize;
             if flag[r] == 1 {
@@ -31,7 +29,6 @@ fn residues_differ(s: &[u32; LIMIT]) -> bool
             }
             flag[r] = 1;
         }
-        i += 1;
     }
     true
 }
@@ -43,13 +40,10 @@ fn chains_of(s: &[u32; LIMIT]) -> Chains
 {
     let mut head = [0u16; 256];
     let mut link = [0u16; LIMIT];
-    let mut i: usize = 0;
-    while i < LIMIT {
-        let a = s[i];
-        let h = (a / 4096) as usize;
+    for i in 0..LIMIT {
+        let h = (s[i] / 4096) as usize;
         link[i] = head[h];
-        i += 1;
-        head[h] = i as u16;
+        head[h] = i as u16 + 1;
     }
     Chains { head, link }
 }
@@ -59,30 +53,24 @@ fn chains_differ(s: &[u32; LIMIT], chains: Chains) -> bool
     requires { Low s.now × Chained s.now chains }
     ensures { result ≡ differ limit s.now }
 {
-    let head = chains.head;
-    let link = chains.link;
     let mut stamp = [0u16; 4096];
-    let mut ok = true;
-    let mut h: usize = 0;
-    'all: while h < 256 {
-        let mark = (h + 1) as u16;
-        let mut c = wide(head[h]);
+    for h in 0..256 {
+        let mark = h as u16 + 1;
+        let mut c = wide(chains.head[h]);
         while 0 < c {
             let p = c - 1;
             let a = s[p];
             if a != 0 {
                 let r = (a % 4096) as usize;
                 if stamp[r] == mark {
-                    ok = false;
-                    break 'all;
+                    return false;
                 }
                 stamp[r] = mark;
             }
-            c = wide(link[p]);
+            c = wide(chains.link[p]);
         }
-        h += 1;
     }
-    ok
+    true
 }
 
 // No serial but 0 stands twice.
@@ -90,9 +78,5 @@ pub fn all_differ(s: &[u32; LIMIT]) -> bool
     requires { Low s.now }
     ensures { result ≡ differ limit s.now }
 {
-    if residues_differ(s) {
-        true
-    } else {
-        chains_differ(s, chains_of(s))
-    }
+    residues_differ(s) || chains_differ(s, chains_of(s))
 }

@@ -9,12 +9,8 @@ pub fn insert_at(list: &mut [u16; LIMIT], count: usize, at: usize, place: u16)
     requires { (at ≤ count) × (count < limit) }
     ensures { list.new ≡ put_in list.old count at place }
 {
-    let mut j = count;
-    while at < j {
-        let i = j - 1;
-        let v = list[i];
-        list[j] = v;
-        j = i;
+    for i in (at..count).rev() {
+        list[i + 1] = list[i];
     }
     list[at] = place;
 }
@@ -24,15 +20,10 @@ pub fn delete_at(list: &mut [u16; LIMIT], count: usize, at: usize)
     requires { (at < count) × (count ≤ limit) }
     ensures { list.new ≡ take_out list.old count at }
 {
-    let mut i = at + 1;
-    while i < count {
-        let j = i - 1;
-        let v = list[i];
-        list[j] = v;
-        i += 1;
+    for i in at + 1..count {
+        list[i - 1] = list[i];
     }
-    let end = count - 1;
-    list[end] = 0;
+    list[count - 1] = 0;
 }
 
 // Takes the entry at an index out of a list whose order is free: the final entry goes into the hole.
@@ -41,7 +32,6 @@ pub fn swap_out(list: &mut [u16; LIMIT], count: usize, at: usize)
     ensures { list.new ≡ swap_out list.old count at }
 {
     let last = count - 1;
-    let v = list[last];
-    list[at] = v;
+    list[at] = list[last];
     list[last] = 0;
 }

@@ -14,12 +14,12 @@ loop-i-preserved c =
     let a = c.args in
     search-on (stands_at a.list.now a.place) a.count l.i l.invariant (omega arith) (ne_eqb _ _ c.if-list-i.false)
 
-pub returns-then-count-i : goal.returns-then-count-i
+pub returns : goal.returns
 unfolding index_of
-returns-then-count-i c =
+returns c =
     let l = c.loop-i in
     let a = c.args in
-    search-end (stands_at a.list.now a.place) a.count l.i l.invariant c.if-count-i.true
+    search-end (stands_at a.list.now a.place) a.count l.i l.invariant (omega arith)
 
 pub returns-then-list-i : goal.returns-then-list-i
 unfolding index_of

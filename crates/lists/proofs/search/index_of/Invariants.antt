@@ -1,11 +1,7 @@
 -- `lists::search::index_of` meets its contract: a search, of which `Scan` has the steps. Assumes nothing.
-use Prim.Native.Nat.{◌-◌}
 use Rattle.lists.specs.Search.{stands_at}
 use Rattle.lists.proofs.Scan.{Searching}
 use Rattle.lists.proofs.search.index_of.Given as goal
 
 abbrev pub invariant-loop-i : goal.invariant-loop-i
 invariant-loop-i l = Searching (stands_at l.list l.place) l.count l.i
-
-abbrev pub decreases-loop-i : goal.decreases-loop-i
-decreases-loop-i l = l.count - l.i

@@ -12,7 +12,7 @@ use Rattle.lists.proofs.search.zero_tail.Goals as goal
 pub loop-i-init : goal.loop-i-init
 loop-i-init c =
     let z = zero_at c.args.list.now c.args.count in
-    (omega arith, every-all z c.args.count (λ i h. rw (lt-ltb i c.args.count h) refl))
+    every-all z c.args.count (λ i h. rw (lt-ltb i c.args.count h) refl)
 
 pub returns-then-list-i-ne0 : goal.returns-then-list-i-ne0
 unfolding zero_tail
@@ -20,7 +20,7 @@ returns-then-list-i-ne0 c =
     let l = c.loop-i in
     let a = c.args in
     let z = zero_at a.list.now a.count in
-    let e : z l.i ≡ false = rw (le-ltb l.i a.count l.invariant.0, ne_eqb (get_or a.list.now l.i 0) 0 c.if-list-i-ne0.true) refl in
+    let e : z l.i ≡ false = rw (le-ltb l.i a.count (omega arith), ne_eqb (get_or a.list.now l.i 0) 0 c.if-list-i-ne0.true) refl in
     sym (every-fails z limit l.i (omega arith) e)
 
 pub loop-i-preserved : goal.loop-i-preserved
@@ -28,12 +28,12 @@ loop-i-preserved c =
     let l = c.loop-i in
     let a = c.args in
     let z = zero_at a.list.now a.count in
-    let e : z l.i ≡ true = rw (le-ltb l.i a.count l.invariant.0, eq-eqb (get_or a.list.now l.i 0) 0 c.if-list-i-ne0.false) refl in
-    (omega arith, every_more z l.i l.invariant.1 e)
+    let e : z l.i ≡ true = rw (le-ltb l.i a.count (omega arith), eq-eqb (get_or a.list.now l.i 0) 0 c.if-list-i-ne0.false) refl in
+    every_more z l.i l.invariant e
 
 pub returns : goal.returns
 unfolding zero_tail
 returns c =
     let l = c.loop-i in
     let z = zero_at c.args.list.now c.args.count in
-    sym (every-all z limit (λ i h. every-at z l.i i l.invariant.1 (omega arith)))
+    sym (every-all z limit (λ i h. every-at z l.i i l.invariant (omega arith)))

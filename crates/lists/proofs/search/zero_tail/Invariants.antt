@@ -1,13 +1,8 @@
 -- `lists::search::zero_tail` meets its contract: every index that was passed is below the count or has a zero. Assumes nothing.
 use mathlib.Core.Path.{◌≡◌}
 use mathlib.Core.Bool.{true}
-use Prim.Native.Nat.{◌-◌, ◌≤◌}
-use Rattle.lists.specs.Lists.{limit}
 use Rattle.lists.specs.Search.{every, zero_at}
 use Rattle.lists.proofs.search.zero_tail.Given as goal
 
 abbrev pub invariant-loop-i : goal.invariant-loop-i
-invariant-loop-i l = (l.count ≤ l.i) × (every (zero_at l.list l.count) l.i ≡ true)
-
-abbrev pub decreases-loop-i : goal.decreases-loop-i
-decreases-loop-i l = limit - l.i
+invariant-loop-i l = every (zero_at l.list l.count) l.i ≡ true

@@ -7,4 +7,4 @@ use Rattle.lists.proofs.serials.all_differ.Goals as goal
 pub returns-then-residues_differ : goal.returns-then-residues_differ
 returns-then-residues_differ c =
     let r = c.residues_differ in
-    sym (residues-apart c.args.s.now limit (sym r.ensures ∙ c.if-residues_differ.true))
+    c.if-residues_differ.true ∙ sym (residues-apart c.args.s.now limit (sym r.ensures ∙ c.if-residues_differ.true))

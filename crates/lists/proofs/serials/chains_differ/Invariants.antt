@@ -1,8 +1,7 @@
 -- `lists::serials::chains_differ` meets its contract. Outside, the serials of the classes that were passed stand once; inside, so do those of one
 -- class from the place on that the walk has come down to. The measure of the walk is the number that it stands at. Assumes nothing.
 use mathlib.Core.Path.{◌≡◌}
-use mathlib.Core.Bool.{true}
-use Prim.Native.Nat.{ℕ, ◌+◌, ◌-◌, ◌≤◌}
+use Prim.Native.Nat.{ℕ, ◌+◌, ◌≤◌}
 use Rattle.lists.specs.Lists.{limit}
 use Rattle.lists.specs.Inner.{class_at}
 use Rattle.lists.proofs.Visits.{Done}
@@ -10,13 +9,10 @@ use Rattle.lists.proofs.Visits.{Visited}
 use Rattle.lists.proofs.serials.chains_differ.Given as goal
 
 abbrev pub invariant-loop-c : goal.invariant-loop-c
-invariant-loop-c l = (l.c ≤ limit) × (l.ok ≡ true) × Visited l.s l.h l.c l.stamp × ((p : ℕ) → l.c ≡ p + 1 → class_at l.s p ≡ l.h)
+invariant-loop-c l = (l.c ≤ limit) × Visited l.s l.h l.c l.stamp × ((p : ℕ) → l.c ≡ p + 1 → class_at l.s p ≡ l.h)
 
 abbrev pub decreases-loop-c : goal.decreases-loop-c
 decreases-loop-c l = l.c
 
-abbrev pub invariant-all : goal.invariant-all
-invariant-all l = (l.h ≤ 256) × (l.ok ≡ true) × Done l.s l.h l.stamp
-
-abbrev pub decreases-all : goal.decreases-all
-decreases-all l = 256 - l.h
+abbrev pub invariant-loop-h : goal.invariant-loop-h
+invariant-loop-h l = Done l.s l.h l.stamp
