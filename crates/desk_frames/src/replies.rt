@@ -142,7 +142,7 @@ fn snapshot(layout: Layout, out: &mut [u8]) -> usize
 {
     let mut bytes = [0u8; 14 * LIMIT];
     match questions::written::snapshot(layout, &mut bytes) {
-        CountAnswer::Count(n) => write::entries(out, SNAPSHOT, n / NODE, &bytes, n as usize),
+        CountAnswer::Count(n) => write::entries(out, SNAPSHOT, n / NODE, &bytes[..n as usize]),
         CountAnswer::Refused(refusal) => refused(out, SNAPSHOT, refusal),
     }
 }
@@ -154,7 +154,7 @@ fn cuts(layout: Layout, out: &mut [u8]) -> usize
 {
     let mut bytes = [0u8; saw::cuts::ROOM];
     match saw::cuts::cuts(layout, &mut bytes) {
-        CountAnswer::Count(n) => write::entries(out, CUTS, n / CUT, &bytes, n as usize),
+        CountAnswer::Count(n) => write::entries(out, CUTS, n / CUT, &bytes[..n as usize]),
         CountAnswer::Refused(refusal) => refused(out, CUTS, refusal),
     }
 }
@@ -176,7 +176,7 @@ fn amounts(layout: Layout, out: &mut [u8]) -> usize
 {
     let mut bytes = [0u8; saw::cuts::AMOUNTS];
     match saw::cuts::amounts(layout, &mut bytes) {
-        CountAnswer::Count(n) => write::entries(out, AMOUNTS, n, &bytes, n as usize),
+        CountAnswer::Count(n) => write::entries(out, AMOUNTS, n, &bytes[..n as usize]),
         CountAnswer::Refused(refusal) => refused(out, AMOUNTS, refusal),
     }
 }

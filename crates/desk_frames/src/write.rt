@@ -85,24 +85,24 @@ pub fn count(out: &mut [u8], op: u8, count: u16) -> usize
     end(out, next)
 }
 
-// How many entries, and the first n bytes of a list, which are theirs.
-pub fn entries(out: &mut [u8], op: u8, count: u16, bytes: &[u8], n: usize) -> usize
-    requires { (n ≤ length bytes.now) × (11 + 2 * n ≤ length out.old) }
-    ensures { LinePut out.old (op ∷ 0 ∷ (two count ++ take n bytes.now)) out.new result }
+// How many entries, and their bytes.
+pub fn entries(out: &mut [u8], op: u8, count: u16, bytes: &[u8]) -> usize
+    requires { 11 + 2 * length bytes.now ≤ length out.old }
+    ensures { LinePut out.old (op ∷ 0 ∷ (two count ++ bytes.now)) out.new result }
 {
     let pen = begin(out, op, 0);
     let counted = put_two(out, pen, count);
-    let next = put_bytes(out, counted, bytes, n);
+    let next = put_bytes(out, counted, bytes);
     end(out, next)
 }
 
-// How many numbers, and each.
+// How many numbers, and the first so many of a list.
 pub fn numbers(out: &mut [u8], op: u8, numbers: &[u16], count: u16) -> usize
     requires { (count ≤ length numbers.now) × (11 + 4 * count ≤ length out.old) }
     ensures { LinePut out.old (op ∷ 0 ∷ (two count ++ each two (take count numbers.now))) out.new result }
 {
     let pen = begin(out, op, 0);
     let counted = put_two(out, pen, count);
-    let next = put_twos(out, counted, numbers, count as usize);
+    let next = put_twos(out, counted, &numbers[..count as usize]);
     end(out, next)
 }

@@ -1,5 +1,5 @@
 -- Writing in a row: what two writes leave, a list's turn, and a line's end.
-use Rattle.std.proofs.Common.{◌≡◌, ℕ, suc, ◌+◌, ◌-◌, ◌*◌, ◌/◌, ◌%◌, ◌^◌, ◌<◌, ◌≤◌, List, [], ◌∷◌, ◌++◌, length, get_or, take, set, sym, refl, ap, ◌∙◌, append_assoc, append-nil, add_comm, mul-le-mul_left, mul-zero, mul-suc, add-one, arith, length-append, length-take-le, take-suc}
+use Rattle.std.proofs.Common.{◌≡◌, ℕ, suc, ◌+◌, ◌-◌, ◌*◌, ◌/◌, ◌%◌, ◌^◌, ◌<◌, ◌≤◌, List, [], ◌∷◌, ◌++◌, length, get_or, take, set, sym, refl, ap, ◌∙◌, append_assoc, append-nil, add_comm, mul-le-mul_left, mul-zero, mul-suc, add-one, arith, length-append, length-take-le, take-suc, take_all}
 use lib.Seq.{sets, length-sets}
 use Rattle.hexadecimal.specs.Hex.{letter_of}
 use Rattle.frames.specs.declared.write.Pen.{Pen}
@@ -52,7 +52,7 @@ module _ {A : Type 0} (bytes : A → List ℕ) where
   each_append [] ys = refl
   each_append (x ∷ xs) ys = ap (λ (t : List ℕ). bytes x ++ t) (each_append xs ys) ∙ sym (append_assoc (bytes x) (each bytes xs) (each bytes ys))
 
-  length-each : (k : ℕ) → ((x : A) → length (bytes x) ≡ k) → (xs : List A) → length (each bytes xs) ≡ k * length xs
+  pub length-each : (k : ℕ) → ((x : A) → length (bytes x) ≡ k) → (xs : List A) → length (each bytes xs) ≡ k * length xs
   unfolding each
   length-each k e [] = sym (mul-zero k)
   length-each k e (x ∷ xs) = length-append (bytes x) (each bytes xs) ∙ rw (e x, length-each k e xs, mul-suc) (add_comm k (k * length xs))
@@ -77,35 +77,31 @@ unfolding each
 each-itself [] = refl
 each-itself (b ∷ bs) = ap (λ (t : List ℕ). b ∷ t) (each-itself bs)
 
--- a loop that writes a list up to n, element by element: the first i are written
-pub record Turns {A : Type 0} (bytes : A → List ℕ) (xs : List A) (n : ℕ) (l : List ℕ) (p : Pen) (i : ℕ) (m : List ℕ) (q : Pen) : Type 0 where
-  pub wrote : Wrote l p (each bytes (take i xs)) m q
-  pub most : i ≤ n
-
-module _ {A : Type 0} {bytes : A → List ℕ} {xs : List A} {n : ℕ} {l : List ℕ} {p : Pen} where
-  pub none_yet : p.sum < 256 → Turns bytes xs n l p 0 l p
+-- a loop that writes a list, element by element: the first i are written
+module _ {A : Type 0} (bytes : A → List ℕ) (xs : List A) {l : List ℕ} {p : Pen} where
+  pub none_yet : p.sum < 256 → Wrote l p (each bytes (take 0 xs)) l p
   unfolding each chars_of total
-  none_yet h = record { wrote = record { chars = refl; moved = omega arith; added = omega arith }; most = omega arith }
+  none_yet h = record { chars = refl; moved = omega arith; added = omega arith }
 
-  module _ {i : ℕ} {m : List ℕ} {q : Pen} (w : Turns bytes xs n l p i m q) where
-    pub turn : {m' : List ℕ} {q' : Pen} (d : A) → i < n → n ≤ length xs → Wrote m q (bytes (get_or xs i d)) m' q' → Turns bytes xs n l p (i + 1) m' q'
-    turn d h f y = record { wrote = rw (one_more bytes xs i d (omega arith)) (and_then w.wrote y); most = omega arith }
+  module _ (i : ℕ) {m : List ℕ} {q : Pen} (w : Wrote l p (each bytes (take i xs)) m q) where
+    pub turn : {m' : List ℕ} {q' : Pen} (d : A) → i < length xs → Wrote m q (bytes (get_or xs i d)) m' q' → Wrote l p (each bytes (take (i + 1) xs)) m' q'
+    turn d h y = rw (one_more bytes xs i d h) (and_then w y)
 
-    -- where each takes k bytes, and there was room for n of them, there is room for one more
-    pub next-room : (k : ℕ) → ((x : A) → length (bytes x) ≡ k) → i < n → n ≤ length xs → p.at + 2 * (k * n) ≤ length l → q.at + 2 * k ≤ length m
-    next-room k e h f room =
-        let more : suc i ≤ n = omega arith in
+    -- where each takes k bytes, and there was room for all, there is room for one more
+    pub next-room : (k : ℕ) → ((x : A) → length (bytes x) ≡ k) → i < length xs → p.at + 2 * (k * length xs) ≤ length l → q.at + 2 * k ≤ length m
+    next-room k e h room =
+        let more : suc i ≤ length xs = omega arith in
         omega (
           arith,
           mul-suc k i,
           mul-le-mul_left k more,
-          w.wrote.moved,
-          same-room w.wrote,
+          w.moved,
+          same-room w,
           length_taken bytes k e xs i (omega arith),
         )
 
-    pub whole : n ≤ i → Wrote l p (each bytes (take n xs)) m q
-    whole h = let e : i ≡ n = omega arith in rw e at w.wrote
+    pub whole : length xs ≤ i → Wrote l p (each bytes xs) m q
+    whole h = rw (take_all i xs h) at w
 
 length-ending : (s : ℕ) → length (ending s) ≡ 3
 unfolding chars_of

@@ -8,6 +8,7 @@ use piece::parttype::PartType;
 use piece::rotation::Rotation;
 use piece::settings::Opening;
 
+pub mod ops;
 pub mod read;
 pub mod write;
 

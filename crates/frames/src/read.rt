@@ -6,7 +6,7 @@ ghost use Rattle.frames.specs.Framing.{ReadsFrame};
 ghost use Rattle.frames.specs.Fields.{mark_fields, part_fields, widths, size_at, mark_at, part_at};
 ghost use Rattle.frames.specs.Requests.{read_open, read_offers, read_insert, read_remove, length_of, asked_by, request_of};
 
-use crate::{Ask, Request};
+use crate::{Ask, Request, ops};
 use marks::Mark;
 use piece::insertion_blueprint::InsertionShape;
 use piece::orientation::Orientation;
@@ -156,10 +156,9 @@ pub fn part_at(b: &[u8; 32], i: usize) -> PartType
 fn open(b: &[u8; 32]) -> Request
     ensures { result ≡ read_open b.now }
 {
-    let cut = b[OPEN_CUT];
-    if 1 < cut {
+    let Ok(cut) = Orientation::try_from(b[OPEN_CUT]) else {
         return Request::Malformed;
-    }
+    };
     Request::OfLayout(Ask::Open {
         opening: Opening {
             number: two_at(b, FIRST),
@@ -168,7 +167,7 @@ fn open(b: &[u8; 32]) -> Request
                 blade: b[OPEN_BLADE],
                 sheet: size_at(b, OPEN_SIZE),
             },
-            cut: Orientation::of_number(cut),
+            cut,
         },
     })
 }
@@ -190,25 +189,20 @@ fn insert(b: &[u8; 32]) -> Request
     ensures { result ≡ read_insert b.now }
 {
     let turn = b[INSERT_TURN];
-    let rotation = b[INSERT_ROTATION];
-    let shape = b[INSERT_SHAPE];
     if 2 < turn {
         return Request::Malformed;
     }
-    if 1 < rotation {
+    let Ok(rotation) = Rotation::try_from(b[INSERT_ROTATION]) else {
         return Request::Malformed;
-    }
-    if shape < 1 {
+    };
+    let Ok(shape) = InsertionShape::try_from(b[INSERT_SHAPE]) else {
         return Request::Malformed;
-    }
-    if 4 < shape {
-        return Request::Malformed;
-    }
+    };
     Request::OfLayout(Ask::Insert {
         mark: mark_at(b, FIRST),
         part: part_at(b, INSERT_PART),
-        rotation: Rotation::of_number(rotation),
-        shape: InsertionShape::of_number(shape),
+        rotation,
+        shape,
     })
 }
 
@@ -225,10 +219,10 @@ fn length_of(op: u8) -> usize
     ensures { result ≡ length_of op }
 {
     match op {
-        1 => OPEN,
-        2 => OFFERS,
-        3 => INSERT,
-        4 => REMOVE,
+        ops::OPEN => OPEN,
+        ops::OFFERS => OFFERS,
+        ops::INSERT => INSERT,
+        ops::REMOVE => REMOVE,
         _ => BARE,
     }
 }
@@ -237,13 +231,13 @@ fn asked_by(op: u8, b: &[u8; 32]) -> Request
     ensures { result ≡ asked_by op b.now }
 {
     match op {
-        1 => open(b),
-        2 => offers(b),
-        3 => insert(b),
-        4 => remove(b),
-        5 => Request::Keep,
-        6 => Request::Restore,
-        7 => Request::OfLayout(Ask::Report),
+        ops::OPEN => open(b),
+        ops::OFFERS => offers(b),
+        ops::INSERT => insert(b),
+        ops::REMOVE => remove(b),
+        ops::KEEP => Request::Keep,
+        ops::RESTORE => Request::Restore,
+        ops::REPORT => Request::OfLayout(Ask::Report),
         _ => Request::Malformed,
     }
 }

@@ -7,6 +7,7 @@ ghost use Rattle.frames.specs.Fields.{mark_bytes};
 ghost use Rattle.frames.specs.Answers.{Answer, offer_bytes, each};
 ghost use Rattle.frames.specs.Writing.{AnswerPut, Wrote, fresh_pen, ending};
 
+use crate::ops;
 use marks::{Mark, Refusal};
 use piece::insertion_option::{Offer, OfferList};
 
@@ -69,75 +70,62 @@ fn put_offer(out: &mut [u8], pen: Pen, offer: Offer) -> Pen
     requires { pen.at + 4 ≤ length out.old }
     ensures { Wrote out.old pen (offer_bytes offer) out.new result }
 {
-    let rotation = offer.rotation;
-    let shape = offer.shape;
-    let next = put(out, pen, rotation.number());
-    put(out, next, shape.number())
+    let next = put(out, pen, offer.rotation.number());
+    put(out, next, offer.shape.number())
 }
 
-// The first n bytes of a list.
-pub fn put_bytes(out: &mut [u8], pen: Pen, bytes: &[u8], n: usize) -> Pen
-    requires { (n ≤ length bytes.now) × (pen.at + 2 * n ≤ length out.old) }
-    ensures { Wrote out.old pen (take n bytes.now) out.new result }
+pub fn put_bytes(out: &mut [u8], pen: Pen, bytes: &[u8]) -> Pen
+    requires { pen.at + 2 * length bytes.now ≤ length out.old }
+    ensures { Wrote out.old pen bytes.now out.new result }
 {
     let mut next = pen;
-    let mut i: usize = 0;
-    while i < n {
-        next = put(out, next, bytes[i]);
-        i += 1;
+    for &byte in bytes {
+        next = put(out, next, byte);
+    }
+    next
+}
+
+pub fn put_twos(out: &mut [u8], pen: Pen, numbers: &[u16]) -> Pen
+    requires { pen.at + 4 * length numbers.now ≤ length out.old }
+    ensures { Wrote out.old pen (each two numbers.now) out.new result }
+{
+    let mut next = pen;
+    for &number in numbers {
+        next = put_two(out, next, number);
     }
     next
 }
 
 // Lists, each after its count.
 
-fn put_offers(out: &mut [u8], pen: Pen, offers: OfferList) -> Pen
-    requires { (offers.count ≤ 4) × (pen.at + (2 + 4 * offers.count) ≤ length out.old) }
-    ensures { Wrote out.old pen (offers.count ∷ each offer_bytes (take offers.count offers.list)) out.new result }
+fn put_offers(out: &mut [u8], pen: Pen, offers: &[Offer]) -> Pen
+    requires { (length offers.now ≤ 255) × (pen.at + (2 + 4 * length offers.now) ≤ length out.old) }
+    ensures { Wrote out.old pen (length offers.now ∷ each offer_bytes offers.now) out.new result }
 {
-    let count = offers.count;
-    let mut next = put(out, pen, count as u8);
-    let mut i: usize = 0;
-    while i < count {
-        next = put_offer(out, next, offers.list[i]);
-        i += 1;
+    let mut next = put(out, pen, offers.len() as u8);
+    for &offer in offers {
+        next = put_offer(out, next, offer);
     }
     next
 }
 
-fn put_marks(out: &mut [u8], pen: Pen, marks: [Mark; 2], count: usize) -> Pen
-    requires { (count ≤ 2) × (pen.at + (2 + 14 * count) ≤ length out.old) }
-    ensures { Wrote out.old pen (count ∷ each mark_bytes (take count marks)) out.new result }
+fn put_marks(out: &mut [u8], pen: Pen, marks: &[Mark]) -> Pen
+    requires { (length marks.now ≤ 255) × (pen.at + (2 + 14 * length marks.now) ≤ length out.old) }
+    ensures { Wrote out.old pen (length marks.now ∷ each mark_bytes marks.now) out.new result }
 {
-    let mut next = put(out, pen, count as u8);
-    let mut i: usize = 0;
-    while i < count {
-        next = put_mark(out, next, marks[i]);
-        i += 1;
+    let mut next = put(out, pen, marks.len() as u8);
+    for &mark in marks {
+        next = put_mark(out, next, mark);
     }
     next
 }
 
-// The first n numbers of a list.
-pub fn put_twos(out: &mut [u8], pen: Pen, numbers: &[u16], n: usize) -> Pen
-    requires { (n ≤ length numbers.now) × (pen.at + 4 * n ≤ length out.old) }
-    ensures { Wrote out.old pen (each two (take n numbers.now)) out.new result }
+fn put_numbers(out: &mut [u8], pen: Pen, numbers: &[u16]) -> Pen
+    requires { (length numbers.now ≤ 255) × (pen.at + (2 + 4 * length numbers.now) ≤ length out.old) }
+    ensures { Wrote out.old pen (length numbers.now ∷ each two numbers.now) out.new result }
 {
-    let mut next = pen;
-    let mut i: usize = 0;
-    while i < n {
-        next = put_two(out, next, numbers[i]);
-        i += 1;
-    }
-    next
-}
-
-fn put_numbers(out: &mut [u8], pen: Pen, numbers: &[u16], count: usize) -> Pen
-    requires { (count ≤ 255) × (count ≤ length numbers.now) × (pen.at + (2 + 4 * count) ≤ length out.old) }
-    ensures { Wrote out.old pen (count ∷ each two (take count numbers.now)) out.new result }
-{
-    let next = put(out, pen, count as u8);
-    put_twos(out, next, numbers, count)
+    let next = put(out, pen, numbers.len() as u8);
+    put_twos(out, next, numbers)
 }
 
 // An answer begins with its op and a number, 0 where it is no refusal, and ends with its check and a newline.
@@ -156,9 +144,8 @@ pub fn end(out: &mut [u8], pen: Pen) -> usize
     ensures { (result ≡ pen.at + 3) × (out.new ≡ sets out.old pen.at (ending pen.sum)) }
 {
     let next = put(out, pen, 0u8.wrapping_sub(pen.sum));
-    let at = next.at;
-    out[at] = b'\n';
-    at + 1
+    out[next.at] = b'\n';
+    next.at + 1
 }
 
 pub fn refused(out: &mut [u8], op: u8, refusal: Refusal) -> usize
@@ -173,7 +160,7 @@ pub fn malformed(out: &mut [u8]) -> usize
     requires { 7 ≤ length out.old }
     ensures { AnswerPut out.old Answer.malformed out.new result }
 {
-    let pen = begin(out, 255, 14);
+    let pen = begin(out, ops::NONE, Refusal::Malformed.number());
     end(out, pen)
 }
 
@@ -189,7 +176,7 @@ pub fn opened(out: &mut [u8], mark: Mark) -> usize
     requires { 21 ≤ length out.old }
     ensures { AnswerPut out.old (Answer.opened mark) out.new result }
 {
-    let pen = begin(out, 1, 0);
+    let pen = begin(out, ops::OPEN, 0);
     let next = put_mark(out, pen, mark);
     end(out, next)
 }
@@ -198,29 +185,30 @@ pub fn offered(out: &mut [u8], offers: OfferList) -> usize
     requires { (offers.count ≤ 4) × (9 + 4 * offers.count ≤ length out.old) }
     ensures { AnswerPut out.old (Answer.offered (take offers.count offers.list)) out.new result }
 {
-    let pen = begin(out, 2, 0);
-    let next = put_offers(out, pen, offers);
+    let list = offers.list;
+    let pen = begin(out, ops::OFFERS, 0);
+    let next = put_offers(out, pen, &list[..offers.count]);
     end(out, next)
 }
 
-pub fn inserted(out: &mut [u8], first: Mark, part: Mark, frees: [Mark; 2], count: usize) -> usize
-    requires { (count ≤ 2) × (37 + 14 * count ≤ length out.old) }
-    ensures { AnswerPut out.old (Answer.inserted first part (take count frees)) out.new result }
+pub fn inserted(out: &mut [u8], first: Mark, part: Mark, frees: &[Mark]) -> usize
+    requires { (length frees.now ≤ 2) × (37 + 14 * length frees.now ≤ length out.old) }
+    ensures { AnswerPut out.old (Answer.inserted first part frees.now) out.new result }
 {
-    let pen = begin(out, 3, 0);
+    let pen = begin(out, ops::INSERT, 0);
     let one = put_mark(out, pen, first);
     let two = put_mark(out, one, part);
-    let next = put_marks(out, two, frees, count);
+    let next = put_marks(out, two, frees);
     end(out, next)
 }
 
-pub fn removed(out: &mut [u8], mark: Mark, numbers: &[u16], count: usize) -> usize
-    requires { (count ≤ 255) × (count ≤ length numbers.now) × (23 + 4 * count ≤ length out.old) }
-    ensures { AnswerPut out.old (Answer.removed mark (take count numbers.now)) out.new result }
+pub fn removed(out: &mut [u8], mark: Mark, numbers: &[u16]) -> usize
+    requires { (length numbers.now ≤ 255) × (23 + 4 * length numbers.now ≤ length out.old) }
+    ensures { AnswerPut out.old (Answer.removed mark numbers.now) out.new result }
 {
-    let pen = begin(out, 4, 0);
+    let pen = begin(out, ops::REMOVE, 0);
     let one = put_mark(out, pen, mark);
-    let next = put_numbers(out, one, numbers, count);
+    let next = put_numbers(out, one, numbers);
     end(out, next)
 }
 
@@ -228,7 +216,7 @@ pub fn reported(out: &mut [u8], used: u64, nodes: u16, usage_bits: u64) -> usize
     requires { 41 ≤ length out.old }
     ensures { AnswerPut out.old (Answer.reported used nodes usage_bits) out.new result }
 {
-    let pen = begin(out, 7, 0);
+    let pen = begin(out, ops::REPORT, 0);
     let one = put_eight(out, pen, used);
     let two = put(out, one, (nodes % 256) as u8);
     let next = put_eight(out, two, usage_bits);

@@ -55,11 +55,10 @@ pub fn inserted(marks: NewMarks) -> Said
     requires { marks.count ≤ 2 }
     ensures { Says (marks_said marks) result }
 {
-    let first = marks.first;
-    let part = marks.part;
     let frees = marks.frees;
     let mut line = [0u8; LONGEST_ANSWER];
-    let count = frames::write::inserted(&mut line, first, part, frees, marks.count);
+    let count =
+        frames::write::inserted(&mut line, marks.first, marks.part, &frees[..marks.count]);
     Said { line, count }
 }
 
@@ -68,7 +67,7 @@ pub fn removed(free: Mark, numbers: &[u16], many: usize) -> Said
     ensures { Says (Answer.removed free (take many numbers.now)) result }
 {
     let mut line = [0u8; LONGEST_ANSWER];
-    let count = frames::write::removed(&mut line, free, numbers, many);
+    let count = frames::write::removed(&mut line, free, &numbers[..many]);
     Said { line, count }
 }
 

@@ -1,6 +1,8 @@
 -- `replies::cuts` meets its contract. Assumes nothing.
 use Prim.Native.Nat.{◌*◌}
 use native.Mathlib.Omega.{arith}
+use mathlib.Core.Path.{ap}
+use lib.ListN.{length}
 use Rattle.layout.specs.Check.{limit}
 use Rattle.layout.proofs.Typed.{typed-sized}
 use Rattle.saw.specs.Written.{saw_bytes}
@@ -14,7 +16,7 @@ pub entries-requires : goal.entries-requires
 entries-requires c =
     let l = c.args.layout in
     let w = lent-count l (saw_bytes l) (9 * limit) _ c.cuts.ensures.written c.cuts.ensures.answer c.in-Count.is in
-    (w.2, omega (arith, c.requires, w.1, cuts_fit l (typed-sized l _ c.well_formed.0) w.0))
+    omega (arith, c.requires, w.1, ap length w.3, cuts_fit l (typed-sized l _ c.well_formed.0) w.0)
 
 pub returns-in-Count : goal.returns-in-Count
 unfolding found_in

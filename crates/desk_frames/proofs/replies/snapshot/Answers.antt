@@ -1,6 +1,8 @@
 -- `replies::snapshot` meets its contract. Assumes nothing.
 use Prim.Native.Nat.{◌*◌}
 use native.Mathlib.Omega.{arith}
+use mathlib.Core.Path.{ap}
+use lib.ListN.{length}
 use Rattle.layout.specs.Check.{limit}
 use Rattle.layout.proofs.Typed.{typed-sized}
 use Rattle.questions.specs.Written.{snapshot_bytes}
@@ -13,7 +15,7 @@ pub entries-requires : goal.entries-requires
 entries-requires c =
     let l = c.args.layout in
     let w = lent-count l (snapshot_bytes l) (14 * limit) _ c.snapshot.ensures.written c.snapshot.ensures.answer c.in-Count.is in
-    (w.2, omega (arith, c.requires, w.1, snapshot-count l (typed-sized l _ c.well_formed.0) w.0))
+    omega (arith, c.requires, w.1, ap length w.3, snapshot-count l (typed-sized l _ c.well_formed.0) w.0)
 
 pub returns-in-Count : goal.returns-in-Count
 unfolding found_in

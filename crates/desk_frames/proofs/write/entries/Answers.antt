@@ -1,14 +1,13 @@
 -- `write::entries` meets its contract. Assumes nothing.
 use mathlib.Core.Path.{refl}
 use native.Mathlib.Omega.{arith}
-use lib.Seq.{length-take-le}
 use Rattle.frames.proofs.Writing.{answered, and_then, end-room}
 use Rattle.desk_frames.proofs.write.entries.Goals as goal
 
 pub end-requires : goal.end-requires
 end-requires c =
     end-room (and_then c.begin-pen.ensures (and_then c.put_two-counted.ensures c.put_bytes-next.ensures))
-    (omega (arith, c.requires, length-take-le c.args.n c.args.bytes.now (omega arith)))
+    (omega (arith, c.requires))
 
 pub returns : goal.returns
 returns c =

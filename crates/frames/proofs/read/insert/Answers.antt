@@ -2,40 +2,23 @@
 use Rattle.std.proofs.Common.{le-leb}
 use borrow.Author.Tests.{lt-leb}
 use Rattle.frames.specs.Requests.{read_insert}
-use Rattle.frames.proofs.Fields.{insert-read}
+use Rattle.frames.proofs.Fields.{is_listed, not-listed, insert-read}
 use Rattle.frames.proofs.read.insert.Goals as goal
 
 pub returns-then-turn-gt2 : goal.returns-then-turn-gt2
 unfolding read_insert
 returns-then-turn-gt2 c = simp (lt-leb _ _ c.if-turn-gt2.true)
 
-pub returns-then-rotation-gt1 : goal.returns-then-rotation-gt1
+pub returns-in_default : goal.returns-in_default
 unfolding read_insert
-returns-then-rotation-gt1 c = simp (le-leb _ _ c.if-turn-gt2.false, lt-leb _ _ c.if-rotation-gt1.true)
+returns-in_default c = simp (le-leb _ _ c.if-turn-gt2.false, not-listed _ _ _ c.in_default.ensures)
 
-pub returns-then-shape-lt1 : goal.returns-then-shape-lt1
+pub returns-in_default-try_from : goal.returns-in_default-try_from
 unfolding read_insert
-returns-then-shape-lt1 c =
-    simp (le-leb _ _ c.if-turn-gt2.false, le-leb _ _ c.if-rotation-gt1.false, lt-leb _ _ c.if-shape-lt1.true)
-
-pub returns-then-shape-gt4 : goal.returns-then-shape-gt4
-unfolding read_insert
-returns-then-shape-gt4 c =
-    simp (
-      le-leb _ _ c.if-turn-gt2.false,
-      le-leb _ _ c.if-rotation-gt1.false,
-      le-leb _ _ c.if-shape-lt1.false,
-      lt-leb _ _ c.if-shape-gt4.true,
-    )
+returns-in_default-try_from c =
+    let r = is_listed _ _ _ c.in-Ok.ensures in
+    simp (le-leb _ _ c.if-turn-gt2.false, r.0, not-listed _ _ _ c.in_default-try_from.ensures)
 
 pub returns : goal.returns
 returns c =
-    insert-read _ _ _ _ _
-    c.if-turn-gt2.false
-    c.if-rotation-gt1.false
-    c.if-shape-lt1.false
-    c.if-shape-gt4.false
-    c.mark_at.ensures
-    c.part_at.ensures
-    c.of_number.ensures
-    c.of_number-2.ensures
+    insert-read _ _ _ _ _ c.if-turn-gt2.false c.in-Ok.ensures c.in-Ok-try_from.ensures c.mark_at.ensures c.part_at.ensures

@@ -1,14 +1,14 @@
 -- `read::open` meets its contract. Assumes nothing.
-use Rattle.std.proofs.Common.{le-leb}
-use borrow.Author.Tests.{lt-leb}
 use Rattle.frames.specs.Requests.{read_open}
+use Rattle.frames.proofs.Fields.{is_listed, not-listed}
 use Rattle.frames.proofs.read.open.Goals as goal
 
-pub returns-then-cut-gt1 : goal.returns-then-cut-gt1
+pub returns-in_default : goal.returns-in_default
 unfolding read_open
-returns-then-cut-gt1 c = simp (lt-leb _ _ c.if-cut-gt1.true)
+returns-in_default c = simp (not-listed _ _ _ c.in_default.ensures)
 
 pub returns : goal.returns
 unfolding read_open
 returns c =
-    simp (le-leb _ _ c.if-cut-gt1.false, c.two_at.ensures, c.size_at.ensures, c.of_number.ensures)
+    let e = is_listed _ _ _ c.in-Ok.ensures in
+    simp (e.0, e.1, c.two_at.ensures, c.size_at.ensures)

@@ -7,4 +7,4 @@ use Rattle.frames.proofs.write.malformed.Goals as goal
 pub returns : goal.returns
 unfolding content_of
 returns c =
-    answered refl c.begin-pen.ensures c.end.ensures
+    answered (rw c.number.ensures refl) c.begin-pen.ensures c.end.ensures

@@ -1,28 +1,19 @@
--- `write::put_offers` meets its contract. The loop has written the first i offers, of four. Assumes nothing.
-use Rattle.std.proofs.Common.{◌≡◌, ◌≤◌, length, refl, arith}
-use Rattle.frames.proofs.Writing.{and_then, none_yet, turn, whole, same-room, next-room}
+-- `write::put_offers` meets its contract. The loop has written the first offers. Assumes nothing.
+use Rattle.std.proofs.Common.{refl, arith}
+use Rattle.frames.specs.Answers.{offer_bytes}
+use Rattle.frames.proofs.Writing.{none_yet, turn, next-room, whole, same-room, and_then}
 use Rattle.frames.proofs.write.put_offers.Goals as goal
-use Rattle.frames.proofs.write.put_offers.Goals.{Start}
+
+pub loop-offer-init : goal.loop-offer-init
+loop-offer-init c = none_yet offer_bytes c.args.offers.now (omega (arith, c.put-next.ensures.added))
 
 pub put_offer-next-requires : goal.put_offer-next-requires
 put_offer-next-requires c =
-    let four : length c.args.offers.list ≡ 4 = c.well_formed.1.1.0.1.1.0.1.0.1 in
-    let fits : c.args.offers.count ≤ length c.args.offers.list = omega (arith, c.requires) in
-    next-room c.loop-i.invariant 2 (λ x. refl) (omega arith) fits (omega (arith, c.requires, c.put-next.ensures.moved, same-room c.put-next.ensures))
+    next-room offer_bytes c.args.offers.now _ c.loop-offer.invariant 2 (λ x. refl) c.loop-offer-test.true (omega (arith, c.requires, c.put-next.ensures.moved, same-room c.put-next.ensures))
 
-pub loop-i-preserved : goal.loop-i-preserved
-loop-i-preserved c =
-    let four : length c.args.offers.list ≡ 4 = c.well_formed.1.1.0.1.1.0.1.0.1 in
-    let fits : c.args.offers.count ≤ length c.args.offers.list = omega (arith, c.requires) in
-    turn c.loop-i.invariant _ (omega arith) fits c.put_offer-next.ensures
+pub loop-offer-preserved : goal.loop-offer-preserved
+loop-offer-preserved c =
+    turn offer_bytes c.args.offers.now _ c.loop-offer.invariant _ c.loop-offer-test.true c.put_offer-next.ensures
 
 pub returns : goal.returns
-returns c = and_then c.put-next.ensures (whole c.loop-i.invariant c.loop-i-test.false)
-
-pub loop-i-init : goal.loop-i-init
-loop-i-init c =
-    none_yet (omega (arith, c.put-next.ensures.added))
-
-pub shape_of-out : goal.shape_of-out
-shape_of-out c =
-    same-room (returns c)
+returns c = and_then c.put-next.ensures (whole offer_bytes c.args.offers.now _ c.loop-offer.invariant c.loop-offer-test.false)

@@ -1,11 +1,8 @@
--- `write::put_offers` meets its contract. The loop has written the first i offers, of four. Assumes nothing.
-use Rattle.std.proofs.Common.{◌-◌}
-use Rattle.frames.specs.Answers.{offer_bytes}
-use Rattle.frames.proofs.Writing.{Turns}
+-- `write::put_offers` meets its contract. The loop has written the first offers. Assumes nothing.
+use Rattle.std.proofs.Common.{take}
+use Rattle.frames.specs.Answers.{each, offer_bytes}
+use Rattle.frames.specs.Writing.{Wrote}
 use Rattle.frames.proofs.write.put_offers.Given as goal
 
-abbrev pub invariant-loop-i : goal.invariant-loop-i
-invariant-loop-i l = Turns offer_bytes l.offers.list l.count l.initial.out l.initial.next l.i l.out l.next
-
-abbrev pub decreases-loop-i : goal.decreases-loop-i
-decreases-loop-i l = l.count - l.i
+abbrev pub invariant-loop-offer : goal.invariant-loop-offer
+invariant-loop-offer l = Wrote l.initial.out l.initial.next (each offer_bytes (take l.offer-index l.offers)) l.out l.next
