@@ -11,7 +11,6 @@ use Rattle.table.specs.Table.{at}
 use Rattle.layout.specs.declared.layout.Layout.{Layout}
 use Rattle.layout.specs.Check.{limit, tree}
 use Rattle.layout.specs.SoundLayout.{SoundLayout}
-use Rattle.walks.specs.declared.columns.Columns.{Columns}
 use Rattle.walks.specs.Columns.{columns_of}
 use Rattle.saw.specs.declared.cut.Cut.{Cut}
 use Rattle.saw.specs.Cuts.{cuts}
@@ -23,25 +22,24 @@ use Rattle.saw.proofs.CutBytes.{length-entries, nines-are, tenths-are}
 use Rattle.saw.proofs.Layouts.{few-cuts}
 
 -- what is listed from the top's first child on, and how many pieces of the pile that is
-abbrev pub cuts_in : Layout → Columns → List Cut
-cuts_in l c = listed_in limit c (at l.nodes 0).datum.cut l.held 0 (at l.nodes 0).first
+abbrev pub cuts_in : Layout → List Cut
+cuts_in l = listed_in limit (columns_of l.nodes) (at l.nodes 0).datum.cut l.held 0 (at l.nodes 0).first
 
-abbrev pub pieces_in : Layout → Columns → ℕ
-pieces_in l c = piles_in limit c (at l.nodes 0).datum.cut l.held (at l.nodes 0).first
+abbrev pub pieces_in : Layout → ℕ
+pieces_in l = piles_in limit (columns_of l.nodes) (at l.nodes 0).datum.cut l.held (at l.nodes 0).first
 
-module _ (l : Layout) (s : SoundLayout l) {c : Columns} (e : c ≡ columns_of l.nodes) where
-  pub cuts_are : cuts_in l c ≡ cuts (tree l)
-  cuts_are =
-      ap (cuts_in l) e ∙ listed-tree limit l.settings l.nodes (tree l) l.held s.sound s.holds (omega (arith, s.held))
+module _ (l : Layout) (s : SoundLayout l) where
+  pub cuts_are : cuts_in l ≡ cuts (tree l)
+  cuts_are = listed-tree limit l.settings l.nodes (tree l) l.held s.sound s.holds (omega (arith, s.held))
 
-  pub cuts-room : length (cuts_in l c) ≤ limit
+  pub cuts-room : length (cuts_in l) ≤ limit
   cuts-room = omega (arith, ap length cuts_are, few-cuts l s)
 
-  pub pieces_room : pieces_in l c ≤ limit
+  pub pieces_room : pieces_in l ≤ limit
   pieces_room =
       omega (
         arith,
-        ap (pieces_in l) e ∙ piled-tree limit l.settings l.nodes (tree l) l.held s.sound s.holds (omega (arith, s.held)),
+        piled-tree limit l.settings l.nodes (tree l) l.held s.sound s.holds (omega (arith, s.held)),
         boards-most (tree l),
         s.sound.room,
       )

@@ -1,4 +1,4 @@
--- The steps of the two routines, once over the way: a call of a routine, how far it is, and at each such place what the next call may ask and what is
+-- The steps of the routine: a call of it, how far it is, and at each such place what the next call may ask and what is
 -- written in the end. Rests on CutBytes. Assumes nothing.
 use mathlib.Core.Path.{◌≡◌, refl, ap, ◌∙◌}
 use mathlib.Core.List.{List, [], ◌∷◌, ◌++◌, append-nil}
@@ -20,7 +20,7 @@ abbrev pub Room : ℕ → List Cut → (piles place n : ℕ) → List ℕ → Ty
 Room limit cs piles place n out = (place + piles ≤ limit) × (n + length cs ≤ limit) × (10 * (n + length cs) ≤ length out)
 
 -- they are written there, and counted, and so are the pieces
-abbrev Done : List Cut → (piles place n : ℕ) → (out after : List ℕ) → (m p : ℕ) → Type 0
+abbrev pub Done : List Cut → (piles place n : ℕ) → (out after : List ℕ) → (m p : ℕ) → Type 0
 Done cs piles place n out after m p = (after ≡ sets out (10 * n) (entries_of_cuts cs)) × ((m ≡ n + length cs) × (p ≡ place + piles))
 
 none_done : {cs : List Cut} {piles : ℕ} (place n : ℕ) (out : List ℕ) → cs ≡ [] → piles ≡ 0 → Done cs piles place n out out n place
@@ -86,10 +86,10 @@ all s = listed_of s.lent s.way s.left s.place s.c
 abbrev piles : Call → ℕ
 piles s = piled_of s.lent s.way s.left s.c
 
-abbrev inner : Call → List Cut
+abbrev pub inner : Call → List Cut
 inner s = listed_of s.lent (other s.way) (s.left - 1) s.place (get_or s.lent.first s.c 0)
 
-abbrev inner_piles : Call → ℕ
+abbrev pub inner_piles : Call → ℕ
 inner_piles s = piled_of s.lent (other s.way) (s.left - 1) (get_or s.lent.first s.c 0)
 
 -- it is at the piece at c, which itself is so many pieces of the pile, and r is the place of what is left
@@ -113,7 +113,7 @@ abbrev behind : Here → ℕ
 behind s = s.call.place + (s.own + inner_piles s.call)
 
 -- the cut that takes the piece off, where k is the kind of what is left
-abbrev one : Call → ℕ → Cut
+abbrev pub one : Call → ℕ → Cut
 one s k =
     record {
       place = s.place;

@@ -1,6 +1,6 @@
--- On the columns of a table that holds a sound tree the routines list the cuts of the tree. The law stands at the end. It rests on what `table` says
+-- On the columns of a table that holds a sound tree the routine lists the cuts of the tree. The law stands at the end. It rests on what `table` says
 -- of a table that holds a row (Rep, Holds), and on Fills: an offcut of area 0 stands last in its row and has nothing of the side that the cut divides,
--- as no other piece: so the routines, which look at that side, leave out what specs/Cuts.antt does, and count the pieces of the pile.
+-- as no other piece: so the routine, which looks at that side, leaves out what specs/Cuts.antt does, and counts the pieces of the pile.
 -- Assumes nothing.
 use mathlib.Core.Path.{◌≡◌, refl, sym, ap, ◌∙◌}
 use mathlib.Core.List.{List, [], ◌∷◌, ◌++◌, map, append-nil}
@@ -28,20 +28,16 @@ use Rattle.tree.specs.Sound.{Sided, StructurePiece, Kinded, Children, Sound}
 use Rattle.lists.proofs.Scan.{test, and_left}
 use Rattle.table.specs.declared.Node.{Node}
 use Rattle.table.specs.Table.{zero_node, at, head, Rep, Holds}
-use Rattle.walks.specs.Columns.{firsts_of, nexts_of, kinds_of, widths_of, heights_of, eatens_of, columns_of}
+use Rattle.walks.specs.Columns.{firsts_of, nexts_of, kinds_of, eatens_of, columns_of}
 use Rattle.saw.specs.Saw.{side}
 use Rattle.saw.specs.Cuts.{is_empty, kept_after, without_empty, own_board, boards, left_no, cut_off, piles_of, row_cuts, cuts}
-use Rattle.saw.specs.Listed.{sides_in, rest_of, left_along, cut_before, own_listed, piles_listed, cuts_listed, listed_in, piles_in}
+use Rattle.saw.specs.Listed.{sides_of, rest_of, left_along, cut_before, own_listed, piles_listed, cuts_listed, listed_in, piles_in}
 use Rattle.saw.proofs.Slices.{sided-side}
 use Rattle.saw.proofs.Fills.{empty-side, empty-gone, empty-extent, boards-kept, count_kept, piece-sided}
 
--- the column of the sides that a cut of this way divides
-abbrev sides_of : Orientation → List Node → List ℕ
-sides_of way t = sides_in way (widths_of t) (heights_of t)
-
 -- ---- a row whose pieces are all listed
 
--- what the routines read of a piece under a cut of this way, where k and r are its children and its later siblings
+-- what the routine reads of a piece under a cut of this way, where k and r are its children and its later siblings
 record Piece (limit : ℕ) (t : List Node) (way : Orientation) (p : ℕ) (d : Datum) (k r : Tree) : Type 0 where
   placed : p < limit
   first : get_or (firsts_of t) p 0 ≡ head limit k

@@ -1,10 +1,12 @@
--- What the two routines list over the columns of a table, once over the way. `limit`, the number of places, is also the number that says that there
+-- What the routine lists over the columns of a table, by the way of the cut. `limit`, the number of places, is also the number that says that there
 -- is no such place, as in the table; it is `LIMIT` in the code and a parameter here.
 use Rattle.std.specs.Prelude.{List, [], ◌∷◌, ◌++◌, cond, not, ◌&&◌, ◌||◌, ℕ, zero, suc, ◌+◌, eqb, leb, get_or, take, drop}
 use Rattle.piece.specs.declared.orientation.Orientation.{Orientation}
 use Rattle.piece.specs.declared.orientation.Orientation.TheVariants.{Horizontal, Vertical}
 use Rattle.piece.specs.Sides.{other}
+use Rattle.table.specs.declared.Node.{Node}
 use Rattle.walks.specs.declared.columns.Columns.{Columns}
+use Rattle.walks.specs.Columns.{widths_of, heights_of}
 use Rattle.saw.specs.declared.cut.Cut.{Cut}
 use Rattle.saw.specs.Cuts.{cut_bytes}
 
@@ -12,6 +14,9 @@ use Rattle.saw.specs.Cuts.{cut_bytes}
 abbrev pub sides_in : Orientation → (width height : List ℕ) → List ℕ
 sides_in Horizontal width height = height
 sides_in Vertical width height = width
+
+abbrev pub sides_of : Orientation → List Node → List ℕ
+sides_of way t = sides_in way (widths_of t) (heights_of t)
 
 -- the later sibling of c that a cut comes before: a last one that has nothing of the side has none, but where something was eaten behind c
 abbrev pub rest_of : ℕ → (next side eaten : List ℕ) → ℕ → ℕ
@@ -70,7 +75,7 @@ listed_in limit s way n i c = cuts_listed limit s.first s.next s.kind s.width s.
 abbrev pub piles_in : ℕ → Columns → Orientation → ℕ → ℕ → ℕ
 piles_in limit s way n c = piles_listed limit s.first s.next s.kind s.width s.height s.eaten way n c
 
--- the list as the routines leave it: each entry with what its cut loses, 10 bytes
+-- the list as the routine leaves it: each entry with what its cut loses, 10 bytes
 unfoldable pub entry_bytes : Cut → List ℕ → List ℕ
 entry_bytes c r = cut_bytes c (c.eaten ∷ r)
 

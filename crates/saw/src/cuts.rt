@@ -1,22 +1,19 @@
 // The two calls: the cuts of a layout's tree into a lent buffer, and what each of them loses.
 ghost use Rattle.std.specs.Prelude.{◌≡◌, ◌+◌, ◌*◌, ◌≤◌, length, take, drop};
 ghost use Rattle.std.proofs.lemmas.List.Edits.{sets};
-ghost use Rattle.lists.specs.Lists.{limit};
 ghost use Rattle.layout.specs.Check.{tree};
 ghost use Rattle.layout.specs.SoundLayout.{SoundLayout};
 ghost use Rattle.questions.specs.Written.{answer_to, left_in_buffer};
 ghost use Rattle.saw.specs.Cuts as spec;
-ghost use Rattle.saw.specs.Listed.{cuts_listed, entries_of_cuts, nines_of, piles_listed, tenths_of};
+ghost use Rattle.saw.specs.Listed.{entries_of_cuts, nines_of, tenths_of};
 ghost use Rattle.saw.specs.Written.{amount_bytes, saw_bytes};
 
 use crate::cut::{BYTES, ENTRY};
-use crate::routines::{list_horizontal, list_vertical};
+use crate::routines::list_row;
 use layout::layout::Layout;
 use marks::Refusal;
-use piece::orientation::Orientation;
 use questions::replies::CountAnswer;
 use table::LIMIT;
-use walks::columns::columns_of;
 
 // More than the bytes of the longest list: each cut is behind a piece of its own. And more than the amounts of its cuts.
 pub const ROOM: usize = 9 * LIMIT;
@@ -26,62 +23,15 @@ pub const AMOUNTS: usize = LIMIT;
 // The list as the routines leave it.
 const LIST: usize = 10 * LIMIT;
 
-// The cuts of the row from c on, whose board is the whole pile, from the start of `out` on; gives how many there are.
-fn list_cuts<'a>(
-    first: &'a [u16; LIMIT],
-    next: &'a [u16; LIMIT],
-    kind: &'a [u8; LIMIT],
-    width: &'a [u32; LIMIT],
-    height: &'a [u32; LIMIT],
-    eaten: &'a [u8; LIMIT],
-    way: Orientation,
-    c: u16,
-    left: usize,
-    out: &mut [u8],
-) -> usize
-    requires { (piles_listed limit first.now next.now kind.now width.now height.now eaten.now way left c ≤ limit)
-        × (length (cuts_listed limit first.now next.now kind.now width.now height.now eaten.now way left 0 c) ≤ limit)
-        × (10 * length (cuts_listed limit first.now next.now kind.now width.now height.now eaten.now way left 0 c) ≤ length out.old) }
-    ensures written { out.new
-        ≡ sets out.old 0 (entries_of_cuts (cuts_listed limit first.now next.now kind.now
-        width.now height.now eaten.now way left 0 c)) }
-    ensures counted { result ≡ length (cuts_listed limit first.now next.now kind.now
-        width.now height.now eaten.now way left 0 c) }
-{
-    match way {
-        Orientation::Horizontal => {
-            let l = list_horizontal(first, next, kind, width, height, eaten, c, left, 0, out, 0);
-            l.cuts
-        }
-        Orientation::Vertical => {
-            let l = list_vertical(first, next, kind, width, height, eaten, c, left, 0, out, 0);
-            l.cuts
-        }
-    }
-}
-
 // The list of a sound layout, each entry with what its cut loses, from the start of `list` on; gives how many cuts there are.
 fn list_of(layout: Layout, list: &mut [u8; LIST]) -> usize
     requires { SoundLayout layout }
     ensures written { list.new ≡ sets list.old 0 (entries_of_cuts (spec.cuts (tree layout))) }
     ensures counted { result ≡ length (spec.cuts (tree layout)) }
 {
-    let held = layout.held as usize;
-    let nodes = layout.nodes;
-    let top = nodes[0];
-    let d = top.datum;
-    let way = d.cut;
-    let down = top.first;
-    let c = columns_of(nodes);
-    let first = c.first;
-    let next = c.next;
-    let kind = c.kind;
-    let width = c.width;
-    let height = c.height;
-    let eaten = c.eaten;
-    list_cuts(
-        &first, &next, &kind, &width, &height, &eaten, way, down, held, list,
-    )
+    let top = layout.nodes[0];
+    let l = list_row(&layout.nodes, top.datum.cut, top.first, layout.held as usize, 0, list, 0);
+    l.cuts
 }
 
 // The first n bytes of `from`, over those of `out`.

@@ -1,16 +1,20 @@
-// The two routines that list the cuts down the tree (document 02, change request 3): "Pieces under a Vertical cut are listed by one routine which gives
-// each piece, once cut off, to the routine for Horizontal cuts, and that one back again." The tree is lent as columns of numbers, so that a call
-// takes little of the stack; `left`, the most nodes that there can be from here on, falls from each call to the next, so that they end whatever
+// The routine that lists the cuts down the tree (document 02, change request 3): "Pieces under a Vertical cut are listed by one routine which gives
+// each piece, once cut off, to the routine for Horizontal cuts, and that one back again." Here it is one routine that is told the way of the cut, and
+// calls itself with the other way. `left`, the most nodes that there can be from here on, falls from each call to the next, so that it ends whatever
 // the links are.
 ghost use Rattle.std.specs.Prelude.{◌≡◌, ◌+◌, ◌*◌, ◌≤◌, ◌<◌, length};
 ghost use Rattle.std.proofs.lemmas.List.Edits.{sets};
-ghost use Rattle.piece.specs.declared.orientation.Orientation.TheVariants.{Horizontal, Vertical};
 ghost use Rattle.lists.specs.Lists.{limit};
-ghost use Rattle.saw.specs.Listed.{left_along, cuts_listed, entries_of_cuts, own_listed, piles_listed, rest_of};
+ghost use Rattle.table.specs.Columns.{kinds_of, nexts_of};
+ghost use Rattle.walks.specs.Columns.{columns_of, eatens_of};
+ghost use Rattle.saw.specs.Listed.{entries_of_cuts, left_along, listed_in, own_listed, piles_in, rest_of, sides_of};
+ghost use Rattle.saw.specs.Saw.{side};
 
 use crate::cut::{Cut, ENTRY, put_cut};
+use piece::node::Kind;
 use piece::orientation::Orientation;
-use table::{LIMIT, NONE};
+use piece::size::Size;
+use table::{LIMIT, NONE, Node};
 
 // What `remainder` of a cut says of several siblings.
 const SEVERAL: u8 = 3;
@@ -22,246 +26,102 @@ pub struct Listed {
     pub place: usize,
 }
 
-// The later sibling of c that a cut comes before. An offcut that has nothing of the side that the cut divides has none, but where something was eaten
-// behind c.
-fn rest_of<'a>(
-    next: &'a [u16; LIMIT],
-    side: &'a [u32; LIMIT],
-    eaten: &'a [u8; LIMIT],
-    c: u16,
-) -> u16
-    requires { c < limit }
-    ensures { result ≡ rest_of limit next.now side.now eaten.now c }
+// The side of a piece that a cut of this way divides.
+fn side(way: Orientation, size: Size) -> u32
+    ensures { result ≡ side way size }
 {
-    let at = c as usize;
-    let r = next[at];
+    match way {
+        Orientation::Horizontal => size.height,
+        Orientation::Vertical => size.width,
+    }
+}
+
+// The later sibling of c that a cut of this way comes before. An offcut that has nothing of the side that the cut divides has none, but where
+// something was eaten behind c.
+fn rest_of(nodes: &[Node; LIMIT], way: Orientation, c: u16) -> u16
+    requires { c < limit }
+    ensures { result ≡ rest_of limit (nexts_of nodes.now) (sides_of way nodes.now) (eatens_of nodes.now) c }
+{
+    let own = nodes[c as usize];
+    let r = own.next;
     if NONE <= r {
         return NONE;
     }
-    let there = r as usize;
-    if side[there] != 0 {
-        return r;
+    if side(way, nodes[r as usize].datum.size) == 0 && own.datum.eaten == 0 {
+        return NONE;
     }
-    if eaten[at] == 0 { NONE } else { r }
+    r
 }
 
 // The kind of what is left of a row, from the place r on.
-fn kind_left<'a>(
-    next: &'a [u16; LIMIT],
-    kind: &'a [u8; LIMIT],
-    side: &'a [u32; LIMIT],
-    eaten: &'a [u8; LIMIT],
-    r: u16,
-) -> u8
+fn kind_left(nodes: &[Node; LIMIT], way: Orientation, r: u16) -> u8
     requires { r < limit }
-    ensures { result ≡ left_along limit next.now kind.now side.now eaten.now r }
+    ensures { result ≡ left_along limit (nexts_of nodes.now) (kinds_of nodes.now) (sides_of way nodes.now) (eatens_of nodes.now) r }
 {
-    let at = r as usize;
-    if NONE <= rest_of(next, side, eaten, r) {
-        kind[at]
+    if NONE <= rest_of(nodes, way, r) {
+        nodes[r as usize].datum.kind.number()
     } else {
         SEVERAL
     }
 }
 
 // 1 where the piece at c itself comes to lie in the pile: a part, or a free piece with something of the side.
-fn own_pile<'a>(kind: &'a [u8; LIMIT], side: &'a [u32; LIMIT], c: u16) -> usize
+fn own_pile(nodes: &[Node; LIMIT], way: Orientation, c: u16) -> usize
     requires { c < limit }
-    ensures { result ≡ own_listed kind.now side.now c }
+    ensures { result ≡ own_listed (kinds_of nodes.now) (sides_of way nodes.now) c }
 {
-    let at = c as usize;
-    if kind[at] == 1 {
-        return 1;
+    let d = nodes[c as usize].datum;
+    match d.kind {
+        Kind::Free => {
+            if side(way, d.size) == 0 { 0 } else { 1 }
+        }
+        Kind::Part => 1,
+        Kind::Structure => 0,
     }
-    if kind[at] != 0 {
-        return 0;
-    }
-    if side[at] == 0 { 0 } else { 1 }
 }
 
-// The pieces from c on, which are under a Vertical cut and fill the board at `place` of the pile: writes their cuts into `out` after n cuts, and gives how
-// many there are then, and the place behind what the row has become.
-#[cycle(list_horizontal_list_vertical)]
-pub fn list_vertical<'a>(
-    first: &'a [u16; LIMIT],
-    next: &'a [u16; LIMIT],
-    kind: &'a [u8; LIMIT],
-    width: &'a [u32; LIMIT],
-    height: &'a [u32; LIMIT],
-    eaten: &'a [u8; LIMIT],
+// The pieces from c on, which are under a cut of this way and fill the board at `place` of the pile: writes their cuts into `out` after n cuts, and
+// gives how many there are then, and the place behind what the row has become.
+pub fn list_row(
+    nodes: &[Node; LIMIT],
+    way: Orientation,
     c: u16,
     left: usize,
     place: usize,
     out: &mut [u8],
     n: usize,
 ) -> Listed
-    requires { (place + piles_listed limit first.now next.now kind.now width.now height.now eaten.now Vertical left c ≤ limit)
-        × (n + length (cuts_listed limit first.now next.now kind.now width.now height.now eaten.now Vertical left place c) ≤ limit)
-        × (10 * (n + length (cuts_listed limit first.now next.now kind.now width.now height.now eaten.now Vertical left place c))
-        ≤ length out.old) }
-    ensures written { out.new
-        ≡ sets out.old (10 * n) (entries_of_cuts (cuts_listed limit first.now next.now kind.now
-        width.now height.now eaten.now Vertical left place c)) }
-    ensures counted { result.cuts ≡ n + length (cuts_listed limit first.now next.now kind.now
-        width.now height.now eaten.now Vertical left place c) }
-    ensures piled { result.place ≡ place + piles_listed limit first.now next.now kind.now
-        width.now height.now eaten.now Vertical left c }
+    requires { (place + piles_in limit (columns_of nodes.now) way left c ≤ limit)
+        × (n + length (listed_in limit (columns_of nodes.now) way left place c) ≤ limit)
+        × (10 * (n + length (listed_in limit (columns_of nodes.now) way left place c)) ≤ length out.old) }
+    ensures written { out.new ≡ sets out.old (10 * n) (entries_of_cuts (listed_in limit (columns_of nodes.now) way left place c)) }
+    ensures counted { result.cuts ≡ n + length (listed_in limit (columns_of nodes.now) way left place c) }
+    ensures piled { result.place ≡ place + piles_in limit (columns_of nodes.now) way left c }
 {
-    if left == 0 {
+    if left == 0 || NONE <= c {
         return Listed { cuts: n, place };
     }
-    if NONE <= c {
-        return Listed { cuts: n, place };
-    }
-    let at = c as usize;
-    let down = first[at];
-    let own = own_pile(kind, width, c);
-    let rest = rest_of(next, width, eaten, c);
+    let own = own_pile(nodes, way, c);
+    let rest = rest_of(nodes, way, c);
+    let down = nodes[c as usize].first;
+    let across = way.rotate();
     if NONE <= rest {
-        let whole = list_horizontal(
-            first,
-            next,
-            kind,
-            width,
-            height,
-            eaten,
-            down,
-            left - 1,
-            place,
-            out,
-            n,
-        );
+        let whole = list_row(nodes, across, down, left - 1, place, out, n);
         return Listed {
             cuts: whole.cuts,
             place: whole.place + own,
         };
     }
+    let d = nodes[c as usize].datum;
     let cut = Cut {
         place: place as u16,
-        way: Orientation::Vertical,
-        distance: width[at],
-        piece: kind[at],
-        remainder: kind_left(next, kind, width, eaten, rest),
-        eaten: eaten[at],
+        way,
+        distance: side(way, d.size),
+        piece: d.kind.number(),
+        remainder: kind_left(nodes, way, rest),
+        eaten: d.eaten,
     };
     put_cut(cut, out, ENTRY * n);
-    let below = list_horizontal(
-        first,
-        next,
-        kind,
-        width,
-        height,
-        eaten,
-        down,
-        left - 1,
-        place,
-        out,
-        n + 1,
-    );
-    list_vertical(
-        first,
-        next,
-        kind,
-        width,
-        height,
-        eaten,
-        rest,
-        left - 1,
-        below.place + own,
-        out,
-        below.cuts,
-    )
-}
-
-// The same under a Horizontal cut.
-#[cycle(list_horizontal_list_vertical)]
-pub fn list_horizontal<'a>(
-    first: &'a [u16; LIMIT],
-    next: &'a [u16; LIMIT],
-    kind: &'a [u8; LIMIT],
-    width: &'a [u32; LIMIT],
-    height: &'a [u32; LIMIT],
-    eaten: &'a [u8; LIMIT],
-    c: u16,
-    left: usize,
-    place: usize,
-    out: &mut [u8],
-    n: usize,
-) -> Listed
-    requires { (place + piles_listed limit first.now next.now kind.now width.now height.now eaten.now Horizontal left c ≤ limit)
-        × (n + length (cuts_listed limit first.now next.now kind.now width.now height.now eaten.now Horizontal left place c) ≤ limit)
-        × (10 * (n + length (cuts_listed limit first.now next.now kind.now width.now height.now eaten.now Horizontal left place c))
-        ≤ length out.old) }
-    ensures written { out.new
-        ≡ sets out.old (10 * n) (entries_of_cuts (cuts_listed limit first.now next.now kind.now
-        width.now height.now eaten.now Horizontal left place c)) }
-    ensures counted { result.cuts ≡ n + length (cuts_listed limit first.now next.now kind.now
-        width.now height.now eaten.now Horizontal left place c) }
-    ensures piled { result.place ≡ place + piles_listed limit first.now next.now kind.now
-        width.now height.now eaten.now Horizontal left c }
-{
-    if left == 0 {
-        return Listed { cuts: n, place };
-    }
-    if NONE <= c {
-        return Listed { cuts: n, place };
-    }
-    let at = c as usize;
-    let down = first[at];
-    let own = own_pile(kind, height, c);
-    let rest = rest_of(next, height, eaten, c);
-    if NONE <= rest {
-        let whole = list_vertical(
-            first,
-            next,
-            kind,
-            width,
-            height,
-            eaten,
-            down,
-            left - 1,
-            place,
-            out,
-            n,
-        );
-        return Listed {
-            cuts: whole.cuts,
-            place: whole.place + own,
-        };
-    }
-    let cut = Cut {
-        place: place as u16,
-        way: Orientation::Horizontal,
-        distance: height[at],
-        piece: kind[at],
-        remainder: kind_left(next, kind, height, eaten, rest),
-        eaten: eaten[at],
-    };
-    put_cut(cut, out, ENTRY * n);
-    let below = list_vertical(
-        first,
-        next,
-        kind,
-        width,
-        height,
-        eaten,
-        down,
-        left - 1,
-        place,
-        out,
-        n + 1,
-    );
-    list_horizontal(
-        first,
-        next,
-        kind,
-        width,
-        height,
-        eaten,
-        rest,
-        left - 1,
-        below.place + own,
-        out,
-        below.cuts,
-    )
+    let below = list_row(nodes, across, down, left - 1, place, out, n + 1);
+    list_row(nodes, way, rest, left - 1, below.place + own, out, below.cuts)
 }

@@ -9,18 +9,18 @@ use Rattle.saw.specs.Listed.{entries_of_cuts}
 use Rattle.saw.proofs.Call.{cuts_are, cuts-room, pieces_room}
 use Rattle.saw.proofs.cuts.list_of.Goals as goal
 
-pub list_cuts-requires : goal.list_cuts-requires
-list_cuts-requires c =
+pub list_row-l-requires : goal.list_row-l-requires
+list_row-l-requires c =
     let l = c.args.layout in
-    let e = c.columns_of-c.ensures in
-    let h = cuts-room l c.requires e in
-    (pieces_room l c.requires e, h, omega (arith, h))
+    let p = pieces_room l c.requires in
+    let h = cuts-room l c.requires in
+    (omega (arith, p), omega (arith, h), omega (arith, h))
 
 pub returns : goal.returns
 returns c =
     let l = c.args.layout in
-    let e = cuts_are l c.requires c.columns_of-c.ensures in
+    let e = cuts_are l c.requires in
     record {
-      written = c.list_cuts.ensures.written ∙ ap (λ (cs : List Cut). sets c.args.list.now 0 (entries_of_cuts cs)) e;
-      counted = c.list_cuts.ensures.counted ∙ ap length e;
+      written = c.list_row-l.ensures.written ∙ ap (λ (cs : List Cut). sets c.args.list.now 0 (entries_of_cuts cs)) e;
+      counted = omega (arith, c.list_row-l.ensures.counted, ap length e);
     }
