@@ -30,7 +30,15 @@ fn list_of(layout: Layout, list: &mut [u8; LIST]) -> usize
     ensures counted { result ≡ length (spec.cuts (tree layout)) }
 {
     let top = layout.nodes[0];
-    let l = list_row(&layout.nodes, top.datum.cut, top.first, layout.held as usize, 0, list, 0);
+    let l = list_row(
+        &layout.nodes,
+        top.datum.cut,
+        top.first,
+        layout.held as usize,
+        0,
+        list,
+        0,
+    );
     l.cuts
 }
 

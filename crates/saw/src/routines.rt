@@ -72,9 +72,7 @@ fn own_pile(nodes: &[Node; LIMIT], way: Orientation, c: u16) -> usize
 {
     let d = nodes[c as usize].datum;
     match d.kind {
-        Kind::Free => {
-            if side(way, d.size) == 0 { 0 } else { 1 }
-        }
+        Kind::Free => { if side(way, d.size) == 0 { 0 } else { 1 } }
         Kind::Part => 1,
         Kind::Structure => 0,
     }
@@ -123,5 +121,13 @@ pub fn list_row(
     };
     put_cut(cut, out, ENTRY * n);
     let below = list_row(nodes, across, down, left - 1, place, out, n + 1);
-    list_row(nodes, way, rest, left - 1, below.place + own, out, below.cuts)
+    list_row(
+        nodes,
+        way,
+        rest,
+        left - 1,
+        below.place + own,
+        out,
+        below.cuts,
+    )
 }

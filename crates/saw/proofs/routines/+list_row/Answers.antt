@@ -1,9 +1,9 @@
 -- The routine of the list of cuts meets its contract. ListSteps has the argument: here stand the places of the routine in its words. Assumes nothing.
-use mathlib.Core.Path.{◌≡◌, refl, sym, ap, ◌∙◌}
+use mathlib.Core.Path.{◌≡◌}
 use mathlib.Core.List.{List, []}
-use Prim.Native.Nat.{ℕ, ◌+◌, ◌-◌, ◌*◌, ◌≤◌, ◌<◌}
+use Prim.Native.Nat.{ℕ, ◌-◌, ◌*◌, ◌<◌}
 use native.Mathlib.Omega.{arith}
-use lib.ListN.{length, get_or, get_or-map}
+use lib.ListN.{get_or, get_or-map}
 use lib.Seq.{sets}
 use Rattle.piece.specs.declared.orientation.Orientation.{Orientation}
 use Rattle.piece.specs.declared.orientation.Orientation.TheVariants.{Horizontal, Vertical}
@@ -14,10 +14,9 @@ use Rattle.table.specs.declared.Node.{Node}
 use Rattle.table.specs.Table.{zero_node, at}
 use Rattle.table.specs.Columns.{firsts_of, nexts_of, kinds_of, first_of, kind_no_of}
 use Rattle.walks.specs.Columns.{columns_of, eatens_of, width_of, height_of, eaten_of}
-use Rattle.saw.specs.declared.cut.Cut.{Cut}
 use Rattle.saw.specs.Saw.{side}
-use Rattle.saw.specs.Listed.{sides_of, rest_of, left_along, own_listed, listed_in, piles_in, entry_bytes, entries_of_cuts}
-use Rattle.saw.proofs.ListSteps.{Room, Done, Call, Here, Off, Under, inner, inner_piles, one}
+use Rattle.saw.specs.Listed.{sides_of, rest_of, left_along, own_listed, listed_in, piles_in, entry_bytes}
+use Rattle.saw.proofs.ListSteps.{Room, Done, Call, Here, Off, Under, inner, inner_piles}
 use Rattle.saw.proofs.ListSteps.{none_left, none_here, last-asks, last-placed, last_done, cut-room, below-asks, rest-asks, rest-done}
 use Rattle.saw.proofs.routines.+list_row.Goals as goal
 use Rattle.saw.proofs.routines.+list_row.Goals.{then-left-eq0-via-then-left-eq0, then-left-eq0-via-else-left-eq0+then-c-ge-NONE}
