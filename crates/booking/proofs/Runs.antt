@@ -1,23 +1,16 @@
--- A loop over the first n entries of an array: what is still to come, from one entry to the next. Assumes nothing.
+-- A loop along a list: what is still to come, from one entry to the next. Assumes nothing.
 use mathlib.Core.Path.{◌≡◌, refl}
 use mathlib.Core.List.{List, [], ◌∷◌}
-use Prim.Native.Nat.{ℕ, zero, suc, ◌+◌, ◌≤◌, ◌<◌}
-use native.Mathlib.Nat.{le_of_suc-le-suc, not-suc-le-zero}
+use Prim.Native.Nat.{ℕ, ◌+◌, ◌≤◌, ◌<◌}
 use native.Mathlib.Numerals.{add-one}
-use lib.ListN.{length, take, drop, get_or}
-use lib.Seq.{drop-cons, drop-nil, get_or-take, length-take-le}
+use lib.ListN.{length, drop, get_or, drop_of_length-le}
+use lib.Seq.{drop-cons}
 
-module _ {A : Type 0} where
+module _ {A : Type 0} (l : List A) (i : ℕ) where
   -- the next entry, and what comes after it
-  pub next-entry : (l : List A) (n : ℕ) (z : A) → n ≤ length l → (i : ℕ) → i < n →
-      drop i (take n l) ≡ get_or l i z ∷ drop (i + 1) (take n l)
-  next-entry l n z few i h =
-      let low : i < length (take n l) = rw (length-take-le n l few) h in
-      rw (drop-cons (take n l) i z low, get_or-take n l i z h, add-one) refl
+  pub next-entry : (z : A) → i < length l → drop i l ≡ get_or l i z ∷ drop (i + 1) l
+  next-entry z h = rw (drop-cons l i z h, add-one) refl
 
   -- none is left at the end
-  pub none_left : (l : List A) (n i : ℕ) → n ≤ i → drop i (take n l) ≡ []
-  none_left l zero i h = drop-nil i
-  none_left [] (suc n) i h = drop-nil i
-  none_left (x ∷ l) (suc n) zero h = absurd (not-suc-le-zero h)
-  none_left (x ∷ l) (suc n) (suc i) h = none_left l n i (le_of_suc-le-suc h)
+  pub none_left : length l ≤ i → drop i l ≡ []
+  none_left h = drop_of_length-le l {i = i} h

@@ -6,11 +6,10 @@ ghost use Rattle.booking.specs.Inner.{Bookable};
 
 use crate::new_nodes::{NewNodes, Site, enrol, new_nodes, new_places, put_frees};
 use layout_nodes::LayoutNodes;
-use layout_nodes::listing::{Listing, areas_of};
+use layout_nodes::listing::Listing;
 use piece::insertion_blueprint::{InsertionShape, nodes as blueprint_of};
 use piece::size::Size;
-use table::nodes::{leaf, with_first, with_last, with_next};
-use table::places::unlink;
+use table::places::{append, unlink};
 use table::{NONE, Node};
 
 // The nodes and the lists with what was booked in them; and the nodes that were made.
@@ -32,11 +31,10 @@ fn site_of(old: Node, up: Node, places: [u16; 5], number: u16, blade: u8, last: 
     requires { last ≤ 1000000 }
     ensures { result ≡ site_left old up places number blade last }
 {
-    let d = old.datum;
     Site {
         under: old.parent,
         alone: no_child(up),
-        level: d.level,
+        level: old.datum.level,
         places,
         serial: last + 1,
         number,
@@ -50,9 +48,7 @@ fn new_at(old: Node, site: Site, shape: InsertionShape, size: Size) -> NewNodes
     ensures { result ≡ new_of old site shape size }
 {
     let d = old.datum;
-    let cut = d.cut;
-    let piece = d.size;
-    let blueprint = blueprint_of(shape, site.blade, cut, piece, size);
+    let blueprint = blueprint_of(shape, site.blade, d.cut, d.size, size);
     new_nodes(blueprint, site)
 }
 
@@ -70,7 +66,7 @@ fn less_parent(up: Node, q: u16, removable: Listing) -> Listing
 
 // The part, of this size in its rotation and of this number, is cut in that shape, by a blade of this width, from the free piece at x; last is the last serial
 // that was given.
-// The new nodes come into the table one after the other: each is appended in place, as `append` of `table` does it, since a call would copy the table.
+// The new nodes come into the table one after the other.
 pub fn book(
     nodes: LayoutNodes,
     x: u16,
@@ -83,48 +79,19 @@ pub fn book(
     requires { Bookable nodes x shape size number blade last }
     ensures { result ≡ booked_nodes nodes x shape size number blade last }
 {
-    let was = nodes.nodes;
-    let i = x as usize;
-    let old = was[i];
-    let mut t = unlink(was, x);
-    let q = old.parent as usize;
-    let up = t[q];
-    let places = new_places(t);
+    let old = nodes.nodes[x as usize];
+    let mut t = nodes.nodes;
+    unlink(&mut t, x);
+    let up = t[old.parent as usize];
+    let places = new_places(&t);
     let site = site_of(old, up, places, number, blade, last);
     let new = new_at(old, site, shape, size);
-    let count = new.count;
-    let list = new.list;
-    let mut j: usize = 0;
-    while j < count {
-        let n = list[j];
-        let under = n.under as usize;
-        let place = n.place as usize;
-        let d = n.datum;
-        let parent = t[under];
-        let l = parent.last;
-        let own = leaf(d, n.under, l);
-        t[place] = own;
-        if NONE <= l {
-            let parent = t[under];
-            let tied = with_first(parent, n.place);
-            t[under] = tied;
-        } else {
-            let at = l as usize;
-            let before = t[at];
-            let tied = with_next(before, n.place);
-            t[at] = tied;
-        }
-        let parent = t[under];
-        let closed = with_last(parent, n.place);
-        t[under] = closed;
-        j += 1;
+    for n in &new.list[..new.count] {
+        append(&mut t, n.under, n.place, n.datum);
     }
-    let areas = areas_of(t);
-    let was_free = nodes.free;
-    let less = was_free.omit(x);
-    let free = put_frees(less, &areas, new);
-    let was_removable = nodes.removable;
-    let fewer = less_parent(up, old.parent, was_removable);
+    let less = nodes.free.omit(x);
+    let free = put_frees(less, &t, new);
+    let fewer = less_parent(up, old.parent, nodes.removable);
     let removable = enrol(fewer, new);
     let after = LayoutNodes {
         nodes: t,

@@ -32,11 +32,10 @@ pub fn no_marks() -> NewMarks
 fn mark_of(number: u16, n: NewNode) -> Mark
     ensures { result ≡ new_mark number n }
 {
-    let d = n.datum;
     Mark {
         layout: number,
         place: n.place,
-        serial: d.serial,
+        serial: n.datum.serial,
     }
 }
 
@@ -45,11 +44,8 @@ fn first_mark(number: u16, new: NewNodes) -> Mark
     requires { new.count ≤ 5 }
     ensures { result ≡ first_mark number (those new) }
 {
-    let list = new.list;
-    let count = new.count;
-    if 0 < count {
-        let n = list[0];
-        mark_of(number, n)
+    if 0 < new.count {
+        mark_of(number, new.list[0])
     } else {
         Mark::zero()
     }
@@ -60,15 +56,10 @@ fn part_mark(number: u16, new: NewNodes) -> Mark
     requires { new.count ≤ 5 }
     ensures { result ≡ head_mark (marks_of number is_part (those new)) }
 {
-    let list = new.list;
-    let count = new.count;
-    let mut i: usize = 0;
-    while i < count {
-        let n = list[i];
+    for &n in &new.list[..new.count] {
         if n.is_part() {
             return mark_of(number, n);
         }
-        i += 1;
     }
     Mark::zero()
 }
@@ -78,20 +69,14 @@ pub fn marks_of(number: u16, new: NewNodes) -> NewMarks
     requires { (new.count ≤ 5) × (length (frees_of (those new)) ≤ 2) }
     ensures { result ≡ new_marks number (those new) }
 {
-    let list = new.list;
-    let count = new.count;
     let zero = Mark::zero();
     let mut frees = [zero; 2];
     let mut found: usize = 0;
-    let mut i: usize = 0;
-    while i < count {
-        let n = list[i];
+    for &n in &new.list[..new.count] {
         if n.is_free() {
-            let mark = mark_of(number, n);
-            frees[found] = mark;
+            frees[found] = mark_of(number, n);
             found += 1;
         }
-        i += 1;
     }
     let first = first_mark(number, new);
     let part = part_mark(number, new);

@@ -3,7 +3,7 @@ ghost use Rattle.std.specs.Prelude.{◌≡◌, cond, ◌++◌, ◌+◌, ◌<◌,
 ghost use Rattle.piece.specs.Kinds.{is_free, is_part};
 ghost use Rattle.lists.specs.Lists.{limit};
 ghost use Rattle.tree.specs.ListSteps.{put_all};
-ghost use Rattle.layout_nodes.specs.Listings.{Kept, area_at, entries_of, listing};
+ghost use Rattle.layout_nodes.specs.Listings.{Kept, area_in, entries_of, listing};
 ghost use Rattle.booking.specs.Book.{new_places};
 ghost use Rattle.booking.specs.NewNodes as spec;
 ghost use Rattle.booking.specs.NewNodes.{add_all, enrolments, frees_of, next_node, no_new, site_node, those};
@@ -48,17 +48,13 @@ impl NewNode {
     pub fn is_free(self) -> bool
         ensures { result ≡ is_free self.datum.kind }
     {
-        let d = self.datum;
-        let kind = d.kind;
-        kind.is_free()
+        self.datum.kind.is_free()
     }
 
     pub fn is_part(self) -> bool
         ensures { result ≡ is_part self.datum.kind }
     {
-        let d = self.datum;
-        let kind = d.kind;
-        kind.is_part()
+        self.datum.kind.is_part()
     }
 }
 
@@ -94,11 +90,7 @@ fn deeper(level: u8) -> u8
 fn number_of(kind: Kind, number: u16) -> u16
     ensures { result ≡ cond (is_part kind) number 0 }
 {
-    match kind {
-        Kind::Free => 0,
-        Kind::Part => number,
-        Kind::Structure => 0,
-    }
+    if kind.is_part() { number } else { 0 }
 }
 
 // The i-th node at a site, under that place and at that level.
@@ -106,16 +98,13 @@ fn site_node(site: Site, i: usize, under: u16, eldest: bool, level: u8, n: Inser
     requires { (i < 5) × (site.serial + 5 ≤ 4294967295) }
     ensures { result ≡ site_node site i under eldest level n }
 {
-    let kind = n.kind;
-    let cut = n.cut;
-    let size = n.size;
     let datum = Datum {
         serial: site.serial + (i as u32),
-        size,
-        number: number_of(kind, site.number),
+        size: n.size,
+        number: number_of(n.kind, site.number),
         level,
-        kind,
-        cut,
+        kind: n.kind,
+        cut: n.cut,
         eaten: n.eaten,
     };
     NewNode {
@@ -135,17 +124,22 @@ impl NewNodes {
         let count = self.count;
         let parent = n.parent as usize;
         if count <= parent {
-            let first = if site.alone { count == 0 } else { false };
-            site_node(site, count, site.under, first, site.level, n)
+            site_node(
+                site,
+                count,
+                site.under,
+                site.alone && count == 0,
+                site.level,
+                n,
+            )
         } else {
             let up = self.list[parent];
-            let d = up.datum;
             site_node(
                 site,
                 count,
                 up.place,
                 parent + 1 == count,
-                deeper(d.level),
+                deeper(up.datum.level),
                 n,
             )
         }
@@ -157,11 +151,10 @@ impl NewNodes {
     {
         let new = self.next(site, n);
         let mut list = self.list;
-        let count = self.count;
-        list[count] = new;
+        list[self.count] = new;
         NewNodes {
             list,
-            count: count + 1,
+            count: self.count + 1,
         }
     }
 }
@@ -171,51 +164,37 @@ pub fn new_nodes(blueprint: InsertionBlueprint, site: Site) -> NewNodes
     requires { (blueprint.count ≤ 5) × (site.serial + 5 ≤ 4294967295) }
     ensures { result ≡ add_all site (record { list = replicate 5 no_new; count = 0 }) (take blueprint.count blueprint.nodes) }
 {
-    let count = blueprint.count;
-    let nodes = blueprint.nodes;
     let mut new = none();
-    let mut i: usize = 0;
-    while i < count {
-        let n = nodes[i];
-        let more = new.add(site, n);
-        new = more;
-        i += 1;
+    for &n in &blueprint.nodes[..blueprint.count] {
+        new = new.add(site, n);
     }
     new
 }
 
 // The places that new nodes get one after the other: each is the lowest unheld one past the one before, and NONE or more where there is none.
-pub fn new_places(nodes: [Node; LIMIT]) -> [u16; 5]
-    ensures { result ≡ new_places nodes }
+pub fn new_places(nodes: &[Node; LIMIT]) -> [u16; 5]
+    ensures { result ≡ new_places nodes.now }
 {
     let mut places = [0u16; 5];
     let mut from: u16 = 0;
-    let mut k: usize = 0;
-    while k < 5 {
+    for k in 0..5 {
         let place = unheld(nodes, from);
         places[k] = place;
         from = place + 1;
-        k += 1;
     }
     places
 }
 
-// Those that are free come into the free list, by their areas in the column.
-pub fn put_frees(free: Listing, areas: &[u64; LIMIT], new: NewNodes) -> Listing
+// Those that are free come into the free list, by their areas in the table.
+pub fn put_frees(free: Listing, nodes: &[Node; LIMIT], new: NewNodes) -> Listing
     requires { Kept free × (new.count ≤ 5) × (free.count + new.count ≤ limit) }
-    ensures { result ≡ listing (put_all (area_at areas.now) (entries_of free) (frees_of (those new))) }
+    ensures { result ≡ listing (put_all (area_in nodes.now) (entries_of free) (frees_of (those new))) }
 {
-    let count = new.count;
-    let list = new.list;
     let mut l = free;
-    let mut i: usize = 0;
-    while i < count {
-        let n = list[i];
+    for n in &new.list[..new.count] {
         if n.is_free() {
-            let more = l.put(areas, n.place);
-            l = more;
+            l = l.put(nodes, n.place);
         }
-        i += 1;
     }
     l
 }
@@ -225,21 +204,14 @@ pub fn enrol(removable: Listing, new: NewNodes) -> Listing
     requires { Kept removable × (new.count ≤ 5) × (removable.count + length (enrolments (those new)) ≤ limit) }
     ensures { result ≡ listing (entries_of removable ++ enrolments (those new)) }
 {
-    let count = new.count;
-    let list = new.list;
     let mut l = removable;
-    let mut i: usize = 0;
-    while i < count {
-        let n = list[i];
+    for n in &new.list[..new.count] {
         if n.is_part() {
-            let more = l.push(n.place);
-            l = more;
+            l = l.push(n.place);
         }
         if n.eldest {
-            let more = l.push(n.under);
-            l = more;
+            l = l.push(n.under);
         }
-        i += 1;
     }
     l
 }

@@ -19,7 +19,7 @@ use Rattle.layout_nodes.specs.declared.listing.Listing.{Listing}
 use Rattle.layout_nodes.specs.Listings.{Kept, entries_of, listing}
 use Rattle.layout_nodes.specs.Spots.{spots_of}
 use Rattle.layout_nodes.specs.Inner.{Single}
-use Rattle.layout_nodes.proofs.Listed.{cut-each, all-length-most, entries-are, get_or-entries, kept-as, length-entries, push-one}
+use Rattle.layout_nodes.proofs.Listed.{cut-each, all-length-most, entries-are, kept-as, push-one, room-entries}
 use Rattle.layout_nodes.proofs.Naming.{named, unnamed}
 use Rattle.layout_nodes.proofs.Lookup.{spots-at}
 
@@ -119,46 +119,43 @@ module _ (order : List ℕ) (count : ℕ) where
   unfolding padded
   passed_none xs = rw (cut-all-none ps) refl
 
-  module _ {l : Listing} (kept : Kept l) (single : Single (entries_of l)) {m : Listing} (i : ℕ) (b : i < l.count)
+  module _ {l : Listing} (kept : Kept l) (single : Single (entries_of l)) {m : Listing} (i : ℕ) (b : i < length (entries_of l))
       (e : Passed (entries_of l) order count i m) where
     abbrev xs : List ℕ
     xs = entries_of l
 
     -- the entry whose turn it is
     abbrev y : ℕ
-    y = get_or l.list i 0
+    y = get_or xs i 0
 
     abbrev zs : List ℕ
     zs = omit_all (take i xs) ps
 
-    inside : i < length xs
-    inside = let n = length-entries kept in omega arith
-
     next : take (i + 1) xs ≡ push (take i xs) y
-    next = rw (add-one i, take-suc xs i 0 inside, get_or-entries kept i) refl
+    next = rw (add-one i, take-suc xs i 0 b) refl
 
     apart : Absent y (take i xs)
     apart k c f =
-        let n = length-take-le i xs (omega (arith, inside)) in
+        let n = length-take-le i xs (omega arith) in
         let d : k < i = omega arith in
-        let z = single.once k i (omega (arith, inside)) inside (sym (get_or-take i xs k 0 d) ∙ f ∙ get_or-entries kept i) in
+        let z = single.once k i (omega arith) b (sym (get_or-take i xs k 0 d) ∙ f) in
         omega arith
 
     pub low : y < limit
-    low = rw (get_or-entries kept i) (single.low i inside)
+    low = single.low i b
 
     most : length zs ≤ i
-    most = omega (arith, all-length-most cut-each (take i xs) ps, length-take-le i xs (omega (arith, inside)))
+    most = omega (arith, all-length-most cut-each (take i xs) ps, length-take-le i xs (omega arith))
 
     pub passed-room : m.count < limit
-    passed-room = omega (arith, most, kept.room, ap (λ (v : Listing). v.count) e)
+    passed-room = omega (arith, most, room-entries kept, ap (λ (v : Listing). v.count) e)
 
     pub passed-keep : count ≤ get_or (spots_of order count) y 0
         → Passed xs order count (i + 1) (record { list = set m.list m.count y; count = m.count + 1 })
     passed-keep h =
         let s = spots-at order count y low in
         let out = unnamed y order count (λ k c f. omega (arith, index-found order count y k c f)) in
-        push-one (kept-as zs e (omega (arith, most, kept.room))) y passed-room
+        push-one (kept-as zs e (omega (arith, most, room-entries kept))) y passed-room
         ∙ rw (entries-are zs e, next, cut-all-keeps y ps (take i xs) apart out) refl
 
     pub passed-drop : get_or (spots_of order count) y 0 < count → Passed xs order count (i + 1) m
@@ -168,6 +165,6 @@ module _ (order : List ℕ) (count : ℕ) where
         let out = named y order count (index_of order count y) c (index-holds order count y c) in
         e ∙ rw (next, cut-all-drops y ps (take i xs) apart out) refl
 
-  pub passed-all : {l m : Listing} → Kept l → {i : ℕ} → i ≡ l.count → Passed (entries_of l) order count i m
+  pub passed-all : (l : Listing) {m : Listing} {i : ℕ} → length (entries_of l) ≤ i → Passed (entries_of l) order count i m
       → m ≡ listing (omit_all (entries_of l) (entries count order))
-  passed-all {l} kept {i} f e = e ∙ rw (take_all i (entries_of l) (omega (arith, length-entries kept))) refl
+  passed-all l {m} {i} f e = e ∙ rw (take_all i (entries_of l) f) refl

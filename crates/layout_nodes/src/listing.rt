@@ -4,8 +4,7 @@ ghost use Rattle.tree.specs.ListSteps as spec;
 ghost use Rattle.tree.specs.ListSteps.{berth, omit_all, strike_all};
 ghost use Rattle.lists.specs.Lists.{limit, entries};
 ghost use Rattle.layout_nodes.specs.Inner.{Single};
-ghost use Rattle.table.specs.Columns.{areas_of};
-ghost use Rattle.layout_nodes.specs.Listings.{Kept, area_at, entries_of, listing};
+ghost use Rattle.layout_nodes.specs.Listings.{Kept, area_in, entries_of, listing};
 
 use crate::spots::{spot_in, spots_of};
 use lists::LIMIT;
@@ -28,12 +27,13 @@ impl Listing {
         let mut list = self.list;
         let count = self.count;
         let at = index_of(&list, count, place);
-        if at < count {
-            let last = count - 1;
-            delete_at(&mut list, count, at);
-            Listing { list, count: last }
-        } else {
-            self
+        if count <= at {
+            return self;
+        }
+        delete_at(&mut list, count, at);
+        Listing {
+            list,
+            count: count - 1,
         }
     }
 
@@ -45,12 +45,13 @@ impl Listing {
         let mut list = self.list;
         let count = self.count;
         let at = index_of(&list, count, place);
-        if at < count {
-            let last = count - 1;
-            swap_out(&mut list, count, at);
-            Listing { list, count: last }
-        } else {
-            self
+        if count <= at {
+            return self;
+        }
+        swap_out(&mut list, count, at);
+        Listing {
+            list,
+            count: count - 1,
         }
     }
 
@@ -60,11 +61,10 @@ impl Listing {
         ensures { result ≡ listing (spec.push (entries_of self) place) }
     {
         let mut list = self.list;
-        let end = self.count;
-        list[end] = place;
+        list[self.count] = place;
         Listing {
             list,
-            count: end + 1,
+            count: self.count + 1,
         }
     }
 
@@ -75,19 +75,14 @@ impl Listing {
         ensures { result ≡ listing (omit_all (entries_of self) (entries count order.now)) }
     {
         let old = self.list;
-        let n = self.count;
         let spots = spots_of(order, count);
         let mut list = [0u16; LIMIT];
         let mut kept: usize = 0;
-        let mut i: usize = 0;
-        while i < n {
-            let place = old[i];
-            let p = wide(place);
-            if count <= spots[p] {
+        for &place in &old[..self.count] {
+            if count <= spots[place as usize] {
                 list[kept] = place;
                 kept += 1;
             }
-            i += 1;
         }
         Listing { list, count: kept }
     }
@@ -100,9 +95,8 @@ impl Listing {
         let mut list = self.list;
         let mut n = self.count;
         let mut spots = spots_of(&list, n);
-        let mut i: usize = 0;
-        while i < count {
-            let at = spot_in(&list, n, &spots, order[i]);
+        for &place in &order[..count] {
+            let at = spot_in(&list, n, &spots, place);
             if at < n {
                 let last = n - 1;
                 let v = wide(list[last]);
@@ -110,40 +104,32 @@ impl Listing {
                 swap_out(&mut list, n, at);
                 n = last;
             }
-            i += 1;
         }
         Listing { list, count: n }
     }
 
     // The first index with a smaller area than that of the place, or the count.
-    fn berth(self, areas: &[u64; LIMIT], place: u16) -> usize
+    fn berth(self, nodes: &[Node; LIMIT], place: u16) -> usize
         requires { Kept self }
-        ensures { result ≡ berth (area_at areas.now) (entries_of self) place }
+        ensures { result ≡ berth (area_in nodes.now) (entries_of self) place }
     {
-        let list = self.list;
-        let count = self.count;
-        let area = area_at(areas, place);
-        let mut i: usize = 0;
-        let found = loop {
-            if count <= i {
-                break count;
+        let area = area_in(nodes, place);
+        for i in 0..self.count {
+            if area_in(nodes, self.list[i]) < area {
+                return i;
             }
-            if area_at(areas, list[i]) < area {
-                break i;
-            }
-            i += 1;
-        };
-        found
+        }
+        self.count
     }
 
-    // A place that is newer than all others is put in where its area belongs; the areas come as a column.
-    pub fn put(self, areas: &[u64; LIMIT], place: u16) -> Listing
+    // A place that is newer than all others is put in where its area belongs.
+    pub fn put(self, nodes: &[Node; LIMIT], place: u16) -> Listing
         requires { Kept self × (self.count < limit) }
-        ensures { result ≡ listing (spec.put (area_at areas.now) (entries_of self) place) }
+        ensures { result ≡ listing (spec.put (area_in nodes.now) (entries_of self) place) }
     {
         let mut list = self.list;
         let count = self.count;
-        let at = self.berth(areas, place);
+        let at = self.berth(nodes, place);
         insert_at(&mut list, count, at, place);
         Listing {
             list,
@@ -152,26 +138,10 @@ impl Listing {
     }
 }
 
-// The column of the areas, taken out of the nodes once, so that it can be lent.
-pub fn areas_of(nodes: [Node; LIMIT]) -> [u64; LIMIT]
-    ensures { result ≡ areas_of nodes }
+// The area of the piece at a place of the table, and 0 where there is no such place.
+fn area_in(nodes: &[Node; LIMIT], place: u16) -> u64
+    ensures { result ≡ area_in nodes.now place }
 {
-    let mut areas = [0u64; LIMIT];
-    let mut i: usize = 0;
-    while i < LIMIT {
-        let n = nodes[i];
-        let d = n.datum;
-        let size = d.size;
-        areas[i] = size.area();
-        i += 1;
-    }
-    areas
-}
-
-// The area at a place of the column, and 0 where there is no such place.
-fn area_at(areas: &[u64; LIMIT], place: u16) -> u64
-    ensures { result ≡ area_at areas.now place }
-{
-    let p = wide(place);
-    if p < LIMIT { areas[p] } else { 0 }
+    let p = place as usize;
+    if p < LIMIT { nodes[p].datum.size.area() } else { 0 }
 }

@@ -14,14 +14,11 @@ pub fn spots_of(list: &[u16; LIMIT], count: usize) -> [usize; LIMIT]
     ensures { result ≡ spots_of list.now count }
 {
     let mut spots = [count; LIMIT];
-    let mut i = count;
-    while 0 < i {
-        let j = i - 1;
-        let p = wide(list[j]);
+    for j in (0..count).rev() {
+        let p = list[j] as usize;
         if p < LIMIT {
             spots[p] = j;
         }
-        i = j;
     }
     spots
 }
@@ -39,8 +36,5 @@ pub fn spot_in(list: &[u16; LIMIT], count: usize, spots: &[usize; LIMIT], place:
     if count <= at {
         return count;
     }
-    if list[at] == place {
-        return at;
-    }
-    count
+    if list[at] == place { at } else { count }
 }

@@ -12,3 +12,4 @@ pub mod Gone
 pub mod Struck
 pub mod Stands
 pub mod Bare
+pub mod Typed

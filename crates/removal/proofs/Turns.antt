@@ -6,13 +6,26 @@ use Prim.Native.Nat.{ℕ, zero, suc, ◌+◌, ◌<◌, ◌≤◌}
 use native.Mathlib.Numerals.{add-one}
 use native.Mathlib.Omega.{arith}
 use native.Mathlib.Decide.{ℕ_discrete}
-use lib.ListN.{get_or}
+use lib.ListN.{get_or, length, take}
+use lib.Seq.{get_or-take}
+use Rattle.std.proofs.lemmas.List.{length-take, length-take-le}
 use Rattle.table.specs.declared.Node.{Node}
 use Rattle.table.specs.Table.{at, unlink}
 use Rattle.table.specs.Steps.{unlink_all}
 use Rattle.removal.specs.Going.{area_along, area_if_part}
 use Rattle.removal.specs.Inner.{Goes}
 use Rattle.lists.specs.Lists.{entries}
+
+-- ---- the places, as the loops have them
+
+module _ (l : List ℕ) (n i : ℕ) where
+  -- one whose turn is to come stands in the array
+  pub turn_of : i < length (take n l) → (i < n) × (get_or (take n l) i 0 ≡ get_or l i 0)
+  turn_of h = let low : i < n = omega (arith, length-take n l) in (low, get_or-take n l i 0 low)
+
+  -- and all have had it at the end
+  pub turns-end : n ≤ length l → i ≤ length (take n l) → length (take n l) ≤ i → i ≡ n
+  turns-end few a b = omega (arith, length-take-le n l few)
 
 -- ---- unlinking
 

@@ -18,40 +18,30 @@ pub struct Going {
 }
 
 // Writes the place of the last child of q at n, if that is free, and gives the next index.
-fn put_free_last(nodes: [Node; LIMIT], q: u16, order: &mut [u16], n: usize) -> usize
-    requires { (q < limit) × ((at nodes q).last < limit) × (n + length (free_last_place nodes q) ≤ length order.old) }
-    ensures written { order.new ≡ sets order.old n (free_last_place nodes q) }
-    ensures counted { result ≡ n + length (free_last_place nodes q) }
+pub(crate) fn put_free_last(nodes: &[Node; LIMIT], q: u16, order: &mut [u16], n: usize) -> usize
+    requires { (q < limit) × ((at nodes.now q).last < limit) × (n + length (free_last_place nodes.now q) ≤ length order.old) }
+    ensures written { order.new ≡ sets order.old n (free_last_place nodes.now q) }
+    ensures counted { result ≡ n + length (free_last_place nodes.now q) }
 {
-    let qi = q as usize;
-    let up = nodes[qi];
-    let l = up.last;
-    let li = l as usize;
-    let end = nodes[li];
-    let d = end.datum;
-    let kind = d.kind;
-    if kind.is_free() {
+    let l = nodes[q as usize].last;
+    if nodes[l as usize].datum.kind.is_free() {
         order[n] = l;
-        n + 1
-    } else {
-        n
+        return n + 1;
     }
+    n
 }
 
 // What goes with the piece at x, where `held` is how many nodes there are: its subtree, each node after its children, and then the free piece at
 // the end of its row.
-pub fn going_with(nodes: [Node; LIMIT], x: u16, held: usize) -> Going
-    requires { (x < limit) × ((at nodes x).parent < limit) × ((at nodes (at nodes x).parent).last < limit)
-        × (length (going_of nodes x held) ≤ limit) × Hangs limit nodes x held }
-    ensures entries { places result ≡ going_of nodes x held }
-    ensures counted { result.count ≡ length (going_of nodes x held) }
+pub fn going_with(nodes: &[Node; LIMIT], x: u16, held: usize) -> Going
+    requires { (x < limit) × ((at nodes.now x).parent < limit) × ((at nodes.now (at nodes.now x).parent).last < limit)
+        × (length (going_of nodes.now x held) ≤ limit) × Hangs limit nodes.now x held }
+    ensures entries { places result ≡ going_of nodes.now x held }
+    ensures counted { result.count ≡ length (going_of nodes.now x held) }
     ensures placed { Placed limit result.count result.order }
 {
-    let xi = x as usize;
-    let n = nodes[xi];
-    let q = n.parent;
     let mut order = [0u16; LIMIT];
-    let k = order_out(nodes, x, held, &mut order, 0);
-    let count = put_free_last(nodes, q, &mut order, k);
+    let k = order_out(*nodes, x, held, &mut order, 0);
+    let count = put_free_last(nodes, nodes[x as usize].parent, &mut order, k);
     Going { order, count }
 }

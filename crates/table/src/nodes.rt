@@ -1,7 +1,7 @@
-// Nodes one by one: the node of an unheld place, a leaf, and a node with another link; and the table in which no place is held.
+// Nodes one by one: the node of an unheld place, and a leaf; and the table in which no place is held.
 ghost use Rattle.std.specs.Prelude.{◌≡◌, replicate};
 ghost use Rattle.lists.specs.Lists.{limit};
-ghost use Rattle.table.specs.Table.{mk, zero_datum, zero_node, with_first, with_last, with_next, with_prev};
+ghost use Rattle.table.specs.Table.{mk, zero_datum, zero_node};
 
 use crate::{LIMIT, NONE, Node};
 use piece::node::{Datum, Kind};
@@ -60,36 +60,4 @@ pub fn leaf(d: Datum, parent: u16, prev: u16) -> Node
         prev,
         next: NONE,
     }
-}
-
-pub fn with_first(n: Node, k: u16) -> Node
-    ensures { result ≡ with_first n k }
-{
-    let mut m = n;
-    m.first = k;
-    m
-}
-
-pub fn with_last(n: Node, k: u16) -> Node
-    ensures { result ≡ with_last n k }
-{
-    let mut m = n;
-    m.last = k;
-    m
-}
-
-pub fn with_next(n: Node, k: u16) -> Node
-    ensures { result ≡ with_next n k }
-{
-    let mut m = n;
-    m.next = k;
-    m
-}
-
-pub fn with_prev(n: Node, k: u16) -> Node
-    ensures { result ≡ with_prev n k }
-{
-    let mut m = n;
-    m.prev = k;
-    m
 }

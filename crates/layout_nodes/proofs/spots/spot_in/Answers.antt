@@ -18,7 +18,7 @@ returns-then-list-at c =
     rw c.wide-p.ensures
     (spot-found c.requires.1 c.args.place (rw c.wide-p.ensures at c.if-count-at.false) (rw c.wide-p.ensures at c.if-list-at.true))
 
-pub returns : goal.returns
-returns c =
+pub returns-else-list-at : goal.returns-else-list-at
+returns-else-list-at c =
     let h = rw c.wide-p.ensures at c.if-list-at.false in
     spot-missing c.requires.1 c.args.place (λ b d e. h e)

@@ -1,29 +1,23 @@
--- `spots::spots_of` meets its contract: the column says where the entries that the loop has passed stand first. The measure is the index that it
--- stands at. Assumes nothing.
+-- `spots::spots_of` meets its contract: the column says where the entries that the loop has passed stand first. Assumes nothing.
 use Prim.Native.Nat.{◌-◌}
 use native.Mathlib.Omega.{arith}
 use Rattle.layout_nodes.proofs.Lookup.{spotting-none, spotting-more, spotting-past, spotting-all}
 use Rattle.layout_nodes.proofs.spots.spots_of.Goals as goal
 
-pub loop-i-init : goal.loop-i-init
-loop-i-init c = (omega arith, spotting-none c.args.list.now c.args.count)
+pub loop-j-init : goal.loop-j-init
+loop-j-init c = spotting-none c.args.list.now c.args.count
 
-pub loop-i-preserved-then-p-lt-LIMIT : goal.loop-i-preserved-then-p-lt-LIMIT
-loop-i-preserved-then-p-lt-LIMIT c =
-    let l = c.loop-i in
+pub loop-j-preserved-then-p-lt-LIMIT : goal.loop-j-preserved-then-p-lt-LIMIT
+loop-j-preserved-then-p-lt-LIMIT c =
+    let l = c.loop-j in
     let a = c.args in
-    let w = c.wide-p in
-    let low = rw w.ensures at c.if-p-lt-LIMIT.true in
-    (omega arith, rw w.ensures (spotting-more a.list.now a.count (l.i - 1) (omega arith) (omega arith) l.invariant.1 low))
+    spotting-more a.list.now a.count (l.j - 1) (omega arith) (omega arith) l.invariant c.if-p-lt-LIMIT.true
 
-pub loop-i-preserved : goal.loop-i-preserved
-loop-i-preserved c =
-    let l = c.loop-i in
+pub loop-j-preserved : goal.loop-j-preserved
+loop-j-preserved c =
+    let l = c.loop-j in
     let a = c.args in
-    let high = rw c.wide-p.ensures at c.if-p-lt-LIMIT.false in
-    (omega arith, spotting-past a.list.now a.count (l.i - 1) (omega arith) (omega arith) l.invariant.1 high)
+    spotting-past a.list.now a.count (l.j - 1) (omega arith) (omega arith) l.invariant c.if-p-lt-LIMIT.false
 
 pub returns : goal.returns
-returns c =
-    let a = c.args in
-    spotting-all a.list.now a.count (omega arith) c.loop-i.invariant.1
+returns c = spotting-all c.args.list.now c.args.count (omega arith) c.loop-j.invariant

@@ -14,6 +14,6 @@ pub returns-then-is_free : goal.returns-then-is_free
 unfolding free_last_place
 returns-then-is_free c = rw (← c.is_free.ensures, c.if-is_free.true) (record { written = refl; counted = refl })
 
-pub returns-else-is_free : goal.returns-else-is_free
+pub returns : goal.returns
 unfolding free_last_place
-returns-else-is_free c = rw (← c.is_free.ensures, c.if-is_free.false) (record { written = refl; counted = omega arith })
+returns c = rw (← c.is_free.ensures, c.if-is_free.false) (record { written = refl; counted = omega arith })

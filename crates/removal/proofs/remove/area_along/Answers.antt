@@ -1,41 +1,44 @@
--- `area_along` meets its contract. The loop's invariant: the sum is the area along the first i places. The measure is what is left of the count.
--- Assumes nothing.
+-- `area_along` meets its contract. The loop's invariant: the sum is the area along the first places. Assumes nothing.
 use mathlib.Core.Path.{◌≡◌, refl, ap, ◌∙◌}
-use Prim.Native.Nat.{ℕ}
+use Prim.Native.Nat.{ℕ, ◌≤◌}
 use native.Mathlib.Omega.{arith}
+use lib.ListN.{length}
 use Rattle.lists.specs.Lists.{entries}
 use Rattle.removal.specs.Going.{area_along}
-use Rattle.removal.proofs.Turns.{area-more, area-most}
+use Rattle.removal.proofs.Turns.{area-more, area-most, turn_of, turns-end}
+use Rattle.removal.proofs.Typed.{all-goes}
 use Rattle.removal.proofs.remove.area_along.Goals as goal
 
-pub loop-i-init : goal.loop-i-init
+pub loop-p-init : goal.loop-p-init
 unfolding entries
-loop-i-init c = (omega arith, refl)
+loop-p-init c = refl
 
 pub bounds-nodes-p : goal.bounds-nodes-p
-bounds-nodes-p c = c.requires.1 c.loop-i.i c.loop-i-test.true
-
-pub overflow_cast-p : goal.overflow_cast-p
-overflow_cast-p c = omega (arith, bounds-nodes-p c)
-
-pub offset_bounds-nodes-p : goal.offset_bounds-nodes-p
-offset_bounds-nodes-p c = omega (arith, bounds-nodes-p c)
+bounds-nodes-p c =
+    let g = c.args.g in
+    let h = turn_of g.order g.count c.loop-p.p-index c.loop-p-test.true in
+    rw h.1 (c.requires.1 c.loop-p.p-index h.0)
 
 pub overflow_add-sum : goal.overflow_add-sum
 overflow_add-sum c =
-    let l = c.loop-i in
-    let a = c.args in
-    omega (arith, c.part_area-sum.ensures, l.invariant.1, area-most a.nodes a.g.order a.g.count l.i (omega arith), c.requires.2)
+    let l = c.loop-p in
+    let g = c.args.g in
+    let h = turn_of g.order g.count l.p-index c.loop-p-test.true in
+    let e = rw h.1 at c.part_area-sum.ensures in
+    omega (arith, e, area-most c.args.nodes.now g.order g.count l.p-index h.0, c.requires.2)
 
-pub loop-i-preserved : goal.loop-i-preserved
-loop-i-preserved c =
-    let l = c.loop-i in
-    let a = c.args in
-    (omega arith, omega (arith, c.part_area-sum.ensures, l.invariant.1, area-more a.nodes a.g.order l.i))
+pub loop-p-preserved : goal.loop-p-preserved
+loop-p-preserved c =
+    let l = c.loop-p in
+    let g = c.args.g in
+    let h = turn_of g.order g.count l.p-index c.loop-p-test.true in
+    let e = rw h.1 at c.part_area-sum.ensures in
+    omega (arith, e, area-more c.args.nodes.now g.order l.p-index)
 
 pub returns : goal.returns
 returns c =
-    let a = c.args in
-    let l = c.loop-i in
-    let e : l.i ≡ a.g.count = omega arith in
-    l.invariant.1 ∙ ap (λ (i : ℕ). area_along a.nodes (entries i a.g.order)) e
+    let l = c.loop-p in
+    let g = c.args.g in
+    let few : g.count ≤ length g.order = omega (arith, c.requires.0, all-goes g _ c.well_formed.1.0) in
+    let e = turns-end g.order g.count l.p-index few l.auto.p-index-end c.loop-p-test.false in
+    l.invariant ∙ ap (λ (k : ℕ). area_along c.args.nodes.now (entries k g.order)) e

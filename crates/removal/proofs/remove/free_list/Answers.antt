@@ -3,7 +3,6 @@ use mathlib.Core.Path.{refl, ap, ◌∙◌}
 use native.Mathlib.Omega.{arith}
 use Rattle.layout_nodes.specs.declared.listing.Listing.{Listing}
 use Rattle.layout_nodes.specs.Listings.{entries_of}
-use Rattle.layout_nodes.proofs.Areas.{areas-are}
 use Rattle.layout_nodes.proofs.Listed.{entries-are, kept-as}
 use Rattle.removal.specs.Going.{places}
 use Rattle.tree.specs.ListSteps.{omit_all}
@@ -20,4 +19,4 @@ returns c =
     let a = c.args in
     let xs = omit_all (entries_of a.free) (places a.g) in
     c.put.ensures
-    ∙ rw (c.areas_of-areas.ensures, areas-are a.nodes c.well_formed.1.1.0.1.0.1, entries-are xs c.omit_all-shorter.ensures) refl
+    ∙ rw (entries-are xs c.omit_all-shorter.ensures) refl

@@ -9,10 +9,10 @@ pub new_free-d-requires : goal.new_free-d-requires
 unfolding new_free free_last_datum
 new_free-d-requires c = let p = c.requires.1 in (p.wide, p.tall, p.spent)
 
-pub append-nodes-requires : goal.append-nodes-requires
-append-nodes-requires c =
+pub append-requires : goal.append-requires
+append-requires c =
     let p = c.requires.1 in
-    (p.hung, rw (c.unheld-place.ensures, c.unlink_all-left.ensures) p.some)
+    (p.hung, rw (c.unheld-place.ensures, c.unlink_all.ensures) p.some)
 
 pub removable_list-removable-requires : goal.removable_list-removable-requires
 removable_list-removable-requires c =
@@ -25,9 +25,9 @@ returns c =
     rw (
       c.removable_list-removable.ensures,
       c.free_list-free.ensures,
-      c.append-nodes.ensures,
+      c.append.ensures,
       c.unheld-place.ensures,
-      c.unlink_all-left.ensures,
+      c.unlink_all.ensures,
       c.new_free-d.ensures,
     )
     refl

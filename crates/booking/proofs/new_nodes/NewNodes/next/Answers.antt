@@ -11,8 +11,8 @@ pub returns-after-site : goal.returns-after-site
 unfolding next_node
 returns-after-site c =
     let s = c.args in
-    let first : c.if-site.first ≡ (s.site.alone && eqb s.self.count 0) =
-    elim c.if-site.branch [ then-site w ↦ w.first-is ∙ rw w.if-site.true refl | else-site w ↦ w.first-is ∙ rw w.if-site.false refl ]
+    let first : c.if-site.site_node ≡ (s.site.alone && eqb s.self.count 0) =
+    elim c.if-site.branch [ then-site w ↦ w.site_node-is ∙ rw w.if-site.true refl | else-site w ↦ w.site_node-is ∙ rw w.if-site.false refl ]
     in
     rw c.site_node.ensures (simp (first, le-leb _ _ c.if-count-parent.true))
 

@@ -2,10 +2,10 @@
 use Rattle.layout_nodes.proofs.Listed.{strike-none, strike-one}
 use Rattle.layout_nodes.proofs.listing.Listing.strike.Goals as goal
 
-pub returns-then-at-count : goal.returns-then-at-count
-returns-then-at-count c =
-    strike-one c.requires c.args.place c.index_of-at.ensures c.if-at-count.true c.swap_out.ensures
+pub returns-then-count-at : goal.returns-then-count-at
+returns-then-count-at c =
+    strike-none c.requires c.args.place c.index_of-at.ensures c.if-count-at.true
 
-pub returns-else-at-count : goal.returns-else-at-count
-returns-else-at-count c =
-    strike-none c.requires c.args.place c.index_of-at.ensures c.if-at-count.false
+pub returns : goal.returns
+returns c =
+    strike-one c.requires c.args.place c.index_of-at.ensures c.if-count-at.false c.swap_out.ensures
