@@ -56,13 +56,12 @@ impl Layout {
         requires { Takeable self place × Leaving self place g × (count ≡ length (numbers_out self place)) }
         ensures { RemoveDone self place result }
     {
-        let nodes = self.nodes;
         let c = remove(self.layout_nodes(), g, place, self.serial);
         let last = self.serial + 1;
         let next = self.with_nodes(
             c.nodes,
             self.held + 1 - g.count as u16,
-            self.used - area_along(nodes, g),
+            self.used - area_along(&self.nodes, g),
             last,
         );
         Removed {
@@ -85,7 +84,7 @@ impl Layout {
             ≡ out_after (room_no self place (length out.old)) (numbers_out self place) out.old }
     {
         let nodes = self.nodes;
-        let g = going_with(nodes, place, self.held as usize);
+        let g = going_with(&self.nodes, place, self.held as usize);
         let order = g.order;
         let count = count_numbers(nodes, &order, g.count);
         if out.len() < count {

@@ -11,7 +11,8 @@ use crate::layout::Layout;
 use crate::remove::Removed;
 use crate::replies::Outcome;
 use marks::{Mark, Refusal};
-use removal::untidy::{going_bare, lowest_untidy, remove_bare};
+use removal::remove::remove;
+use removal::untidy::{going_bare, lowest_untidy};
 use sound::frame::MAX_SERIAL;
 use table::NONE;
 
@@ -34,14 +35,13 @@ impl Layout {
         }
     }
 
-    // The structure at the place goes, with the free piece below it. Its steps are apart from those of remove.rt: crate `removal`, src/untidy.rt, says why.
+    // The structure at the place goes, with the free piece below it.
     fn emptied(self, place: u16) -> Removed
         requires { Takeable self place × (numbers_out self place ≡ []) × Untidy place (tree self) }
         ensures { RemoveDone self place result }
     {
-        let nodes = self.nodes;
-        let g = going_bare(nodes, place);
-        let c = remove_bare(self.layout_nodes(), g, place, self.serial);
+        let g = going_bare(&self.nodes, place);
+        let c = remove(self.layout_nodes(), g, place, self.serial);
         let last = self.serial + 1;
         let next = self.with_nodes(c.nodes, self.held + 1 - g.count as u16, self.used, last);
         Removed {
@@ -67,8 +67,7 @@ impl Layout {
         let mut left = self;
         let mut count: u16 = 0;
         loop {
-            let nodes = left.nodes;
-            let place = lowest_untidy(nodes);
+            let place = lowest_untidy(&left.nodes);
             if NONE <= place {
                 return Tidied {
                     outcome: Outcome::Done,

@@ -13,10 +13,10 @@ use Rattle.layout.proofs.layout.Layout.emptied.Goals as goal
 pub going_bare-g-requires : goal.going_bare-g-requires
 going_bare-g-requires c = bare-asked c.args.self c.args.place c.requires.0 c.requires.2
 
-pub remove_bare-c-requires : goal.remove_bare-c-requires
-remove_bare-c-requires c =
-    let f = bare-few c.args.self c.args.place c.requires.0 c.requires.2 c.going_bare-g.result (c.going_bare-g.ensures.entries, (c.going_bare-g.ensures.counted, c.going_bare-g.ensures.placed)) in
-    (f.0, f.1, rw c.layout_nodes.ensures (clearable c.args.self c.args.place c.requires.0 c.going_bare-g.result (bare-leaves c.args.self c.args.place c.requires.0 c.requires.2 c.going_bare-g.result (c.going_bare-g.ensures.entries, (c.going_bare-g.ensures.counted, c.going_bare-g.ensures.placed)))))
+pub remove-c-requires : goal.remove-c-requires
+remove-c-requires c =
+    let out = bare-leaves c.args.self c.args.place c.requires.0 c.requires.2 c.going_bare-g.result (c.going_bare-g.ensures.entries, (c.going_bare-g.ensures.counted, c.going_bare-g.ensures.placed)) in
+    (out.room, rw c.layout_nodes.ensures (clearable c.args.self c.args.place c.requires.0 c.going_bare-g.result out))
 
 pub overflow_cast-g : goal.overflow_cast-g
 overflow_cast-g c = omega (arith, (bare-few c.args.self c.args.place c.requires.0 c.requires.2 c.going_bare-g.result (c.going_bare-g.ensures.entries, (c.going_bare-g.ensures.counted, c.going_bare-g.ensures.placed))).1)
@@ -28,7 +28,7 @@ overflow_sub-self c =
 
 pub with_nodes-next-requires : goal.with_nodes-next-requires
 with_nodes-next-requires c =
-    lists-room c.args.self c.args.place c.requires.0 c.going_bare-g.result (bare-leaves c.args.self c.args.place c.requires.0 c.requires.2 c.going_bare-g.result (c.going_bare-g.ensures.entries, (c.going_bare-g.ensures.counted, c.going_bare-g.ensures.placed))) (c.remove_bare-c.ensures ∙ ap (λ (n : LayoutNodes). removed_nodes n (places c.going_bare-g.result) c.args.place c.args.self.serial) c.layout_nodes.ensures)
+    lists-room c.args.self c.args.place c.requires.0 c.going_bare-g.result (bare-leaves c.args.self c.args.place c.requires.0 c.requires.2 c.going_bare-g.result (c.going_bare-g.ensures.entries, (c.going_bare-g.ensures.counted, c.going_bare-g.ensures.placed))) (c.remove-c.ensures ∙ ap (λ (n : LayoutNodes). removed_nodes n (places c.going_bare-g.result) c.args.place c.args.self.serial) c.layout_nodes.ensures)
 
 pub returns : goal.returns
 returns c =
@@ -39,7 +39,7 @@ returns c =
       outcome = refl;
       free =
           ap (λ (q : ℕ). record { layout = l.number; place = q; serial = l.serial + 1 })
-          (place_is l c.args.place c.requires.0 g (bare-leaves c.args.self c.args.place c.requires.0 c.requires.2 c.going_bare-g.result (c.going_bare-g.ensures.entries, (c.going_bare-g.ensures.counted, c.going_bare-g.ensures.placed))) (c.remove_bare-c.ensures ∙ ap (λ (n : LayoutNodes). removed_nodes n (places c.going_bare-g.result) c.args.place c.args.self.serial) c.layout_nodes.ensures));
+          (place_is l c.args.place c.requires.0 g (bare-leaves c.args.self c.args.place c.requires.0 c.requires.2 c.going_bare-g.result (c.going_bare-g.ensures.entries, (c.going_bare-g.ensures.counted, c.going_bare-g.ensures.placed))) (c.remove-c.ensures ∙ ap (λ (n : LayoutNodes). removed_nodes n (places c.going_bare-g.result) c.args.place c.args.self.serial) c.layout_nodes.ensures));
       count = sym (ap length c.requires.1);
-      next = rw c.with_nodes-next.ensures (next-out l c.args.place c.requires.0 g (bare-leaves c.args.self c.args.place c.requires.0 c.requires.2 c.going_bare-g.result (c.going_bare-g.ensures.entries, (c.going_bare-g.ensures.counted, c.going_bare-g.ensures.placed))) (c.remove_bare-c.ensures ∙ ap (λ (n : LayoutNodes). removed_nodes n (places c.going_bare-g.result) c.args.place c.args.self.serial) c.layout_nodes.ensures) refl used);
+      next = rw c.with_nodes-next.ensures (next-out l c.args.place c.requires.0 g (bare-leaves c.args.self c.args.place c.requires.0 c.requires.2 c.going_bare-g.result (c.going_bare-g.ensures.entries, (c.going_bare-g.ensures.counted, c.going_bare-g.ensures.placed))) (c.remove-c.ensures ∙ ap (λ (n : LayoutNodes). removed_nodes n (places c.going_bare-g.result) c.args.place c.args.self.serial) c.layout_nodes.ensures) refl used);
     }

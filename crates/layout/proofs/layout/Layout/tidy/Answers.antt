@@ -41,13 +41,13 @@ pub returns-then-left-ge-MAX_SERIAL : goal.returns-then-left-ge-MAX_SERIAL
 returns-then-left-ge-MAX_SERIAL c =
     let l = c.loop-self in
     let self = c.args.self in
-    spent-so self (checked c.before.before.before.before.before.before.before) l.count l.left l.invariant
-    (some_left self l.count l.left l.invariant _ (found c.before.before.before)) (omega (arith, c.if-left-ge-MAX_SERIAL.true)) c.refused_tidy-then-left-ge-MAX_SERIAL.ensures
+    spent-so self (checked c.before.before.before.before.before.before) l.count l.left l.invariant
+    (some_left self l.count l.left l.invariant _ (found c.before.before)) (omega (arith, c.if-left-ge-MAX_SERIAL.true)) c.refused_tidy-then-left-ge-MAX_SERIAL.ensures
 
 pub emptied-gone-requires : goal.emptied-gone-requires
 emptied-gone-requires c =
     let l = c.loop-self in
-    emptyable l.left l.invariant.sound c.lowest_untidy-place.result (found c.before.before).untidy l.invariant.sized (omega (arith, c.if-left-ge-MAX_SERIAL.false))
+    emptyable l.left l.invariant.sound c.lowest_untidy-place.result (found c.before).untidy l.invariant.sized (omega (arith, c.if-left-ge-MAX_SERIAL.false))
 
 pub overflow_add-count : goal.overflow_add-count
 overflow_add-count c =
@@ -56,10 +56,10 @@ overflow_add-count c =
 pub loop-self-smaller : goal.loop-self-smaller
 loop-self-smaller c =
     let l = c.loop-self in
-    omega (arith, one_less l.left l.invariant.sound c.lowest_untidy-place.result (found c.before.before.before.before).untidy c.emptied-gone.result c.emptied-gone.ensures)
+    omega (arith, one_less l.left l.invariant.sound c.lowest_untidy-place.result (found c.before.before.before).untidy c.emptied-gone.result c.emptied-gone.ensures)
 
 pub loop-self-preserved : goal.loop-self-preserved
 loop-self-preserved c =
     let l = c.loop-self in
-    one_more c.args.self l.count l.left l.invariant c.lowest_untidy-place.result (found c.before.before.before.before) c.emptied-gone.result
+    one_more c.args.self l.count l.left l.invariant c.lowest_untidy-place.result (found c.before.before.before) c.emptied-gone.result
     c.emptied-gone.ensures
