@@ -1,7 +1,7 @@
 -- The steps of `book` together: each step's needs follow from `Bookable`, and what they leave is the booking of specs/Book.antt.
 -- Assumes nothing.
-use mathlib.Core.Path.{◌≡◌, refl, ap, ◌∙◌}
-use mathlib.Core.List.{List, [], ◌∷◌, ◌++◌}
+use mathlib.Core.Path.{◌≡◌, refl}
+use mathlib.Core.List.{List, ◌++◌}
 use Prim.Native.Nat.{ℕ, ◌+◌, ◌≤◌, ◌<◌}
 use native.Mathlib.Omega.{arith}
 use lib.ListN.{get_or, length, length-append}
@@ -13,13 +13,12 @@ use Rattle.piece.specs.declared.insertion_blueprint.InsertionShape.{InsertionSha
 use Rattle.piece.proofs.Blocks.{new-nodes-few}
 use Rattle.tree.specs.ListSteps.{omit, put_all}
 use Rattle.table.specs.declared.Node.{Node}
-use Rattle.table.specs.Table.{append, at, unlink}
+use Rattle.table.specs.Table.{at, unlink}
 use Rattle.layout_nodes.specs.declared.listing.Listing.{Listing}
 use Rattle.layout_nodes.specs.declared.LayoutNodes.{LayoutNodes}
 use Rattle.layout_nodes.specs.Listings.{Kept, area_in, entries_of, listing}
 use Rattle.layout_nodes.proofs.Listed.{entries-are, kept-as}
 use Rattle.booking.specs.declared.new_nodes.NewNodes.{NewNodes}
-use Rattle.booking.specs.declared.new_nodes.NewNode.{NewNode}
 use Rattle.booking.specs.declared.new_nodes.Site.{Site}
 use Rattle.booking.specs.NewNodes.{append_each, enrolments, frees_of, no_new, those}
 use Rattle.booking.specs.Book.{booked_nodes, booked_with, less_parent, new_nodes_at, new_of, new_places, site_left, site_of}

@@ -7,19 +7,18 @@ use borrow.Author.Tests.{le-leb, lt-leb}
 use lib.ListN.{set}
 use Rattle.piece.specs.declared.node.Datum.{Datum}
 use Rattle.table.specs.declared.Node.{Node}
-use Rattle.table.specs.Table.{at, mk, with_first, with_last, with_next, tie, append}
+use Rattle.table.specs.Table.{at, close, mk, with_first, with_next, tie, append}
 
 module _ (limit : ℕ) (t : List Node) (q a : ℕ) (d : Datum) {leaf : Node} (new : leaf ≡ mk d q (at t q).last limit limit limit) where
   -- the link is its parent's first one, if that has no child, or the next one of the last child
-  pub tied-first : limit ≤ (at t q).last → {n : Node} → n ≡ with_first (at (set t a leaf) q) a
-      → set (set t a leaf) q n ≡ tie limit (set t a leaf) q (at t q).last a
-  tied-first h e = rw (le-leb limit (at t q).last h, e) refl
+  pub tied-first : limit ≤ (at t q).last
+      → set (set t a leaf) q (with_first (at (set t a leaf) q) a) ≡ tie limit (set t a leaf) q (at t q).last a
+  tied-first h = rw (le-leb limit (at t q).last h) refl
 
-  pub tied-next : (at t q).last < limit → {n : Node} → n ≡ with_next (at (set t a leaf) (at t q).last) a
-      → set (set t a leaf) (at t q).last n ≡ tie limit (set t a leaf) q (at t q).last a
-  tied-next h e = rw (lt-leb limit (at t q).last h, e) refl
+  pub tied-next : (at t q).last < limit
+      → set (set t a leaf) (at t q).last (with_next (at (set t a leaf) (at t q).last) a) ≡ tie limit (set t a leaf) q (at t q).last a
+  tied-next h = rw (lt-leb limit (at t q).last h) refl
 
-  pub appended : {u : List Node} → u ≡ tie limit (set t a leaf) q (at t q).last a → {n : Node} → n ≡ with_last (at u q) a
-      → set u q n ≡ append limit t q a d
+  pub appended : {u : List Node} → u ≡ tie limit (set t a leaf) q (at t q).last a → close u q a ≡ append limit t q a d
   unfolding append
-  appended e f = rw (f, e, new) refl
+  appended e = rw (e, new) refl

@@ -16,18 +16,18 @@ module _ (limit : ℕ) (t : List Node) (n : Node) where
   abbrev after : List Node
   after = join_after limit t n.parent n.prev n.next
 
-  module _ {m : Node} {u : List Node} where
-    pub first-joined : limit ≤ n.prev → m ≡ with_first (at t n.parent) n.next → u ≡ set t n.parent m → u ≡ before
-    first-joined h e f = f ∙ ap (λ (v : Node). set t n.parent v) e ∙ rw (le-leb limit n.prev h) refl
+  module _ {u : List Node} where
+    pub first-joined : limit ≤ n.prev → u ≡ set t n.parent (with_first (at t n.parent) n.next) → u ≡ before
+    first-joined h f = f ∙ rw (le-leb limit n.prev h) refl
 
-    pub next-joined : n.prev < limit → m ≡ with_next (at t n.prev) n.next → u ≡ set t n.prev m → u ≡ before
-    next-joined h e f = f ∙ ap (λ (v : Node). set t n.prev v) e ∙ rw (lt-leb limit n.prev h) refl
+    pub next-joined : n.prev < limit → u ≡ set t n.prev (with_next (at t n.prev) n.next) → u ≡ before
+    next-joined h f = f ∙ rw (lt-leb limit n.prev h) refl
 
-    pub last-joined : limit ≤ n.next → m ≡ with_last (at t n.parent) n.prev → u ≡ set t n.parent m → u ≡ after
-    last-joined h e f = f ∙ ap (λ (v : Node). set t n.parent v) e ∙ rw (le-leb limit n.next h) refl
+    pub last-joined : limit ≤ n.next → u ≡ set t n.parent (with_last (at t n.parent) n.prev) → u ≡ after
+    last-joined h f = f ∙ rw (le-leb limit n.next h) refl
 
-    pub prev-joined : n.next < limit → m ≡ with_prev (at t n.next) n.prev → u ≡ set t n.next m → u ≡ after
-    prev-joined h e f = f ∙ ap (λ (v : Node). set t n.next v) e ∙ rw (lt-leb limit n.next h) refl
+    pub prev-joined : n.next < limit → u ≡ set t n.next (with_prev (at t n.next) n.prev) → u ≡ after
+    prev-joined h f = f ∙ rw (lt-leb limit n.next h) refl
 
 module _ (limit : ℕ) (t : List Node) (x : ℕ) {u v : List Node} {z : Node} where
   pub unlinked : u ≡ before limit t (at t x) → v ≡ after limit u (at t x) → z ≡ zero_node → set v x z ≡ unlink limit t x

@@ -1,5 +1,4 @@
 -- `spots::spots_of` meets its contract: the column says where the entries that the loop has passed stand first. Assumes nothing.
-use Prim.Native.Nat.{◌-◌}
 use Rattle.layout_nodes.proofs.Lookup.{Spotting}
 use Rattle.layout_nodes.proofs.spots.spots_of.Given as goal
 

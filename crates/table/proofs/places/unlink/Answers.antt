@@ -1,5 +1,4 @@
 -- `table::places::unlink` meets its contract: what was before x and what comes after it are joined, and then x is zero. Assumes nothing.
-use mathlib.Core.Path.{refl}
 use Rattle.lists.specs.Lists.{limit}
 use Rattle.table.specs.Table.{at}
 use Rattle.table.proofs.Unlinked.{first-joined, next-joined, last-joined, prev-joined, unlinked}
@@ -13,11 +12,11 @@ returns c =
     let t = c.if-n-ge-NONE.nodes in
     unlinked limit s.nodes.now s.x
     (elim c.if-n-ge-NONE.branch [
-      | then-n-ge-NONE w ↦ first-joined limit s.nodes.now n w.if-n-ge-NONE.true refl w.nodes-is
-      | else-n-ge-NONE w ↦ next-joined limit s.nodes.now n w.if-n-ge-NONE.false refl w.nodes-is
+      | then-n-ge-NONE w ↦ first-joined limit s.nodes.now n w.if-n-ge-NONE.true w.nodes-is
+      | else-n-ge-NONE w ↦ next-joined limit s.nodes.now n w.if-n-ge-NONE.false w.nodes-is
     ])
     (elim c.if-n-ge-NONE-2.branch [
-      | then-n-ge-NONE-2 w ↦ last-joined limit t n w.if-n-ge-NONE-2.true refl w.nodes-is
-      | else-n-ge-NONE-2 w ↦ prev-joined limit t n w.if-n-ge-NONE-2.false refl w.nodes-is
+      | then-n-ge-NONE-2 w ↦ last-joined limit t n w.if-n-ge-NONE-2.true w.nodes-is
+      | else-n-ge-NONE-2 w ↦ prev-joined limit t n w.if-n-ge-NONE-2.false w.nodes-is
     ])
     c.no_node.ensures
