@@ -105,10 +105,5 @@ no_node = insertion_node_of 0 Horizontal (made Free 0 0)
 unfoldable pub as_blueprint : List InsertionNode → InsertionBlueprint
 as_blueprint l = record { nodes = take 5 (l ++ replicate 5 no_node); count = length l }
 
--- the block of a shape, with the sides as the table writes them
-unfoldable pub laid_out : InsertionShape → ℕ → Orientation → Size → Size → InsertionBlueprint
-laid_out s b c piece part =
-    as_blueprint (nodes_in_order outside c (laid_all c (table s b piece.width piece.height part.width part.height)))
-
 unfoldable pub blueprint_of : InsertionShape → ℕ → Orientation → Size → Size → InsertionBlueprint
 blueprint_of s b c piece part = as_blueprint (nodes_in_order outside c (block_of s b c piece part))

@@ -1,7 +1,8 @@
 // The four shapes of an insertion and the nodes that each makes. Rust: core/insertion/insertion_blueprint.rs.
 ghost use Rattle.std.specs.Prelude.{◌≡◌};
-ghost use Rattle.piece.specs.Insertion.{blueprint_of, cut_from, laid_out, laid_made, new_nodes, no_node, insertion_node_of};
+ghost use Rattle.piece.specs.Insertion.{blueprint_of, cut_from, laid_made, new_nodes, no_node, insertion_node_of};
 ghost use Rattle.piece.specs.Numbers.{listed_shape, shape_no, shape_of};
+ghost use Rattle.piece.specs.Sides.{sized};
 
 use crate::node::Kind;
 use crate::orientation::Orientation;
@@ -96,14 +97,17 @@ pub struct InsertionBlueprint {
     pub count: usize,
 }
 
+fn sized(width: u32, height: u32) -> Size
+    ensures { result ≡ sized width height }
+{
+    Size { width, height }
+}
+
 fn no_node() -> InsertionNode
     ensures { result ≡ no_node }
 {
     InsertionNode {
-        size: Size {
-            width: 0,
-            height: 0,
-        },
+        size: sized(0, 0),
         parent: 0,
         kind: Kind::Free,
         cut: Orientation::Horizontal,
@@ -131,134 +135,9 @@ fn node(
     }
 }
 
-// The four rows of document 01's table. The sides are those of the table: the piece is W x H, the part w x h. What is cut off has something eaten
-// behind it, by a blade of this width, and the free piece is what is left.
-
-fn along_current_cut(blade: u8, cut: Orientation, piece: Size, part: Size) -> InsertionBlueprint
-    ensures { result ≡ laid_out InsertionShape.AlongCurrentCut blade cut piece part }
-{
-    let z = no_node();
-    let wide = rest(piece.width, part.width);
-    let strip = Size {
-        width: part.width,
-        height: piece.height,
-    };
-    let beside = Size {
-        width: rest(wide, blade as u32),
-        height: piece.height,
-    };
-    let n0 = node(
-        cut,
-        cut,
-        OUTSIDE,
-        Kind::Part,
-        strip,
-        eaten_behind(blade, wide),
-    );
-    let n1 = node(cut, cut, OUTSIDE, Kind::Free, beside, 0);
-    InsertionBlueprint {
-        nodes: [n0, n1, z, z, z],
-        count: 2,
-    }
-}
-
-fn across_current_cut(blade: u8, cut: Orientation, piece: Size, part: Size) -> InsertionBlueprint
-    ensures { result ≡ laid_out InsertionShape.AcrossCurrentCut blade cut piece part }
-{
-    let z = no_node();
-    let inner = cut.rotate();
-    let tall = rest(piece.height, part.height);
-    let strip = Size {
-        width: piece.width,
-        height: part.height,
-    };
-    let below = Size {
-        width: piece.width,
-        height: rest(tall, blade as u32),
-    };
-    let n0 = node(cut, cut, OUTSIDE, Kind::Structure, piece, 0);
-    let n1 = node(cut, inner, 0, Kind::Part, strip, eaten_behind(blade, tall));
-    let n2 = node(cut, inner, 0, Kind::Free, below, 0);
-    InsertionBlueprint {
-        nodes: [n0, n1, n2, z, z],
-        count: 3,
-    }
-}
-
-fn along_then_across(blade: u8, cut: Orientation, piece: Size, part: Size) -> InsertionBlueprint
-    ensures { result ≡ laid_out InsertionShape.AlongThenAcross blade cut piece part }
-{
-    let z = no_node();
-    let inner = cut.rotate();
-    let wide = rest(piece.width, part.width);
-    let tall = rest(piece.height, part.height);
-    let strip = Size {
-        width: part.width,
-        height: piece.height,
-    };
-    let below = Size {
-        width: part.width,
-        height: rest(tall, blade as u32),
-    };
-    let beside = Size {
-        width: rest(wide, blade as u32),
-        height: piece.height,
-    };
-    let n0 = node(
-        cut,
-        cut,
-        OUTSIDE,
-        Kind::Structure,
-        strip,
-        eaten_behind(blade, wide),
-    );
-    let n1 = node(cut, inner, 0, Kind::Part, part, eaten_behind(blade, tall));
-    let n2 = node(cut, inner, 0, Kind::Free, below, 0);
-    let n3 = node(cut, cut, OUTSIDE, Kind::Free, beside, 0);
-    InsertionBlueprint {
-        nodes: [n0, n1, n2, n3, z],
-        count: 4,
-    }
-}
-
-fn across_then_along(blade: u8, cut: Orientation, piece: Size, part: Size) -> InsertionBlueprint
-    ensures { result ≡ laid_out InsertionShape.AcrossThenAlong blade cut piece part }
-{
-    let inner = cut.rotate();
-    let wide = rest(piece.width, part.width);
-    let tall = rest(piece.height, part.height);
-    let strip = Size {
-        width: piece.width,
-        height: part.height,
-    };
-    let beside = Size {
-        width: rest(wide, blade as u32),
-        height: part.height,
-    };
-    let below = Size {
-        width: piece.width,
-        height: rest(tall, blade as u32),
-    };
-    let n0 = node(cut, cut, OUTSIDE, Kind::Structure, piece, 0);
-    let n1 = node(
-        cut,
-        inner,
-        0,
-        Kind::Structure,
-        strip,
-        eaten_behind(blade, tall),
-    );
-    let n2 = node(cut, cut, 1, Kind::Part, part, eaten_behind(blade, wide));
-    let n3 = node(cut, cut, 1, Kind::Free, beside, 0);
-    let n4 = node(cut, inner, 0, Kind::Free, below, 0);
-    InsertionBlueprint {
-        nodes: [n0, n1, n2, n3, n4],
-        count: 5,
-    }
-}
-
 // The nodes that the shape makes of a free piece with this cut, for a part of this size in its rotation, where the
-// blade is this wide.
+// blade is this wide: the four rows of document 01's table, over the sides of the table. What is cut off has something
+// eaten behind it, and the free piece is what is left.
 pub fn nodes(
     shape: InsertionShape,
     blade: u8,
@@ -268,12 +147,63 @@ pub fn nodes(
 ) -> InsertionBlueprint
     ensures { result ≡ blueprint_of shape blade cut piece part }
 {
+    let inner = cut.rotate();
     let whole = piece.laid(cut);
     let wanted = part.laid(cut);
+    let wide = rest(whole.width, wanted.width);
+    let tall = rest(whole.height, wanted.height);
+    let eaten_beside = eaten_behind(blade, wide);
+    let eaten_below = eaten_behind(blade, tall);
+    let left_beside = rest(wide, blade as u32);
+    let left_below = rest(tall, blade as u32);
+    // a strip along the cut and one across it, and what is left beside and below: of the piece, and of a strip
+    let along = sized(wanted.width, whole.height);
+    let across = sized(whole.width, wanted.height);
+    let beside = sized(left_beside, whole.height);
+    let below = sized(whole.width, left_below);
+    let beside_in_strip = sized(left_beside, wanted.height);
+    let below_in_strip = sized(wanted.width, left_below);
+    let z = no_node();
     match shape {
-        InsertionShape::AlongCurrentCut => along_current_cut(blade, cut, whole, wanted),
-        InsertionShape::AcrossCurrentCut => across_current_cut(blade, cut, whole, wanted),
-        InsertionShape::AlongThenAcross => along_then_across(blade, cut, whole, wanted),
-        InsertionShape::AcrossThenAlong => across_then_along(blade, cut, whole, wanted),
+        InsertionShape::AlongCurrentCut => InsertionBlueprint {
+            nodes: [
+                node(cut, cut, OUTSIDE, Kind::Part, along, eaten_beside),
+                node(cut, cut, OUTSIDE, Kind::Free, beside, 0),
+                z,
+                z,
+                z,
+            ],
+            count: 2,
+        },
+        InsertionShape::AcrossCurrentCut => InsertionBlueprint {
+            nodes: [
+                node(cut, cut, OUTSIDE, Kind::Structure, whole, 0),
+                node(cut, inner, 0, Kind::Part, across, eaten_below),
+                node(cut, inner, 0, Kind::Free, below, 0),
+                z,
+                z,
+            ],
+            count: 3,
+        },
+        InsertionShape::AlongThenAcross => InsertionBlueprint {
+            nodes: [
+                node(cut, cut, OUTSIDE, Kind::Structure, along, eaten_beside),
+                node(cut, inner, 0, Kind::Part, wanted, eaten_below),
+                node(cut, inner, 0, Kind::Free, below_in_strip, 0),
+                node(cut, cut, OUTSIDE, Kind::Free, beside, 0),
+                z,
+            ],
+            count: 4,
+        },
+        InsertionShape::AcrossThenAlong => InsertionBlueprint {
+            nodes: [
+                node(cut, cut, OUTSIDE, Kind::Structure, whole, 0),
+                node(cut, inner, 0, Kind::Structure, across, eaten_below),
+                node(cut, cut, 1, Kind::Part, wanted, eaten_beside),
+                node(cut, cut, 1, Kind::Free, beside_in_strip, 0),
+                node(cut, inner, 0, Kind::Free, below, 0),
+            ],
+            count: 5,
+        },
     }
 }
