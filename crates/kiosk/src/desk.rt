@@ -29,9 +29,8 @@ pub struct DeskRecord {
 fn told(given: SessionRecord, question: Question) -> DeskRecord
     ensures { DeskAnswered given (asks.Asks question) result.session result.line result.count }
 {
-    let before = given.layout;
     let mut line = [0u8; LONGEST_ANSWER];
-    let count = answer(layout_of(before), question, &mut line);
+    let count = answer(layout_of(given.layout), question, &mut line);
     DeskRecord {
         session: given,
         line,
@@ -73,15 +72,12 @@ fn at_counter(given: SessionRecord, request: Request) -> DeskRecord
     ensures { DeskAnswered given (asks.AtCounter request) result.session result.line result.count }
 {
     let stepped = asked(given, request);
-    let session = stepped.session;
-    let said = stepped.line;
-    let count = stepped.count;
     let mut line = [0u8; LONGEST_ANSWER];
-    copy_first(&said, count, &mut line);
+    copy_first(&stepped.line, stepped.count, &mut line);
     DeskRecord {
-        session,
+        session: stepped.session,
         line,
-        count,
+        count: stepped.count,
     }
 }
 

@@ -31,6 +31,7 @@ pub struct SteppedRecord {
 fn says(session: SessionRecord, said: Said) -> SteppedRecord
     ensures { result ≡ record_step_to session said }
 {
+    // An array goes from record to record by a name of its own: the borrow checker follows no other way.
     let line = said.line;
     SteppedRecord {
         session,
@@ -56,21 +57,19 @@ fn told(mut given: SessionRecord, answer: Response) -> SteppedRecord
 pub(crate) fn asked(given: SessionRecord, request: Request) -> SteppedRecord
     ensures { Answered given request result.session result.line result.count }
 {
-    let before = given.layout;
-    let kept = given.kept;
-    let layout = layout_of(before);
+    let layout = layout_of(given.layout);
     // `told` is called from one place, so that the compiler makes one function of the two and copies no session between them
     let response = match request {
         Request::OfLayout(ask) => replied(layout, ask),
-        Request::Restore => restore(layout, layout_of(kept)),
+        Request::Restore => restore(layout, layout_of(given.kept)),
         Request::Keep => {
             let answer = keep(layout);
             let said = answer.said;
             if answer.sound { // a sound layout's record is the one that it was read from
                 return says(
                     SessionRecord {
-                        layout: before,
-                        kept: before,
+                        layout: given.layout,
+                        kept: given.layout,
                     },
                     said,
                 );

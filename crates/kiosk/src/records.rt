@@ -67,28 +67,26 @@ pub struct SessionRecord {
 // ---- Reading.
 
 // A kind and a cut that document 01 lists.
+#[tactic(auto, unfolding(crate::specs::Records::listed_b))]
 fn listed(given: NodeRecord) -> bool
     ensures { result ≡ listed_b given }
 {
-    let d = given.datum;
-    d.kind <= 2 && d.cut <= 1
+    given.datum.kind <= 2 && given.datum.cut <= 1
 }
 
 // At each place.
 fn all_listed(records: [NodeRecord; LIMIT]) -> bool
     ensures { result ≡ all_listed_b records }
 {
-    let mut i: usize = 0;
-    while i < LIMIT {
-        let given = records[i];
-        if !listed(given) {
+    for i in 0..LIMIT {
+        if !listed(records[i]) {
             return false;
         }
-        i += 1;
     }
     true
 }
 
+#[tactic(auto, unfolding(crate::specs::Records::node_of_record))]
 fn node_of(given: NodeRecord) -> Node
     ensures { result ≡ node_of_record given }
 {
@@ -118,21 +116,19 @@ fn nodes_of(records: [NodeRecord; LIMIT]) -> [Node; LIMIT]
     ensures { result ≡ nodes_of_records records }
 {
     let mut nodes = empty_table();
-    let mut i: usize = 0;
-    while i < LIMIT {
-        let given = records[i];
-        nodes[i] = node_of(given);
-        i += 1;
+    for i in 0..LIMIT {
+        nodes[i] = node_of(records[i]);
     }
     nodes
 }
 
 // Field by field.
+#[tactic(auto, unfolding(crate::specs::Records::fields_of))]
 fn fields_of(given: LayoutRecord) -> Layout
     ensures { result ≡ fields_of given }
 {
-    let table = given.nodes;
-    let nodes = nodes_of(table);
+    // An array goes from record to record by a name of its own: the borrow checker follows no other way.
+    let nodes = nodes_of(given.nodes);
     let free = given.free;
     let removable = given.removable;
     Layout {
@@ -157,11 +153,11 @@ fn fields_of(given: LayoutRecord) -> Layout
 }
 
 // The layout that a record stands for.
+#[tactic(auto, unfolding(crate::specs::Records::layout_of))]
 pub fn layout_of(given: LayoutRecord) -> Layout
     ensures { result ≡ layout_of given }
 {
-    let table = given.nodes;
-    if all_listed(table) {
+    if all_listed(given.nodes) {
         fields_of(given)
     } else {
         Layout::zero()
@@ -170,12 +166,11 @@ pub fn layout_of(given: LayoutRecord) -> Layout
 
 // ---- Writing.
 
+#[tactic(auto, unfolding(crate::specs::Records::node_record))]
 fn node_record(n: Node) -> NodeRecord
     ensures { result ≡ node_record n }
 {
     let d = n.datum;
-    let kind = d.kind;
-    let cut = d.cut;
     NodeRecord {
         datum: DatumRecord {
             serial: d.serial,
@@ -183,8 +178,8 @@ fn node_record(n: Node) -> NodeRecord
             height: d.size.height,
             number: d.number,
             level: d.level,
-            kind: kind.number(),
-            cut: cut.number(),
+            kind: d.kind.number(),
+            cut: d.cut.number(),
             eaten: d.eaten,
         },
         parent: n.parent,
@@ -223,20 +218,17 @@ fn node_records(nodes: [Node; LIMIT]) -> [NodeRecord; LIMIT]
     ensures { result ≡ node_records nodes }
 {
     let mut records = no_records();
-    let mut i: usize = 0;
-    while i < LIMIT {
-        let n = nodes[i];
-        records[i] = node_record(n);
-        i += 1;
+    for i in 0..LIMIT {
+        records[i] = node_record(nodes[i]);
     }
     records
 }
 
+#[tactic(auto, unfolding(crate::specs::Records::layout_record))]
 pub fn layout_record(l: Layout) -> LayoutRecord
     ensures { result ≡ layout_record l }
 {
-    let table = l.nodes;
-    let nodes = node_records(table);
+    let nodes = node_records(l.nodes);
     let free = l.free;
     let removable = l.removable;
     LayoutRecord {

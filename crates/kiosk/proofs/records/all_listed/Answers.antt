@@ -11,7 +11,7 @@ use Rattle.kiosk.proofs.records.all_listed.Invariants.{listed_at}
 use Rattle.kiosk.proofs.records.all_listed.Goals as goal
 
 pub loop-i-init : goal.loop-i-init
-loop-i-init c = (omega arith, every-none (listed_at c.args.records))
+loop-i-init c = every-none (listed_at c.args.records)
 
 pub returns-then-not-listed : goal.returns-then-not-listed
 unfolding all_listed_b
@@ -26,7 +26,7 @@ pub loop-i-preserved : goal.loop-i-preserved
 loop-i-preserved c =
     let l = c.loop-i in
     let z : listed_at c.args.records l.i ≡ true = sym c.listed.ensures ∙ c.if-not-listed.false in
-    (omega arith, every_more (listed_at c.args.records) l.i l.invariant.1 z)
+    every_more (listed_at c.args.records) l.i l.invariant z
 
 pub returns : goal.returns
 unfolding all_listed_b
@@ -35,4 +35,4 @@ returns c =
     let t = c.args.records in
     let len : length t ≡ limit = c.well_formed.0.1.0.1 in
     let all : length t ≡ l.i = omega arith in
-    sym (ap (every (listed_at t)) all ∙ l.invariant.1)
+    sym (ap (every (listed_at t)) all ∙ l.invariant)

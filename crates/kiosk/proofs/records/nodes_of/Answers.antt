@@ -10,7 +10,7 @@ use Rattle.kiosk.specs.Records.{no_record, node_of_record}
 use Rattle.kiosk.proofs.records.nodes_of.Goals as goal
 
 pub loop-i-init : goal.loop-i-init
-loop-i-init c = (omega arith, c.empty_table-nodes.ensures)
+loop-i-init c = c.empty_table-nodes.ensures
 
 pub loop-i-preserved : goal.loop-i-preserved
 loop-i-preserved c =
@@ -18,11 +18,11 @@ loop-i-preserved c =
     let t = c.args.records in
     let len : length t ≡ limit = c.well_formed.0.1.0.1 in
     let h : l.i < limit = omega arith in
-    (omega arith, fill_more node_of_record t len no_record (replicate limit zero_node) l.nodes l.i _ l.invariant.1 h c.node_of.ensures)
+    (fill_more node_of_record t len no_record (replicate limit zero_node) l.nodes l.i _ l.invariant h c.node_of.ensures)
 
 pub returns : goal.returns
 returns c =
     let l = c.loop-i in
     let t = c.args.records in
     let len : length t ≡ limit = c.well_formed.0.1.0.1 in
-    fill-column node_of_record t len (replicate limit zero_node) refl l.nodes l.i l.invariant.1 (omega arith)
+    fill-column node_of_record t len (replicate limit zero_node) refl l.nodes l.i l.invariant (omega arith)
