@@ -18,13 +18,14 @@ pub enum InsertionShape {
 }
 
 impl InsertionShape {
-    // Its number in bytes, and the shape of a listed number.
+    // Its number in bytes.
     pub fn number(self) -> u8
         ensures { result ≡ shape_no self }
     {
         u8::from(self)
     }
 
+    // The shape of a number that is known to be listed (the recorded blocks); `try_from` tests it.
     pub fn of_number(n: u8) -> InsertionShape
         ensures { result ≡ shape_of n }
     {

@@ -35,13 +35,14 @@ impl Kind {
         self == Kind::Structure
     }
 
-    // Its number in bytes, and the kind of a listed number.
+    // Its number in bytes.
     pub fn number(self) -> u8
         ensures { result ≡ kind_no self }
     {
         u8::from(self)
     }
 
+    // The kind of a number of which it was tested that it is listed (kiosk's records); `try_from` tests it.
     pub fn of_number(n: u8) -> Kind
         ensures { result ≡ kind_of n }
     {

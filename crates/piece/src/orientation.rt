@@ -27,13 +27,14 @@ impl Orientation {
         self == Orientation::Horizontal
     }
 
-    // Its number in bytes, and the cut of a listed number.
+    // Its number in bytes.
     pub fn number(self) -> u8
         ensures { result ≡ cut_no self }
     {
         u8::from(self)
     }
 
+    // The cut of a number of which it was tested that it is listed (kiosk's records); `try_from` tests it.
     pub fn of_number(n: u8) -> Orientation
         ensures { result ≡ cut_of n }
     {

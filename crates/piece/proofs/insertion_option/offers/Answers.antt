@@ -1,12 +1,8 @@
 -- `offers` meets its contract: the list of none, with the offers of one rotation after those of the other. Each adds at most two.
-use Prim.Native.Nat.{zero-le}
 use borrow.Author.Rules.{rules}
 use Rattle.piece.specs.Offers.{as_offer_list, offers_of}
 use Rattle.piece.proofs.Offered.{offers-in-few, one-rotation, two-rotations}
 use Rattle.piece.proofs.insertion_option.offers.Goals as goal
-
-pub with_rotation-first-requires : goal.with_rotation-first-requires
-with_rotation-first-requires c = rw c.none.ensures zero-le
 
 pub with_rotation-requires : goal.with_rotation-requires
 unfolding as_offer_list
