@@ -12,33 +12,15 @@ pub mod stream; // stream.rt: the lines of a text that arrives in chunks
 fn newline(text: &[u8], at: usize) -> usize
     ensures { result ≡ newline_from text.now at }
 {
-    let mut i = at;
-    while i < text.len() {
+    if text.len() <= at {
+        return at;
+    }
+    for i in at..text.len() {
         if text[i] == 10 {
             return i;
         }
-        i += 1;
     }
-    i
-}
-
-// The characters of the line at a position, without its newline, as a part of the text.
-fn chars_at<'a>(text: &'a [u8], at: usize) -> &'a [u8]
-    ensures { result.now ≡ chars_at text.now at }
-{
-    if text.len() <= at {
-        return &text[0..0];
-    }
-    let end = newline(text, at);
-    &text[at..end]
-}
-
-// Where the text goes on past that line: past its newline, or at the end of the text where it has none.
-fn past_at(text: &[u8], at: usize) -> usize
-    ensures { result ≡ past_at text.now at }
-{
-    let end = newline(text, at);
-    if end < text.len() { end + 1 } else { end }
+    text.len()
 }
 
 // A lent text and a cursor in it.
@@ -48,37 +30,33 @@ pub struct Reader<'a> {
     pub at: usize,
 }
 
-pub fn new<'a>(text: &'a [u8], at: usize) -> Reader<'a>
-    ensures { (result.text ≡ text.entry) × (result.at ≡ at) }
-{
-    Reader { text, at }
-}
+impl<'a> Reader<'a> {
+    pub fn new(text: &'a [u8], at: usize) -> Reader<'a>
+        ensures { (result.text ≡ text.entry) × (result.at ≡ at) }
+    {
+        Reader { text, at }
+    }
 
-// The line at the cursor, without its newline, as a part of the lent text.
-pub fn line<'a>(r: Reader<'a>) -> &'a [u8]
-    ensures { result.now ≡ chars_at r.entry.text.now r.entry.at }
-{
-    chars_at(r.text, r.at)
-}
+    // The line at the cursor, without its newline, as a part of the lent text.
+    pub fn line(self) -> &'a [u8]
+        ensures { result.now ≡ chars_at self.entry.text.now self.entry.at }
+    {
+        let text = self.text;
+        let at = self.at;
+        if text.len() <= at {
+            return &text[0..0];
+        }
+        let end = newline(text, at);
+        &text[at..end]
+    }
 
-// The reader past that line and its newline.
-pub fn past<'a>(r: Reader<'a>) -> Reader<'a>
-    ensures { (result.text ≡ r.entry.text) × (result.at ≡ past_at r.entry.text.now r.entry.at) }
-{
-    let at = past_at(r.text, r.at);
-    Reader { text: r.text, at }
-}
-
-// The same two of a text and a position.
-
-pub fn read<'a>(text: &'a [u8], at: usize) -> &'a [u8]
-    ensures { result.now ≡ chars_at text.now at }
-{
-    line(new(text, at))
-}
-
-pub fn after(text: &[u8], at: usize) -> usize
-    ensures { result ≡ past_at text.now at }
-{
-    past(new(text, at)).at
+    // The reader past that line and its newline, or at the end of the text where it has none.
+    pub fn past(self) -> Reader<'a>
+        ensures { (result.text ≡ self.entry.text) × (result.at ≡ past_at self.entry.text.now self.entry.at) }
+    {
+        let text = self.text;
+        let end = newline(text, self.at);
+        let at = if end < text.len() { end + 1 } else { end };
+        Reader { text, at }
+    }
 }

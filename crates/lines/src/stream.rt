@@ -3,10 +3,13 @@
 ghost use Rattle.std.specs.Prelude.{◌≡◌};
 ghost use Rattle.lines.specs.Stream.{empty, add_char, adds, step_of, take_of, unfinished};
 
+use crate::Reader;
+
 // The most characters that a line may have.
 pub const MOST: usize = 64;
 
 // The characters of the line that has no newline yet: the first count of bytes; the rest is zero. With over, it has more than fit.
+// No enum of the two: with over too, the count says that a line has begun.
 #[derive(Clone, Copy)]
 pub struct Pending {
     pub bytes: [u8; 64],
@@ -77,13 +80,11 @@ impl Pending {
         ensures { result ≡ adds self chars.now }
     {
         let mut p = self;
-        let mut i = 0;
-        while i < chars.len() {
+        for &x in chars {
             if p.over {
                 return p;
             }
-            p = p.one(chars[i]);
-            i += 1;
+            p = p.one(x);
         }
         p
     }
@@ -92,9 +93,10 @@ impl Pending {
     pub fn take(self, chunk: &[u8], at: usize) -> Taken
         ensures { result ≡ take_of self chunk.now at }
     {
-        let line = super::read(chunk, at);
+        let reader = Reader::new(chunk, at);
+        let line = reader.line();
         let p = self.some(line);
-        let next = super::after(chunk, at);
+        let next = reader.past().at;
         if next - at <= line.len() {
             return step(p, next, Event::More);
         }
