@@ -28,41 +28,24 @@ fn same_node(n: InsertionNode, b: [u8; 74], at: usize) -> bool {
     if 63 < at {
         return false;
     }
-    if n.eaten != 0 {
-        return false;
-    }
-    let kind = n.kind;
-    let cut = n.cut;
-    if kind.number() != b[at] {
-        return false;
-    }
-    if n.parent != b[at + 1] {
-        return false;
-    }
-    if cut.number() != b[at + 2] {
-        return false;
-    }
-    if n.size.width != four(b[at + 3], b[at + 4], b[at + 5], b[at + 6]) {
-        return false;
-    }
-    n.size.height == four(b[at + 7], b[at + 8], b[at + 9], b[at + 10])
+    n.eaten == 0
+        && n.kind.number() == b[at]
+        && n.parent == b[at + 1]
+        && n.cut.number() == b[at + 2]
+        && n.size.width == four(b[at + 3], b[at + 4], b[at + 5], b[at + 6])
+        && n.size.height == four(b[at + 7], b[at + 8], b[at + 9], b[at + 10])
 }
 
 // Whether our answer is the recorded one.
 pub fn agrees(b: [u8; 74]) -> bool {
     let ours = asked(b);
-    let count = ours.count;
-    let recorded = b[18] as usize;
-    if count != recorded {
+    if ours.count != b[18] as usize {
         return false;
     }
-    let mut k: usize = 0;
-    while k < 5 {
-        let n = ours.nodes[k];
-        if same_node(n, b, 19 + 11 * k) {} else {
+    for k in 0..5 {
+        if !same_node(ours.nodes[k], b, 19 + 11 * k) {
             return false;
         }
-        k += 1;
     }
     true
 }

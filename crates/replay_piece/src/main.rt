@@ -8,13 +8,16 @@ mod record;
 
 ghost use Rattle.std.specs.Prelude.{◌≤◌};
 
-use record::{Record, decoded};
+use record::decoded;
 use std::fs::File;
 use std::io;
 use std::io::Read;
 
 // The characters of the longest line: two for each of 74 bytes, and a newline.
 const LINE: usize = 149;
+
+// The most records of a file that are read.
+const MOST: u64 = 1000000;
 
 // What the records of a file ask.
 #[derive(Clone, Copy)]
@@ -33,12 +36,11 @@ fn length(asked: Asked) -> usize
     }
 }
 
-// Whether our answer is the recorded one.
-fn agrees(asked: Asked, record: Record) -> bool {
-    if record.ok {} else {
+// Whether our answer is the recorded one; a line that is no record is counted as one that differs.
+fn agrees(asked: Asked, line: &[u8; LINE]) -> bool {
+    let Some(bytes) = decoded(line, length(asked)) else {
         return false;
-    }
-    let bytes = record.bytes;
+    };
     match asked {
         Asked::Offers => offer_record::agrees(bytes),
         Asked::Blocks => block_record::agrees(bytes),
@@ -50,27 +52,6 @@ fn agrees(asked: Asked, record: Record) -> bool {
 struct Tally {
     same: u64,
     differ: u64,
-}
-
-// One record more.
-fn tallied(t: Tally, agrees: bool) -> Tally {
-    if 1000000 <= t.same {
-        return t;
-    }
-    if 1000000 <= t.differ {
-        return t;
-    }
-    if agrees {
-        Tally {
-            same: t.same + 1,
-            differ: t.differ,
-        }
-    } else {
-        Tally {
-            same: t.same,
-            differ: t.differ + 1,
-        }
-    }
 }
 
 // Reads until the line is full or the file ends, and says how many bytes came.
@@ -89,22 +70,23 @@ fn read_full(file: &mut File, line: &mut [u8]) -> io::Result<usize> {
 fn replay(file: &mut File, asked: Asked) -> io::Result<Tally> {
     let bytes = length(asked);
     let mut tally = Tally { same: 0, differ: 0 };
-    let mut left: u64 = 1000000;
-    while 0 < left {
+    for _read in 0..MOST {
         let mut line = [0u8; LINE];
         let n = read_full(file, &mut line[..2 * bytes + 1])?;
         if n == 0 {
             break;
         }
-        tally = tallied(tally, agrees(asked, decoded(&line, bytes)));
-        left -= 1;
+        if agrees(asked, &line) {
+            tally.same += 1;
+        } else {
+            tally.differ += 1;
+        }
     }
     Ok(tally)
 }
 
 fn report(rt: &HostRuntime, tally: Tally, what: &str) -> io::Result<()> {
-    let same = tally.same;
-    let differ = tally.differ;
+    let Tally { same, differ } = tally;
     println!(rt; "{same}{what} are the Rust's, {differ} differ")
 }
 

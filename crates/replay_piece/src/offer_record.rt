@@ -40,34 +40,23 @@ fn asked(b: [u8; 74]) -> OfferList {
 
 // Whether an entry is what the two recorded bytes say; past the count they are zero.
 fn same_entry(offer: Offer, within: bool, rotation: u8, shape: u8) -> bool {
-    let r = offer.rotation;
-    let s = offer.shape;
     if within {
-        if r.number() == rotation {
-            s.number() == shape
-        } else {
-            false
-        }
+        offer.rotation.number() == rotation && offer.shape.number() == shape
     } else {
-        if rotation == 0 { shape == 0 } else { false }
+        rotation == 0 && shape == 0
     }
 }
 
 // Whether our answer is the recorded one.
 pub fn agrees(b: [u8; 74]) -> bool {
     let ours = asked(b);
-    let count = ours.count;
-    let recorded = b[20] as usize;
-    if count != recorded {
+    if ours.count != b[20] as usize {
         return false;
     }
-    let mut k: usize = 0;
-    while k < 4 {
-        let offer = ours.list[k];
-        if same_entry(offer, k < count, b[21 + 2 * k], b[22 + 2 * k]) {} else {
+    for k in 0..4 {
+        if !same_entry(ours.list[k], k < ours.count, b[21 + 2 * k], b[22 + 2 * k]) {
             return false;
         }
-        k += 1;
     }
     true
 }

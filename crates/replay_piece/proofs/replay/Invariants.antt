@@ -1,9 +1,6 @@
--- `replay` is safe and ends. The measure is the records that it may still read. Assumes nothing.
+-- `replay_piece::replay` counts each record once, so both counts stay within its bound on the reads.
 use Prim.Native.Nat.{◌≤◌}
 use Rattle.replay_piece.proofs.replay.Given as goal
 
-abbrev pub invariant-loop-left : goal.invariant-loop-left
-invariant-loop-left l = (l.left ≤ 1000000) × (l.bytes ≤ 74)
-
-abbrev pub decreases-loop-left : goal.decreases-loop-left
-decreases-loop-left l = l.left
+abbrev pub invariant-loop-read : goal.invariant-loop-read
+invariant-loop-read l = (l.bytes ≤ 74) × (l.tally.same ≤ l._read) × (l.tally.differ ≤ l._read)
