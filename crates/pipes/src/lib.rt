@@ -12,7 +12,7 @@ use std::io::{Read, Write};
 use std::time::Duration;
 use std::{io, thread};
 
-// What a read brought.
+// What a read brought. No Result: the end of the input is neither a count of bytes nor a failure.
 #[derive(Clone, Copy)]
 pub enum Came {
     // So many bytes, one at least, at the start of the buffer.
@@ -99,8 +99,8 @@ fn again(rt: &HostRuntime, error: &io::Error, what: &[u8]) -> bool {
     }
 }
 
-// Reads what is there, and waits for it if it has to. A proved loop has to end, and nothing says that a wait does: so the tries are counted down, from a
-// number that no run uses up.
+// Reads what is there, and waits for it if it has to. A proved loop has to end, and nothing says that a wait does: so the tries are counted, up to a
+// number that no run reaches.
 pub fn read_some<R: Read>(
     rt: &HostRuntime,
     input: &mut R,
@@ -109,8 +109,7 @@ pub fn read_some<R: Read>(
 ) -> Came
     ensures { Within result buf.new }
 {
-    let mut tries = u64::MAX;
-    while 0 < tries {
+    for _try in 0..u64::MAX {
         let got = input.read(buf);
         let n = got.unwrap_or(0);
         if 0 < n {
@@ -119,10 +118,9 @@ pub fn read_some<R: Read>(
         let Err(error) = got else {
             return Came::End;
         };
-        if again(rt, &error, what) {} else {
+        if !again(rt, &error, what) {
             return Came::Failed;
         }
-        tries -= 1;
     }
     Came::Failed
 }
@@ -134,23 +132,19 @@ pub fn write_whole<W: Write>(rt: &HostRuntime, out: &mut W, buf: &[u8], what: &[
     ensures whole { result ≡ true → Appends (W.contents out.old) (W.contents out.new) buf.now }
 {
     let mut done: usize = 0;
-    let mut tries = u64::MAX;
-    while done < buf.len() {
-        if tries == 0 {
-            return false;
+    for _try in 0..u64::MAX {
+        if done == buf.len() {
+            return true;
         }
         let rest = &buf[done..];
         let put = out.write(rest);
         let n = put.unwrap_or(0);
-        if n == 0 {
-            if again(rt, &failure(put), what) {} else {
-                return false;
-            }
+        if n == 0 && !again(rt, &failure(put), what) {
+            return false;
         }
         done += n;
-        tries -= 1;
     }
-    true
+    done == buf.len()
 }
 
 // Why nothing was written: a write that takes no byte of a text that has some is a failure too.
