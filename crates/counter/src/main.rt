@@ -2,7 +2,7 @@
 // before more is read. Rests on `session`, where all of it is proved, and on `pipes` for the reads and the writes.
 #![tactic(auto)]
 
-ghost use Rattle.std.specs.Prelude.{List, ◌≤◌, T};
+ghost use Rattle.std.specs.Prelude.{List, ◌≤◌, IfSome};
 ghost use Rattle.frames.specs.Answers.{Answer};
 ghost use Rattle.session.specs.Session.{longest};
 ghost use Rattle.session.specs.Listener.{Turns};
@@ -11,13 +11,6 @@ use pipes::Came;
 use session::LONGEST_ANSWER;
 use session::listener::Listener;
 
-// The listener after a chunk, and whether all its answers could be written.
-#[derive(Drop)]
-struct Served {
-    listener: Listener,
-    written: bool,
-}
-
 // Writes an answer: the first count characters of a turn's line. With none it writes nothing.
 fn say(rt: &HostRuntime, line: [u8; LONGEST_ANSWER], count: usize) -> bool
     requires { count ≤ longest }
@@ -25,57 +18,44 @@ fn say(rt: &HostRuntime, line: [u8; LONGEST_ANSWER], count: usize) -> bool
     pipes::write_whole(rt, &mut rt.stdout(), &line[..count], b"counter: writing")
 }
 
-// Takes turns until the chunk is used up.
-fn serve(rt: &HostRuntime, listener: Listener, chunk: &[u8]) -> Served
-    ensures { T result.written → (xs : List Answer) × Turns chunk.now listener 0 xs result.listener }
+// Takes turns until the chunk is used up: the listener then; none, where an answer could not be written.
+fn serve(rt: &HostRuntime, listener: Listener, chunk: &[u8]) -> Option<Listener>
+    ensures { IfSome result (λ after. (xs : List Answer) × Turns chunk.now listener 0 xs after) }
 {
     let mut d = listener;
     let mut at: usize = 0;
     while at < chunk.len() {
         let turn = d.turn(chunk, at);
-        let line = turn.line;
-        if say(rt, line, turn.count) {} else {
-            return Served {
-                listener: d,
-                written: false,
-            };
+        if !say(rt, turn.line, turn.count) {
+            return None;
         }
-        let next = turn.listener;
-        d = next;
+        d = turn.listener;
         at = turn.next;
     }
-    Served {
-        listener: d,
-        written: true,
-    }
+    Some(d)
 }
 
-// A read brings as much as is there. A proved loop has to end, and nothing says that an input does: so it counts its reads down, from a number
-// that no run uses up. An answer that can't be written is the last; and a read that fails is no end of the input, so a line that has begun gets no
-// answer then. What failed is said on standard error, and the status is 0 all the same.
+// A read brings as much as is there. A proved loop has to end, and nothing says that an input does: so it counts its reads, up to a number that no run
+// reaches. An answer that can't be written is the last; and a read that fails is no end of the input, so a line that has begun gets no answer then. What
+// failed is said on standard error, and the status is 0 all the same.
 fn main(rt: HostRuntime) {
     let mut input = rt.stdin();
     let mut listener = Listener::start();
-    let mut reads = u64::MAX;
-    while 0 < reads {
+    for _read in 0..u64::MAX {
         let mut chunk = [0u8; 4096];
         match pipes::read_some(&rt, &mut input, &mut chunk, b"counter: reading") {
             Came::Bytes(n) => {
-                let served = serve(&rt, listener, &chunk[..n]);
-                if served.written {} else {
+                let Some(after) = serve(&rt, listener, &chunk[..n]) else {
                     return;
-                }
-                let next = served.listener;
-                listener = next;
+                };
+                listener = after;
             }
             Came::End => {
                 let last = listener.end();
-                let line = last.line;
-                say(&rt, line, last.count);
+                say(&rt, last.line, last.count);
                 return;
             }
             Came::Failed => return,
         }
-        reads -= 1;
     }
 }

@@ -21,4 +21,4 @@ loop-at-preserved c xs e u =
     c.loop-at.invariant (s.turned.answers ++ xs) e (go c.loop-at-test.true s u)
 
 pub returns : goal.returns
-returns c w = let l = c.loop-at in l.invariant [] l.d (stop c.loop-at-test.false)
+returns c = let l = c.loop-at in l.invariant [] l.d (stop c.loop-at-test.false)
