@@ -86,11 +86,11 @@ impl Layout {
         let nodes = self.nodes;
         let g = going_with(&self.nodes, place, self.held as usize);
         let order = g.order;
-        let count = count_numbers(nodes, &order, g.count);
+        let count = count_numbers(&nodes, &order, g.count);
         if out.len() < count {
             return self.refused_remove(Refusal::BufferTooShort);
         }
-        put_numbers(nodes, &order, g.count, out);
+        put_numbers(&nodes, &order, g.count, out);
         self.without(place, g, count)
     }
 

@@ -35,12 +35,11 @@ pub fn part_numbers(layout: Layout, out: &mut [u16]) -> CountAnswer
     if layout.sound() {} else {
         return CountAnswer::Refused(Refusal::NotSound);
     }
-    let nodes = layout.nodes;
     let order = every_place();
-    let count = count_numbers(nodes, &order, LIMIT);
+    let count = count_numbers(&layout.nodes, &order, LIMIT);
     if out.len() < count {
         return CountAnswer::Refused(Refusal::BufferTooShort);
     }
-    put_numbers(nodes, &order, LIMIT, out);
+    put_numbers(&layout.nodes, &order, LIMIT, out);
     CountAnswer::Count(count as u16)
 }

@@ -41,7 +41,7 @@ pub fn going_with(nodes: &[Node; LIMIT], x: u16, held: usize) -> Going
     ensures placed { Placed limit result.count result.order }
 {
     let mut order = [0u16; LIMIT];
-    let k = order_out(*nodes, x, held, &mut order, 0);
+    let k = order_out(nodes, x, held, &mut order, 0);
     let count = put_free_last(nodes, nodes[x as usize].parent, &mut order, k);
     Going { order, count }
 }

@@ -5,8 +5,7 @@ use Rattle.piece.specs.declared.orientation.Orientation.{Orientation}
 use Rattle.piece.specs.declared.orientation.Orientation.TheVariants.{Horizontal, Vertical}
 use Rattle.piece.specs.Sides.{other}
 use Rattle.table.specs.declared.Node.{Node}
-use Rattle.walks.specs.declared.columns.Columns.{Columns}
-use Rattle.walks.specs.Columns.{widths_of, heights_of}
+use Rattle.walks.specs.Columns.{Columns, widths_of, heights_of}
 use Rattle.saw.specs.declared.cut.Cut.{Cut}
 use Rattle.saw.specs.Cuts.{cut_bytes}
 

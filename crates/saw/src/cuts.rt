@@ -57,10 +57,8 @@ fn put_nine(list: &[u8], from: usize, out: &mut [u8], to: usize)
     requires { (from + 9 ≤ length list.now) × (to + 9 ≤ length out.old) }
     ensures { out.new ≡ sets out.old to (take 9 (drop from list.now)) }
 {
-    let mut j: usize = 0;
-    while j < BYTES {
+    for j in 0..BYTES {
         out[to + j] = list[from + j];
-        j += 1;
     }
 }
 
@@ -69,10 +67,8 @@ fn put_nines(list: &[u8], n: usize, out: &mut [u8])
     requires { (10 * n ≤ length list.now) × (9 * n ≤ length out.old) }
     ensures { out.new ≡ sets out.old 0 (nines_of n list.now) }
 {
-    let mut k: usize = 0;
-    while k < n {
+    for k in 0..n {
         put_nine(list, ENTRY * k, out, BYTES * k);
-        k += 1;
     }
 }
 
@@ -81,10 +77,8 @@ fn put_tenths(list: &[u8], n: usize, out: &mut [u8])
     requires { (10 * n ≤ length list.now) × (n ≤ length out.old) }
     ensures { out.new ≡ sets out.old 0 (tenths_of n list.now) }
 {
-    let mut k: usize = 0;
-    while k < n {
+    for k in 0..n {
         out[k] = list[ENTRY * k + BYTES];
-        k += 1;
     }
 }
 

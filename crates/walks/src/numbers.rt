@@ -13,8 +13,7 @@ use table::{LIMIT, Node};
 fn count_number(d: Datum) -> usize
     ensures { result ≡ length (part_number d) }
 {
-    let kind = d.kind;
-    if kind.is_part() { 1 } else { 0 }
+    if d.kind.is_part() { 1 } else { 0 }
 }
 
 // Writes the number of a part at n, and nothing for another piece; gives the next index.
@@ -23,8 +22,7 @@ fn put_number(d: Datum, out: &mut [u16], n: usize) -> usize
     ensures written { out.new ≡ sets out.old n (part_number d) }
     ensures counted { result ≡ n + length (part_number d) }
 {
-    let kind = d.kind;
-    if kind.is_part() {
+    if d.kind.is_part() {
         out[n] = d.number;
         n + 1
     } else {
@@ -33,42 +31,34 @@ fn put_number(d: Datum, out: &mut [u16], n: usize) -> usize
 }
 
 // How many parts there are among the nodes at the first `count` places of the order: the room that `put_numbers` asks.
-pub fn count_numbers(nodes: [Node; LIMIT], order: &[u16; LIMIT], count: usize) -> usize
+pub fn count_numbers(nodes: &[Node; LIMIT], order: &[u16; LIMIT], count: usize) -> usize
     requires { (count ≤ limit) × Placed limit count order.now }
-    ensures { result ≡ length (numbers_along nodes (entries count order.now)) }
+    ensures { result ≡ length (numbers_along nodes.now (entries count order.now)) }
 {
     let mut found: usize = 0;
-    let mut i: usize = 0;
-    while i < count {
-        let c = order[i];
-        let p = c as usize;
-        let node = nodes[p];
+    for i in 0..count {
+        let node = nodes[order[i] as usize];
         found += count_number(node.datum);
-        i += 1;
     }
     found
 }
 
 // The numbers of these parts in the order's order, from the start of `out`; gives how many. What is behind them stays.
 pub fn put_numbers(
-    nodes: [Node; LIMIT],
+    nodes: &[Node; LIMIT],
     order: &[u16; LIMIT],
     count: usize,
     out: &mut [u16],
 ) -> usize
-    requires { (count ≤ limit) × (length (numbers_along nodes (entries count order.now)) ≤ length out.old)
+    requires { (count ≤ limit) × (length (numbers_along nodes.now (entries count order.now)) ≤ length out.old)
         × Placed limit count order.now }
-    ensures written { out.new ≡ sets out.old 0 (numbers_along nodes (entries count order.now)) }
-    ensures counted { result ≡ length (numbers_along nodes (entries count order.now)) }
+    ensures written { out.new ≡ sets out.old 0 (numbers_along nodes.now (entries count order.now)) }
+    ensures counted { result ≡ length (numbers_along nodes.now (entries count order.now)) }
 {
     let mut n: usize = 0;
-    let mut i: usize = 0;
-    while i < count {
-        let c = order[i];
-        let p = c as usize;
-        let node = nodes[p];
+    for i in 0..count {
+        let node = nodes[order[i] as usize];
         n = put_number(node.datum, out, n);
-        i += 1;
     }
     n
 }
@@ -78,10 +68,8 @@ pub fn every_place() -> [u16; LIMIT]
     ensures { result ≡ below limit }
 {
     let mut order = [0u16; LIMIT];
-    let mut i: usize = 0;
-    while i < LIMIT {
+    for i in 0..LIMIT {
         order[i] = i as u16;
-        i += 1;
     }
     order
 }

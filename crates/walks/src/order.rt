@@ -14,16 +14,14 @@ use table::{LIMIT, NONE, Node};
 // down to it; where none does, all below `up` is written, and `up` is next, and then what begins behind it, under its parent. So each node is gone
 // down to once and written once, and twice `held`, the nodes that there are, is turns enough: they are counted down, so that the walk ends whatever
 // the links are.
-pub fn order_out(nodes: [Node; LIMIT], x: u16, held: usize, order: &mut [u16], n: usize) -> usize
-    requires { Hangs limit nodes x held × (n + length (order_in limit nodes held x) ≤ length order.old) }
-    ensures written { order.new ≡ sets order.old n (order_in limit nodes held x) }
-    ensures counted { result ≡ n + length (order_in limit nodes held x) }
+pub fn order_out(nodes: &[Node; LIMIT], x: u16, held: usize, order: &mut [u16], n: usize) -> usize
+    requires { Hangs limit nodes.now x held × (n + length (order_in limit nodes.now held x) ≤ length order.old) }
+    ensures written { order.new ≡ sets order.old n (order_in limit nodes.now held x) }
+    ensures counted { result ≡ n + length (order_in limit nodes.now held x) }
 {
-    let at = x as usize;
-    let own = nodes[at];
     let mut k = n;
     let mut up = x;
-    let mut down = own.first;
+    let mut down = nodes[x as usize].first;
     let mut turns = held + held;
     while 0 < turns {
         if NONE <= down {
@@ -32,15 +30,12 @@ pub fn order_out(nodes: [Node; LIMIT], x: u16, held: usize, order: &mut [u16], n
             }
             order[k] = up;
             k += 1;
-            let here = up as usize;
-            let done = nodes[here];
+            let done = nodes[up as usize];
             down = done.next;
             up = done.parent;
         } else {
-            let here = down as usize;
-            let child = nodes[here];
             up = down;
-            down = child.first;
+            down = nodes[up as usize].first;
         }
         turns -= 1;
     }

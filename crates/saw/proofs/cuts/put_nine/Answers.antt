@@ -2,27 +2,21 @@
 use mathlib.Core.Path.{◌≡◌, refl, ap, ◌∙◌}
 use Prim.Native.Nat.{ℕ}
 use native.Mathlib.Omega.{arith}
-use lib.ListN.{length, take, drop}
-use lib.Seq.{sets, length-sets}
+use lib.ListN.{take, drop}
+use lib.Seq.{sets}
 use Rattle.saw.proofs.Copied.{copy_more}
 use Rattle.saw.proofs.cuts.put_nine.Goals as goal
 
 pub loop-j-preserved : goal.loop-j-preserved
 loop-j-preserved c =
     let a = c.args in
-    let e = copy_more a.list.now a.out.now a.from a.to c.loop-j.j (omega arith) c.loop-j.invariant.2 in
-    (omega arith, ap length e ∙ simp length-sets, e)
+    copy_more a.list.now a.out.now a.from a.to c.loop-j.j (omega arith) c.loop-j.invariant
 
 pub returns : goal.returns
 returns c =
     let a = c.args in
     let e : c.loop-j.j ≡ 9 = omega arith in
-    c.loop-j.invariant.2 ∙ ap (λ (j : ℕ). sets a.out.now a.to (take j (drop a.from a.list.now))) e
+    c.loop-j.invariant ∙ ap (λ (j : ℕ). sets a.out.now a.to (take j (drop a.from a.list.now))) e
 
 pub loop-j-init : goal.loop-j-init
-loop-j-init c =
-    (omega arith, refl, refl)
-
-pub shape_of-out : goal.shape_of-out
-shape_of-out c =
-    c.loop-j.invariant.1
+loop-j-init c = refl

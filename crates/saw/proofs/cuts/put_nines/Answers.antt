@@ -2,8 +2,7 @@
 use mathlib.Core.Path.{◌≡◌, refl, ap, ◌∙◌}
 use Prim.Native.Nat.{ℕ}
 use native.Mathlib.Omega.{arith}
-use lib.ListN.{length}
-use lib.Seq.{sets, length-sets}
+use lib.Seq.{sets}
 use Rattle.saw.specs.Listed.{nines_of}
 use Rattle.saw.proofs.CutBytes.{nines-stored}
 use Rattle.saw.proofs.cuts.put_nines.Goals as goal
@@ -11,24 +10,18 @@ use Rattle.saw.proofs.cuts.put_nines.Goals as goal
 pub loop-k-preserved : goal.loop-k-preserved
 loop-k-preserved c =
     let a = c.args in
-    let e = nines-stored a.list.now a.out.now c.loop-k.k (omega arith) c.loop-k.invariant.2 c.put_nine.ensures in
-    (omega arith, ap length e ∙ simp length-sets, e)
+    nines-stored a.list.now a.out.now c.loop-k.k (omega arith) c.loop-k.invariant c.put_nine.ensures
 
 pub returns : goal.returns
 returns c =
     let a = c.args in
     let e : c.loop-k.k ≡ a.n = omega arith in
-    c.loop-k.invariant.2 ∙ ap (λ (k : ℕ). sets a.out.now 0 (nines_of k a.list.now)) e
+    c.loop-k.invariant ∙ ap (λ (k : ℕ). sets a.out.now 0 (nines_of k a.list.now)) e
 
 pub loop-k-init : goal.loop-k-init
 unfolding nines_of
-loop-k-init c =
-    (omega arith, refl, refl)
+loop-k-init c = refl
 
 pub put_nine-requires : goal.put_nine-requires
 put_nine-requires c =
     (omega arith, omega arith)
-
-pub shape_of-out : goal.shape_of-out
-shape_of-out c =
-    c.loop-k.invariant.1

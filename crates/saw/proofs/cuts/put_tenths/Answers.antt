@@ -2,8 +2,8 @@
 use mathlib.Core.Path.{◌≡◌, refl, sym, ap, ◌∙◌}
 use Prim.Native.Nat.{ℕ, ◌+◌, ◌*◌}
 use native.Mathlib.Omega.{arith}
-use lib.ListN.{length, get_or}
-use lib.Seq.{sets, length-sets}
+use lib.ListN.{get_or}
+use lib.Seq.{sets}
 use Rattle.saw.specs.Listed.{tenths_of}
 use Rattle.saw.proofs.CutBytes.{tenths-more, length-tenths}
 use Rattle.saw.proofs.Copied.{store-more}
@@ -13,23 +13,16 @@ pub loop-k-preserved : goal.loop-k-preserved
 loop-k-preserved c =
     let a = c.args in
     let k = c.loop-k.k in
-    let e =
-    store-more (tenths_of k a.list.now) a.out.now 0 k (get_or a.list.now (10 * k + 9) 0) c.loop-k.invariant.2
+    store-more (tenths_of k a.list.now) a.out.now 0 k (get_or a.list.now (10 * k + 9) 0) c.loop-k.invariant
     (omega (arith, length-tenths k a.list.now))
-    ∙ ap (sets a.out.now 0) (sym (tenths-more k a.list.now)) in
-    (omega arith, ap length e ∙ simp length-sets, e)
+    ∙ ap (sets a.out.now 0) (sym (tenths-more k a.list.now))
 
 pub returns : goal.returns
 returns c =
     let a = c.args in
     let e : c.loop-k.k ≡ a.n = omega arith in
-    c.loop-k.invariant.2 ∙ ap (λ (k : ℕ). sets a.out.now 0 (tenths_of k a.list.now)) e
+    c.loop-k.invariant ∙ ap (λ (k : ℕ). sets a.out.now 0 (tenths_of k a.list.now)) e
 
 pub loop-k-init : goal.loop-k-init
 unfolding tenths_of
-loop-k-init c =
-    (omega arith, refl, refl)
-
-pub shape_of-out : goal.shape_of-out
-shape_of-out c =
-    c.loop-k.invariant.1
+loop-k-init c = refl

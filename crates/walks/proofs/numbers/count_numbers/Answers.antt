@@ -1,5 +1,4 @@
--- `walks::numbers::count_numbers` meets its contract. The loop's invariant: so many numbers are along the first i places, and at most i. The measure
--- is what is left of the count. Assumes nothing.
+-- `walks::numbers::count_numbers` meets its contract. Assumes nothing.
 use mathlib.Core.Path.{◌≡◌, refl, ap, ◌∙◌}
 use Prim.Native.Nat.{ℕ}
 use native.Mathlib.Omega.{arith}
@@ -11,14 +10,11 @@ use Rattle.walks.proofs.Entries.{length_more}
 use Rattle.walks.proofs.NodeBytes.{number-most}
 use Rattle.walks.proofs.numbers.count_numbers.Goals as goal
 
-pub bounds-nodes-p : goal.bounds-nodes-p
-bounds-nodes-p c = c.requires.1 c.loop-i.i c.loop-i-test.true
-
 pub overflow_add-found : goal.overflow_add-found
 overflow_add-found c =
     let l = c.loop-i in
     let a = c.args in
-    let d = (at a.nodes (get_or a.order.now l.i 0)).datum in
+    let d = (at a.nodes.now (get_or a.order.now l.i 0)).datum in
     let e = c.count_number-found.ensures in
     omega (arith, number-most d)
 
@@ -26,26 +22,17 @@ pub loop-i-preserved : goal.loop-i-preserved
 loop-i-preserved c =
     let l = c.loop-i in
     let a = c.args in
-    let d = (at a.nodes (get_or a.order.now l.i 0)).datum in
+    let d = (at a.nodes.now (get_or a.order.now l.i 0)).datum in
     let e = c.count_number-found.ensures in
-    (omega arith, omega (arith, number-most d), omega (arith, length_more (number_at a.nodes) a.order.now l.i))
+    (omega (arith, number-most d), omega (arith, length_more (number_at a.nodes.now) a.order.now l.i))
 
 pub returns : goal.returns
 returns c =
     let a = c.args in
     let l = c.loop-i in
     let e : l.i ≡ a.count = omega arith in
-    l.invariant.2 ∙ ap (λ (i : ℕ). length (numbers_along a.nodes (entries i a.order.now))) e
+    l.invariant.1 ∙ ap (λ (i : ℕ). length (numbers_along a.nodes.now (entries i a.order.now))) e
 
 pub loop-i-init : goal.loop-i-init
 unfolding entries
-loop-i-init c =
-    (omega arith, omega arith, refl)
-
-pub overflow_cast-p : goal.overflow_cast-p
-overflow_cast-p c =
-    omega (arith, bounds-nodes-p c)
-
-pub offset_bounds-nodes-p : goal.offset_bounds-nodes-p
-offset_bounds-nodes-p c =
-    omega (arith, bounds-nodes-p c)
+loop-i-init c = (omega arith, refl)

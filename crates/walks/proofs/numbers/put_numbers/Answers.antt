@@ -1,5 +1,4 @@
--- `walks::numbers::put_numbers` meets its contract. The loop's invariant: the numbers along the first i places are written (`Wrote`). The measure
--- is what is left of the count. Assumes nothing.
+-- `walks::numbers::put_numbers` meets its contract. Assumes nothing.
 use native.Mathlib.Omega.{arith}
 use Rattle.walks.specs.Along.{number_at}
 use Rattle.walks.proofs.Entries.{wrote_none, wrote-more, wrote-length, wrote-room, wrote-all}
@@ -8,16 +7,13 @@ use Rattle.walks.proofs.numbers.put_numbers.Goals as goal
 pub loop-i-init : goal.loop-i-init
 loop-i-init c =
     let a = c.args in
-    (omega arith, wrote_none (number_at a.nodes) a.order.now a.out.now)
-
-pub bounds-nodes-p : goal.bounds-nodes-p
-bounds-nodes-p c = c.requires.2 c.loop-i.i c.loop-i-test.true
+    wrote_none (number_at a.nodes.now) a.order.now a.out.now
 
 pub put_number-n-requires : goal.put_number-n-requires
 put_number-n-requires c =
     let l = c.loop-i in
     let a = c.args in
-    wrote-room (number_at a.nodes) a.order.now a.out.now l.i l.invariant.1 a.count c.loop-i-test.true
+    wrote-room (number_at a.nodes.now) a.order.now a.out.now l.i l.invariant a.count c.loop-i-test.true
     c.requires.1
 
 pub loop-i-preserved : goal.loop-i-preserved
@@ -25,25 +21,17 @@ loop-i-preserved c =
     let l = c.loop-i in
     let a = c.args in
     let e = c.put_number-n.ensures in
-    (omega arith, wrote-more (number_at a.nodes) a.order.now a.out.now l.i l.invariant.1 e.written e.counted)
+    wrote-more (number_at a.nodes.now) a.order.now a.out.now l.i l.invariant e.written e.counted
 
 pub shape_of-out : goal.shape_of-out
 shape_of-out c =
     let a = c.args in
     let l = c.loop-i in
-    wrote-length (number_at a.nodes) a.order.now a.out.now l.i l.invariant.1
+    wrote-length (number_at a.nodes.now) a.order.now a.out.now l.i l.invariant
 
 pub returns : goal.returns
 returns c =
     let a = c.args in
     let l = c.loop-i in
-    let e = wrote-all (number_at a.nodes) a.order.now a.out.now a.count (omega arith) l.invariant.1 in
+    let e = wrote-all (number_at a.nodes.now) a.order.now a.out.now a.count (omega arith) l.invariant in
     record { written = e.0; counted = e.1 }
-
-pub overflow_cast-p : goal.overflow_cast-p
-overflow_cast-p c =
-    omega (arith, bounds-nodes-p c)
-
-pub offset_bounds-nodes-p : goal.offset_bounds-nodes-p
-offset_bounds-nodes-p c =
-    omega (arith, bounds-nodes-p c)

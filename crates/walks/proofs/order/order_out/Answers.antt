@@ -1,7 +1,6 @@
 -- `walks::order::order_out` meets its contract. The loop's invariant: where the walk stands, and what is still to be written there (`Stand`). The
 -- measure is the turns that are left. Following has the argument: here stand the places of the walk in its words. Assumes nothing.
 use mathlib.Core.Path.{refl, ap, ◌∙◌}
-use Prim.Native.Nat.{◌<◌, ◌≤◌}
 use native.Mathlib.Omega.{arith}
 use lib.ListN.{length}
 use lib.Seq.{length-sets}
@@ -14,10 +13,6 @@ use Rattle.walks.proofs.Following.{Up, room, gone-down, gone-up, arrived, never,
 use Rattle.walks.proofs.order.order_out.Goals as goal
 use Rattle.walks.proofs.order.order_out.Goals.{else-down-ge-NONE, else-loop-turns-test, then-down-ge-NONE+else-up-x, then-loop-turns-test+then-down-ge-NONE+then-up-x}
 
--- the place of x, and the turns
-hangs : (c : goal.Start) → (c.args.x < limit) × (c.args.held ≤ limit)
-hangs c = (placed limit c.requires.0, few limit c.requires.0)
-
 -- `up` is written
 written : (c : goal.Else-up-x) → Up limit _ _ c.loop-turns.invariant c.if-down-ge-NONE.true c.if-up-x.false
 written c = gone-up limit _ _ c.loop-turns.invariant c.if-down-ge-NONE.true c.if-up-x.false
@@ -27,7 +22,7 @@ last-own :
     (c : goal.Left-loop-turns)
     → let a = c.args in
     let i = c.loop-turns in
-    Left (order_in limit a.nodes a.held a.x) a.order.now a.n (itself a.x) i.order i.k
+    Left (order_in limit a.nodes.now a.held a.x) a.order.now a.n (itself a.x) i.order i.k
 last-own c =
     let i = c.loop-turns in
     elim c.loop-turns-test.branch [ else-loop-turns-test w ↦ never limit _ _ i.invariant w.loop-turns-test.false | then-loop-turns-test+then-down-ge-NONE+then-up-x w ↦ arrived limit _ _ i.invariant w.if-down-ge-NONE.true w.if-up-x.true ]
@@ -42,13 +37,13 @@ returns c =
     let e = end (itself c.args.x) (last-own c) refl refl in
     record { written = e.0; counted = e.1 }
 
-pub offset_bounds-nodes-at : goal.offset_bounds-nodes-at
-offset_bounds-nodes-at c =
-    let h = hangs c in search rules
+pub offset_bounds-nodes-x : goal.offset_bounds-nodes-x
+offset_bounds-nodes-x c =
+    let h = placed limit c.requires.0 in search rules
 
-pub bounds-nodes-at : goal.bounds-nodes-at
-bounds-nodes-at c =
-    let h = hangs c in search rules
+pub bounds-nodes-x : goal.bounds-nodes-x
+bounds-nodes-x c =
+    let h = placed limit c.requires.0 in search rules
 
 pub overflow_add-turns : goal.overflow_add-turns
 overflow_add-turns c =
@@ -70,16 +65,16 @@ pub overflow_add-k : goal.overflow_add-k
 overflow_add-k c =
     omega (arith, room limit _ _ c.loop-turns.invariant)
 
-pub overflow_cast-here : goal.overflow_cast-here
-overflow_cast-here c =
+pub overflow_cast-done : goal.overflow_cast-done
+overflow_cast-done c =
     let h = (written c).low in search rules
 
-pub offset_bounds-nodes-here : goal.offset_bounds-nodes-here
-offset_bounds-nodes-here c =
+pub offset_bounds-nodes-up : goal.offset_bounds-nodes-up
+offset_bounds-nodes-up c =
     let h = (written c).low in search rules
 
-pub bounds-nodes-here : goal.bounds-nodes-here
-bounds-nodes-here c =
+pub bounds-nodes-up : goal.bounds-nodes-up
+bounds-nodes-up c =
     let h = (written c).low in search rules
 
 pub offset_bounds-order-k-2 : goal.offset_bounds-order-k-2
