@@ -83,14 +83,13 @@ impl Layout {
         ensures written { out.new
             ≡ out_after (room_no self place (length out.old)) (numbers_out self place) out.old }
     {
-        let nodes = self.nodes;
         let g = going_with(&self.nodes, place, self.held as usize);
         let order = g.order;
-        let count = count_numbers(&nodes, &order, g.count);
+        let count = count_numbers(&self.nodes, &order, g.count);
         if out.len() < count {
             return self.refused_remove(Refusal::BufferTooShort);
         }
-        put_numbers(&nodes, &order, g.count, out);
+        put_numbers(&self.nodes, &order, g.count, out);
         self.without(place, g, count)
     }
 
