@@ -85,10 +85,10 @@ fn length_of(op: u8) -> usize
     ensures { result ≡ desk_length_of op }
 {
     match op {
-        17 => WHY,
-        18 => LIGHT,
-        19 => POSITION,
-        20 => POSITION,
+        WHY_NOT => WHY,
+        ROOM_LIGHT => LIGHT,
+        FREE_PIECE => POSITION,
+        REMOVABLE_PIECE => POSITION,
         _ => BARE,
     }
 }
@@ -97,21 +97,21 @@ fn asked_by(op: u8, b: &[u8; 32]) -> DeskRequest
     ensures { result ≡ desk_asked_by op b.now }
 {
     match op {
-        17 => why_not(b),
-        18 => light(b),
-        19 => DeskRequest::Asks(Question::FreePiece {
+        WHY_NOT => why_not(b),
+        ROOM_LIGHT => light(b),
+        FREE_PIECE => DeskRequest::Asks(Question::FreePiece {
             position: two_at(b, FIRST),
         }),
-        20 => DeskRequest::Asks(Question::RemovablePiece {
+        REMOVABLE_PIECE => DeskRequest::Asks(Question::RemovablePiece {
             position: two_at(b, FIRST),
         }),
-        21 => DeskRequest::Asks(Question::PartNumbers),
-        22 => DeskRequest::Asks(Question::Figures),
-        23 => DeskRequest::Asks(Question::Snapshot),
-        24 => DeskRequest::Asks(Question::Cuts),
-        25 => DeskRequest::Asks(Question::EatenArea),
-        26 => DeskRequest::Asks(Question::Amounts),
-        27 => DeskRequest::Tidy,
+        PART_NUMBERS => DeskRequest::Asks(Question::PartNumbers),
+        FIGURES => DeskRequest::Asks(Question::Figures),
+        SNAPSHOT => DeskRequest::Asks(Question::Snapshot),
+        CUTS => DeskRequest::Asks(Question::Cuts),
+        EATEN_AREA => DeskRequest::Asks(Question::EatenArea),
+        AMOUNTS => DeskRequest::Asks(Question::Amounts),
+        TIDY => DeskRequest::Tidy,
         _ => no(),
     }
 }

@@ -1,9 +1,15 @@
 -- `malformed` meets its contract. Assumes nothing.
 use native.Mathlib.Omega.{arith}
-use Rattle.frames.specs.Answers.{content_of}
+use borrow.Author.Rules.{rules}
+use Rattle.frames.specs.Answers.{content_of, malformed}
+use Rattle.frames.specs.Writing.{AnswerPut}
 use Rattle.session.proofs.Spoken.{said}
 use Rattle.session.proofs.say.malformed.Goals as goal
 
 pub returns : goal.returns
 unfolding content_of
-returns c = said _ (omega arith) c.malformed-count.ensures
+returns c =
+    let e = c.said.ensures in
+    let met = e.met in
+    let put : AnswerPut e.shown.now (malformed) e.left.now c.said.result.count = search rules in
+    said _ (omega arith) (rw (e.shows, e.leaves) at put)
