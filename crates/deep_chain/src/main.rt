@@ -7,12 +7,11 @@ ghost use Rattle.std.specs.Prelude.{◌<◌};
 
 use layout::layout::Layout;
 use layout::tidy::Tidied;
-use marks::Mark;
+use marks::{Mark, Refusal};
 use piece::node::{Datum, Kind};
 use piece::orientation::Orientation;
 use piece::settings::Settings;
 use piece::size::Size;
-use questions::replies::{AreaAnswer, CountAnswer, UsageAnswer};
 use std::io;
 use table::{NONE, Node};
 
@@ -170,25 +169,25 @@ fn say(rt: &HostRuntime, what: &str, n: u64) -> io::Result<()> {
 }
 
 // The number that an answer gives, or 1,000,000.
-fn count_in(answer: CountAnswer) -> u64 {
+fn count_in(answer: Result<u16, Refusal>) -> u64 {
     match answer {
-        CountAnswer::Count(n) => n as u64,
-        CountAnswer::Refused(_) => 1000000,
+        Ok(n) => n as u64,
+        Err(_) => 1000000,
     }
 }
 
-fn area_in(answer: AreaAnswer) -> u64 {
+fn area_in(answer: Result<u64, Refusal>) -> u64 {
     match answer {
-        AreaAnswer::Area(n) => n,
-        AreaAnswer::Refused(_) => 1000000,
+        Ok(n) => n,
+        Err(_) => 1000000,
     }
 }
 
 // 1 where the usage is exactly 1, else 0, or 1,000,000.
-fn usage_in(answer: UsageAnswer) -> u64 {
+fn usage_in(answer: Result<f64, Refusal>) -> u64 {
     match answer {
-        UsageAnswer::Usage(u) => if u == 1.0 { 1 } else { 0 },
-        UsageAnswer::Refused(_) => 1000000,
+        Ok(u) => if u == 1.0 { 1 } else { 0 },
+        Err(_) => 1000000,
     }
 }
 

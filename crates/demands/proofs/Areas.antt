@@ -6,6 +6,7 @@ use mathlib.Core.Bool.{true}
 use mathlib.Core.List.{List}
 use mathlib.Core.Logic.{⊎_elim}
 use Prim.Native.Nat.{ℕ}
+use Rattle.std.specs.Prelude.{Ok}
 use Rattle.piece.specs.declared.size.Size.{Size}
 use Rattle.piece.specs.declared.rotation.Rotation.{Rotation}
 use Rattle.piece.specs.declared.parttype.PartType.{PartType}
@@ -32,7 +33,6 @@ use Rattle.layout.specs.Restore.{greater, restore_of, with_serial}
 use Rattle.layout.proofs.Exactly.{sound-says, sound-shown}
 use Rattle.layout.proofs.Opened.{fresh-sized, fresh-sound}
 use Rattle.layout.proofs.Restored.{restored-sound}
-use Rattle.questions.specs.declared.replies.AreaAnswer.TheVariants.{Area}
 use Rattle.questions.specs.Answers.{used_area_of, free_area_of, eaten_area_of}
 use Rattle.questions.proofs.FiguresSay.{areas-cover}
 use Rattle.demands.specs.Calls.{AreasCover, OpenAccepted, RestoreAccepted}
@@ -42,9 +42,9 @@ use Rattle.demands.proofs.Outcomes.{opened-so, inserted-so, removed-so, tidied-s
 pub areas-cover-sound : (l : Layout) → Sized l → sound_b l ≡ true → AreasCover l l.settings.sheet
 unfolding used_area_of free_area_of eaten_area_of
 areas-cover-sound l sized sound =
-    let u : used_area_of l ≡ Area (part_area (tree l)) = rw sound refl in
-    let f : free_area_of l ≡ Area (free_area (tree l)) = rw sound refl in
-    let e : eaten_area_of l ≡ Area (eaten_area (tree l)) = rw sound refl in
+    let u : used_area_of l ≡ Ok (part_area (tree l)) = rw sound refl in
+    let f : free_area_of l ≡ Ok (free_area (tree l)) = rw sound refl in
+    let e : eaten_area_of l ≡ Ok (eaten_area (tree l)) = rw sound refl in
     record {
       used = part_area (tree l);
       free = free_area (tree l);

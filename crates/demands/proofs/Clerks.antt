@@ -6,6 +6,7 @@ use mathlib.Core.List.{List, [], ◌∷◌, ◌++◌}
 use mathlib.Core.Logic.{◌⊎◌, inl, inr}
 use mathlib.Core.Option.{none}
 use Prim.Native.Nat.{ℕ}
+use Rattle.std.specs.Prelude.{Result, Ok, Err, ⊤}
 use Rattle.piece.specs.declared.rotation.Rotation.{Rotation}
 use Rattle.piece.specs.declared.parttype.PartType.{PartType}
 use Rattle.piece.specs.declared.insertion_blueprint.InsertionShape.{InsertionShape}
@@ -13,8 +14,7 @@ use Rattle.lists.proofs.Scan.{clash}
 use Rattle.marks.specs.declared.Mark.{Mark}
 use Rattle.marks.specs.declared.Refusal.TheVariants.{TooManyNodes}
 use Rattle.layout.specs.declared.layout.Layout.{Layout}
-use Rattle.layout.specs.declared.replies.Outcome.{Outcome}
-use Rattle.layout.specs.declared.replies.Outcome.TheVariants.{Done, Refused}
+use Rattle.marks.specs.declared.Refusal.{Refusal}
 use Rattle.layout.specs.Check.{limit, sound_b}
 use Rattle.layout.specs.SoundLayout.{Sized}
 use Rattle.layout.specs.declared.insert.Inserted.{Inserted}
@@ -40,9 +40,9 @@ use Rattle.demands.proofs.NothingButEight.{Next, is-next, ready-eight, ready-non
 use Rattle.demands.proofs.Swaps.{insert-none, remove-none}
 
 -- a call whose answer is no refusal was done
-done-by : (op : ℕ) (b : Answer) (o : Outcome) {a : Answer} → a ≡ answer_by op b o → refusal a ≡ false → o ≡ Done
-done-by op b Done e h = refl
-done-by op b (Refused r) e h = let no : true ≡ false = sym (ap refusal e) ∙ h in absurd (clash (sym no))
+done-by : (op : ℕ) (b : Answer) (o : Result ⊤ Refusal) {a : Answer} → a ≡ answer_by op b o → refusal a ≡ false → o ≡ Ok tt
+done-by op b (Ok tt) e h = refl
+done-by op b (Err r) e h = let no : true ≡ false = sym (ap refusal e) ∙ h in absurd (clash (sym no))
 
 layout_of : {s t : Session} → t ≡ s → t.layout ≡ s.layout
 layout_of e = ap (λ (z : Session). z.layout) e

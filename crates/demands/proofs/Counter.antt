@@ -9,6 +9,7 @@ use mathlib.Core.Logic.{◌⊎◌, inl, inr, ⊎_elim}
 use Prim.Native.Nat.{ℕ}
 use lib.Dec.{eqb}
 use borrow.Author.Tests.{eqb-true, eqb-false, ne_eqb}
+use Rattle.std.specs.Prelude.{Err}
 use Rattle.lists.proofs.Scan.{clash}
 use Rattle.marks.specs.declared.Mark.{Mark}
 use Rattle.marks.specs.declared.Refusal.{Refusal}
@@ -16,7 +17,6 @@ use Rattle.marks.specs.declared.Refusal.TheVariants.{OtherLayout, Gone}
 use Rattle.lines.specs.Text.{Line}
 use Rattle.lines.specs.Stream.{empty, feeds}
 use Rattle.layout.specs.declared.layout.Layout.{Layout}
-use Rattle.layout.specs.declared.replies.Sought.TheVariants as sought
 use Rattle.layout.specs.Check.{sound_b}
 use Rattle.layout.specs.Asked.{free_piece_of, sought_of}
 use Rattle.layout.specs.Insert.{InsertSays, insert_no, refused_insert}
@@ -169,7 +169,7 @@ shaped-run g (goes w run) = shaped-run (shaped-after g w) run
 -- ---- refusals
 
 -- a mark that isn't found is refused by each request that carries it
-module _ (s : Session) (k : Mark) (e : Refusal) (sound : sound_b s.layout ≡ true) (no : sought_of s.layout k ≡ sought.Refused e) where
+module _ (s : Session) (k : Mark) (e : Refusal) (sound : sound_b s.layout ≡ true) (no : sought_of s.layout k ≡ Err e) where
   refused-so : (op : ℕ) (q : Request) → Carries k op q → Answers s q s (refused op e)
   unfolding Answers after_offers after_insert after_remove offers_call InsertSays insert_no free_piece_of RemoveSays remove_no
   refused-so op q (offers_on p part) = rw (sound, part, no) refl

@@ -8,6 +8,7 @@ use mathlib.Core.List.{List, [], ◌∷◌, Memᴰ}
 use mathlib.Core.Logic.{◌⊎◌, inl, inr, ⊎_elim}
 use mathlib.Core.Option.{some}
 use Prim.Native.Nat.{ℕ}
+use Rattle.std.specs.Prelude.{Result, Ok, Err, ⊤}
 use Rattle.piece.specs.declared.rotation.Rotation.{Rotation}
 use Rattle.piece.specs.declared.parttype.PartType.{PartType}
 use Rattle.piece.specs.declared.insertion_blueprint.InsertionShape.{InsertionShape}
@@ -15,10 +16,7 @@ use Rattle.lists.proofs.Scan.{clash}
 use Rattle.marks.specs.declared.Mark.{Mark}
 use Rattle.marks.specs.declared.Refusal.TheVariants.{NotSound}
 use Rattle.layout.specs.declared.layout.Layout.{Layout}
-use Rattle.layout.specs.declared.open.OpenOutcome.{OpenOutcome}
-use Rattle.layout.specs.declared.open.OpenOutcome.TheVariants as opening
-use Rattle.layout.specs.declared.replies.Outcome.{Outcome}
-use Rattle.layout.specs.declared.replies.Outcome.TheVariants as outcomes
+use Rattle.marks.specs.declared.Refusal.{Refusal}
 use Rattle.layout.specs.declared.insert.Inserted.{Inserted}
 use Rattle.layout.specs.Check.{limit, sound_b}
 use Rattle.layout.specs.SoundLayout.{Sized}
@@ -68,9 +66,9 @@ unfolding Answers after_open
 started-declines (OfLayout (Open o)) t a h e =
     let d = open_of o in go d.layout d.outcome h
   where
-    go : (l : Layout) (v : OpenOutcome) → reply t a ≡ opened_by started l v → Declines a
-    go l (opening.Free m) h = let z : ◌≡◌ {A = List ℕ} (m.layout ∷ []) [] = ap opens (sym (says h)) ∙ e in absurd (clash (cc))
-    go l (opening.Refused r) h = rw (says h) tt
+    go : (l : Layout) (v : Result Mark Refusal) → reply t a ≡ opened_by started l v → Declines a
+    go l (Ok m) h = let z : ◌≡◌ {A = List ℕ} (m.layout ∷ []) [] = ap opens (sym (says h)) ∙ e in absurd (clash (cc))
+    go l (Err r) h = rw (says h) tt
 started-declines (OfLayout (Offers m p)) t a h e = declined (OfLayout (Offers m p)) 2 refl t a h
 started-declines (OfLayout (Insert m p r f)) t a h e = declined (OfLayout (Insert m p r f)) 3 refl t a h
 started-declines (OfLayout (Remove m)) t a h e = declined (OfLayout (Remove m)) 4 refl t a h
@@ -154,16 +152,16 @@ life-begins o stale =
 -- ---- the marks that an answer writes
 
 -- an answer by its outcome writes marks only where it is done
-outcome-marks : (op : ℕ) (b : Answer) (o : Outcome) (k : Mark) → Memᴰ k (marks_written (answer_by op b o)) → (o ≡ outcomes.Done) × Memᴰ k (marks_written b)
-outcome-marks op b outcomes.Done k h = (refl, h)
-outcome-marks op b (outcomes.Refused e) k h = absurd (Memᴰ.not-nil h)
+outcome-marks : (op : ℕ) (b : Answer) (o : Result ⊤ Refusal) (k : Mark) → Memᴰ k (marks_written (answer_by op b o)) → (o ≡ Ok tt) × Memᴰ k (marks_written b)
+outcome-marks op b (Ok tt) k h = (refl, h)
+outcome-marks op b (Err e) k h = absurd (Memᴰ.not-nil h)
 
 quiet-marks : {a : Answer} {k : Mark} {A : Type 0} → Quiet a → Memᴰ k (marks_written a) → A
 quiet-marks q h = absurd (Memᴰ.not-nil (rw q.marks at h))
 
 -- a booking's: the first node's, the part's, and those of the free pieces
 inserted-mark : (l : Layout) (m : Mark) (p : PartType) (r : Rotation) (f : InsertionShape) (i : Inserted) → Sized l → InsertSays l m p r f i
-    → i.outcome ≡ outcomes.Done → (k : Mark) → Memᴰ k (marks_written (marks_said i.marks)) → Given i.layout k
+    → i.outcome ≡ Ok tt → (k : Mark) → Memᴰ k (marks_written (marks_said i.marks)) → Given i.layout k
 inserted-mark l m p r f i sized says z k h =
     ⊎_elim (λ e. rw e (by_insert_first l m p r f i sized says z))
     (λ y. ⊎_elim (λ e. rw e (by_insert_part l m p r f i sized says z)) (by_insert_free l m p r f i sized says z k) (Memᴰ.cases_cons y))

@@ -9,6 +9,7 @@ use mathlib.Core.Logic.{◌⊎◌, inl, inr, ⊎_elim}
 use Prim.Native.Nat.{ℕ}
 use lib.Dec.{eqb}
 use borrow.Author.Tests.{eqb-true}
+use Rattle.std.specs.Prelude.{Result, Ok, Err, ⊤}
 use Rattle.piece.specs.declared.rotation.Rotation.{Rotation}
 use Rattle.piece.specs.declared.parttype.PartType.{PartType}
 use Rattle.piece.specs.declared.insertion_blueprint.InsertionShape.{InsertionShape}
@@ -19,10 +20,6 @@ use Rattle.marks.specs.declared.Mark.{Mark}
 use Rattle.marks.specs.declared.Refusal.{Refusal}
 use Rattle.marks.specs.declared.Refusal.TheVariants.{NotSound}
 use Rattle.layout.specs.declared.layout.Layout.{Layout}
-use Rattle.layout.specs.declared.open.OpenOutcome.{OpenOutcome}
-use Rattle.layout.specs.declared.open.OpenOutcome.TheVariants as opening
-use Rattle.layout.specs.declared.replies.Outcome.{Outcome}
-use Rattle.layout.specs.declared.replies.Outcome.TheVariants as outcomes
 use Rattle.layout.specs.declared.insert.Inserted.{Inserted}
 use Rattle.layout.specs.declared.remove.Removed.{Removed}
 use Rattle.layout.specs.declared.tidy.Tidied.{Tidied}
@@ -43,8 +40,9 @@ use Rattle.frames.specs.declared.Request.{Request}
 use Rattle.frames.specs.declared.Request.TheVariants.{OfLayout, Keep, Restore, Malformed}
 use Rattle.frames.specs.Answers.{Answer, refused, opened, done}
 use Rattle.session.specs.declared.Session.{Session}
+use Rattle.piece.specs.declared.insertion_option.OfferList.{OfferList}
 use Rattle.questions.specs.Answers.{offers_call}
-use Rattle.session.specs.Session.{started, with_layout, Reply, reply, answer_by, opened_by, after_open, offers_said, after_offers, marks_said, after_insert}
+use Rattle.session.specs.Session.{started, with_layout, Reply, reply, answer_by, opened_by, after_open, offers_by, after_offers, marks_said, after_insert}
 use Rattle.session.specs.Session.{numbers_said, after_remove, kept_by, after_keep, after_restore, report_by, after_report, Answers}
 use Rattle.demands.specs.Counter.{marks_written, opens, Stale}
 use Rattle.demands.proofs.Outcomes.{opened-so, inserted-so, removed-so, tidied-so}
@@ -60,7 +58,7 @@ pub record Quiet (a : Answer) : Type 0 where
 pub record Opens (s t : Session) (a : Answer) : Type 0 where
   pub asked : Opening
   pub mark : Mark
-  pub accepted : (open_of asked).outcome ≡ opening.Free mark
+  pub accepted : (open_of asked).outcome ≡ Ok mark
   pub state : t ≡ with_layout s (open_of asked).layout
   pub answer : a ≡ opened mark
 
@@ -88,17 +86,21 @@ refused-quiet : (op : ℕ) (e : Refusal) → Quiet (refused op e)
 refused-quiet op e = record { marks = refl; number = refl }
 
 -- an answer by its outcome, which is quiet where it is done
-outcome-quiet : (op : ℕ) (b : Answer) → Quiet b → (o : Outcome) → Quiet (answer_by op b o)
-outcome-quiet op b q outcomes.Done = q
-outcome-quiet op b q (outcomes.Refused e) = refused-quiet op e
+outcome-quiet : (op : ℕ) (b : Answer) → Quiet b → (o : Result ⊤ Refusal) → Quiet (answer_by op b o)
+outcome-quiet op b q (Ok tt) = q
+outcome-quiet op b q (Err e) = refused-quiet op e
+
+offers-quiet : (o : Result OfferList Refusal) → Quiet (offers_by o)
+offers-quiet (Ok o) = record { marks = refl; number = refl }
+offers-quiet (Err e) = refused-quiet 2 e
 
 pub way : (s : Session) (q : Request) (t : Session) (a : Answer) → Answers s q t a → Way s t a
 unfolding Answers after_open after_offers after_insert after_remove after_keep after_restore after_report
 way s (OfLayout (Open o)) t a h = go (open_of o).outcome refl h
   where
-    go : (v : OpenOutcome) → (open_of o).outcome ≡ v
+    go : (v : Result Mark Refusal) → (open_of o).outcome ≡ v
         → reply t a ≡ opened_by s (open_of o).layout v → Way s t a
-    go (opening.Free m) e h =
+    go (Ok m) e h =
         by_opening
         (record {
           asked = o;
@@ -107,10 +109,9 @@ way s (OfLayout (Open o)) t a h = go (open_of o).outcome refl h
           state = to h;
           answer = says h;
         })
-    go (opening.Refused r) e h = by_none (to h) (quiet h (refused-quiet 1 r))
+    go (Err r) e h = by_none (to h) (quiet h (refused-quiet 1 r))
 way s (OfLayout (Offers m p)) t a h =
-    by_none (to h)
-    (quiet h (outcome-quiet 2 (offers_said (offers_call s.layout m p).offers) (record { marks = refl; number = refl }) (offers_call s.layout m p).outcome))
+    by_none (to h) (quiet h (offers-quiet (offers_call s.layout m p)))
 way s (OfLayout (Insert m p r f)) t a h = by_insert m p r f h.0 h.1 (to h.2) (says h.2)
 way s (OfLayout (Remove m)) t a h = by_removal m h.0 h.1 (to h.2) (says h.2)
 way s Keep t a h = go (sound_b s.layout) h
@@ -212,9 +213,9 @@ pub record Stepped (s t : Session) : Type 0 where
 changed : (s t : Session) (n : Layout) → t ≡ with_layout s n → Moved s.layout n → Stepped s t
 changed s t n e h = rw e (record { layout = h; kept = inl refl })
 
-outcome-opens : (op : ℕ) (b : Answer) (o : Outcome) → opens b ≡ [] → opens (answer_by op b o) ≡ []
-outcome-opens op b outcomes.Done h = h
-outcome-opens op b (outcomes.Refused e) h = refl
+outcome-opens : (op : ℕ) (b : Answer) (o : Result ⊤ Refusal) → opens b ≡ [] → opens (answer_by op b o) ≡ []
+outcome-opens op b (Ok tt) h = h
+outcome-opens op b (Err e) h = refl
 
 -- an answer accepts an opening, or opens nothing
 pub opens-or-not : {s t : Session} {a : Answer} → Shaped s → Way s t a → Opens s t a ⊎ ((opens a ≡ []) × Stepped s t)

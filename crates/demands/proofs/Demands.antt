@@ -11,6 +11,7 @@ use mathlib.Core.Option.{none, some}
 use mathlib.Core.Bool.{false, true}
 use Prim.Native.Nat.{ℕ}
 use lib.ListN.{length}
+use Rattle.std.specs.Prelude.{Err}
 use Rattle.piece.specs.declared.rotation.Rotation.{Rotation}
 use Rattle.piece.specs.declared.parttype.PartType.{PartType}
 use Rattle.piece.specs.declared.node.Datum.{Datum}
@@ -27,9 +28,6 @@ use Rattle.marks.specs.declared.Mark.{Mark}
 use Rattle.marks.specs.declared.Refusal.{Refusal}
 use Rattle.marks.specs.declared.Refusal.TheVariants.{Gone, SerialsSpent, TooManyNodes}
 use Rattle.layout.specs.declared.layout.Layout.{Layout}
-use Rattle.layout.specs.declared.replies.Outcome.TheVariants.{Refused}
-use Rattle.layout.specs.declared.replies.Sought.TheVariants as sought
-use Rattle.layout.specs.declared.open.OpenOutcome.TheVariants as opening
 use Rattle.layout.specs.declared.insert.Inserted.{Inserted}
 use Rattle.layout.specs.declared.remove.Removed.{Removed}
 use Rattle.layout.specs.declared.tidy.Tidied.{Tidied}
@@ -43,7 +41,6 @@ use Rattle.layout.specs.Remove.{RemoveSays, numbers_left, numbers_out, remove_no
 use Rattle.layout.specs.Tidy.{Tidies, TidySays, tidy_no}
 use Rattle.layout.specs.Restore.{restore_of}
 use Rattle.layout.proofs.Refusals as refusals
-use Rattle.questions.specs.declared.replies.CountAnswer.TheVariants as counts
 use Rattle.questions.specs.Answers.{offers_call}
 use Rattle.questions.specs.Written.{answer_to, left_in_buffer}
 use Rattle.questions.proofs.Refusals as looking
@@ -89,13 +86,13 @@ use Rattle.demands.proofs.Examined as examined
 
 -- k is the state in which the mark was answered, l that state or a later one
 pub a-mark-names-its-piece-or-is-gone : {ls : List Layout} → Life ls → (k l : Layout) → Later k l ls → (m : Mark) → Given k m
-    → (sought_of l m ≡ sought.Refused Gone) ⊎ (NamesPiece l m × SamePiece k l m)
+    → (sought_of l m ≡ Err Gone) ⊎ (NamesPiece l m × SamePiece k l m)
 a-mark-names-its-piece-or-is-gone life k l later m g = marks.marks-last life k l later m (given.given-names life k l later m g)
 
 -- "refused as gone": refusal 5, by each call that takes a mark, unless the part asked for is refused first (3)
-pub gone-is-refused : {ls : List Layout} → Life ls → (l : Layout) → OneOf l ls → (m : Mark) → sought_of l m ≡ sought.Refused Gone
-    → ((p : PartType) → part_b p ≡ true → (offers_call l m p).outcome ≡ Refused Gone)
-    × ((p : PartType) → part_b p ≡ true → (why_call l m p).outcome ≡ Refused Gone)
+pub gone-is-refused : {ls : List Layout} → Life ls → (l : Layout) → OneOf l ls → (m : Mark) → sought_of l m ≡ Err Gone
+    → ((p : PartType) → part_b p ≡ true → offers_call l m p ≡ Err Gone)
+    × ((p : PartType) → part_b p ≡ true → why_call l m p ≡ Err Gone)
     × ((p : PartType) (r : Rotation) (s : InsertionShape) → part_b p ≡ true → insert_no l m p r s ≡ some Gone)
     × ((room : ℕ) → remove_no l m room ≡ some Gone)
 gone-is-refused life l o m g =
@@ -147,28 +144,28 @@ a-second-opening = reopened.the_same_number
 -- proof asks nothing of the caller.)
 
 pub a-refused-insert : (l : Layout) (m : Mark) (p : PartType) (r : Rotation) (s : InsertionShape) (a : Inserted) (e : Refusal)
-    → insert_no l m p r s ≡ some e → InsertSays l m p r s a → (a.layout ≡ l) × (a.outcome ≡ Refused e) × (a.marks ≡ zero_marks)
+    → insert_no l m p r s ≡ some e → InsertSays l m p r s a → (a.layout ≡ l) × (a.outcome ≡ Err e) × (a.marks ≡ zero_marks)
 a-refused-insert l m p r s a e h says = rw (refusals.refused-insert l m p r s a e h says) (refl, refl, refl)
 
 pub a-refused-remove : (l : Layout) (m : Mark) (room : ℕ) (a : Removed) (e : Refusal) → remove_no l m room ≡ some e → RemoveSays l m room a
-    → (a.layout ≡ l) × (a.outcome ≡ Refused e) × (a.free ≡ zero_mark) × (a.count ≡ 0)
+    → (a.layout ≡ l) × (a.outcome ≡ Err e) × (a.free ≡ zero_mark) × (a.count ≡ 0)
 a-refused-remove l m room a e h says = rw (refusals.refused-remove l m room a e h says) (refl, refl, refl, refl)
 
 pub its-buffer : (l : Layout) (m : Mark) (out : List ℕ) (e : Refusal) → remove_no l m (length out) ≡ some e → numbers_left l m out ≡ out
 its-buffer = refusals.refused-numbers
 
-pub a-refused-tidy : (l : Layout) (a : Tidied) (e : Refusal) → tidy_no l ≡ some e → TidySays l a → (a.layout ≡ l) × (a.outcome ≡ Refused e) × (a.count ≡ 0)
+pub a-refused-tidy : (l : Layout) (a : Tidied) (e : Refusal) → tidy_no l ≡ some e → TidySays l a → (a.layout ≡ l) × (a.outcome ≡ Err e) × (a.count ≡ 0)
 a-refused-tidy l a e h says = rw (refusals.refused-tidy l a e h says) (refl, refl, refl)
 
-pub a-refused-restore : (l s : Layout) (e : Refusal) → (restore_of l s).outcome ≡ Refused e → (restore_of l s).layout ≡ l
+pub a-refused-restore : (l s : Layout) (e : Refusal) → (restore_of l s).outcome ≡ Err e → (restore_of l s).layout ≡ l
 a-refused-restore = refusals.refused-restore
 
 pub a-refused-opening : (o : Opening) (e : Refusal)
-    → (open_of o).outcome ≡ opening.Refused e → (open_of o).layout ≡ zero_layout
+    → (open_of o).outcome ≡ Err e → (open_of o).layout ≡ zero_layout
 a-refused-opening = refusals.refused-open
 
 -- the calls that write into a lent buffer and hand no layout back, by what each writes: `snapshot_bytes l`, `held_numbers l`, `saw_bytes l` and `amount_bytes l`
-pub a-refused-writing : (l : Layout) (what out : List ℕ) (e : Refusal) → answer_to l what (length out) ≡ counts.Refused e → left_in_buffer l what out ≡ out
+pub a-refused-writing : (l : Layout) (what out : List ℕ) (e : Refusal) → answer_to l what (length out) ≡ Err e → left_in_buffer l what out ≡ out
 a-refused-writing = looking.refused-writing
 
 -- "examines the layout it is handed first": specs/Examined.antt lists what every public call answers to a layout that isn't sound, refusal 1
@@ -222,7 +219,7 @@ booking-and-removal-commute = swaps.insert-remove
 pub removal-and-booking-commute : (l : Layout) → Sized l → (m : Mark) (p : PartType) (r : Rotation) (s : InsertionShape) (m' : Mark) (room : ℕ)
     → NamesPiece l m → (a : Removed) (b c : Inserted) (d : Removed) → RemoveAccepted l m' room a → InsertAccepted a.layout m p r s b
     → InsertSays l m p r s c → RemoveSays c.layout m' room d
-    → (c.outcome ≡ Refused TooManyNodes)
+    → (c.outcome ≡ Err TooManyNodes)
     ⊎ (InsertAccepted l m p r s c × RemoveAccepted c.layout m' room d × SameTree b.layout d.layout)
 removal-and-booking-commute = swaps.remove-insert
 

@@ -8,6 +8,7 @@ use mathlib.Core.List.Memᴰ
 use mathlib.Core.List.{List, [], ◌∷◌, ◌++◌, append_assoc, Memᴰ}
 use mathlib.Core.Logic.{◌⊎◌, inl, inr}
 use Prim.Native.Nat.{ℕ}
+use Rattle.std.specs.Prelude.{Result, Ok, Err, Some, None, Option}
 use Rattle.piece.specs.declared.parttype.PartType.{PartType}
 use Rattle.lists.proofs.Scan.{test, clash}
 use Rattle.marks.specs.declared.Mark.{Mark}
@@ -16,10 +17,7 @@ use Rattle.layout.specs.Check.{sound_b}
 use Rattle.layout.specs.Asked.{part_b}
 use Rattle.layout.specs.SoundLayout.{SoundLayout, Sized}
 use Rattle.layout.proofs.Exactly.{sound-says}
-use Rattle.questions.specs.declared.replies.LightAnswer.{LightAnswer}
-use Rattle.questions.specs.declared.replies.LightAnswer.TheVariants as lights
-use Rattle.questions.specs.declared.replies.MarkAnswer.{MarkAnswer}
-use Rattle.questions.specs.declared.replies.MarkAnswer.TheVariants as found
+use Rattle.marks.specs.declared.Refusal.{Refusal}
 use Rattle.questions.specs.Answers.{free_mark_of, removable_mark_of}
 use Rattle.questions.specs.Light.{light_of}
 use Rattle.questions.proofs.LightExactly.{named-exactly}
@@ -44,17 +42,17 @@ use Rattle.demands.proofs.Counter.{Ways, stays, goes, shaped-run, ways-are-a-lif
 
 -- ---- the marks of questions
 
-listed : {A : Type 0} (x : MarkAnswer) (k : Mark) → ((m : Mark) → x ≡ found.Found m → k ≡ m → A) → Memᴰ k (mark_listed x) → A
-listed (found.Found m) k f h = f m refl (Memᴰ.eq_of_singleton h)
-listed (found.Refused e) k f h = absurd (Memᴰ.not-nil h)
+listed : {A : Type 0} (x : Result Mark Refusal) (k : Mark) → ((m : Mark) → x ≡ Ok m → k ≡ m → A) → Memᴰ k (mark_listed x) → A
+listed (Ok m) k f h = f m refl (Memᴰ.eq_of_singleton h)
+listed (Err e) k f h = absurd (Memᴰ.not-nil h)
 
-lit : {A : Type 0} (x : LightAnswer) (k : Mark) → ((m : Mark) → x ≡ lights.Room m → k ≡ m → A) → Memᴰ k (mark_lit x) → A
-lit (lights.Room m) k f h = f m refl (Memᴰ.eq_of_singleton h)
-lit lights.NoRoom k f h = absurd (Memᴰ.not-nil h)
-lit (lights.Refused e) k f h = absurd (Memᴰ.not-nil h)
+lit : {A : Type 0} (x : Result (Option Mark) Refusal) (k : Mark) → ((m : Mark) → x ≡ Ok (Some m) → k ≡ m → A) → Memᴰ k (mark_lit x) → A
+lit (Ok (Some m)) k f h = f m refl (Memᴰ.eq_of_singleton h)
+lit (Ok None) k f h = absurd (Memᴰ.not-nil h)
+lit (Err e) k f h = absurd (Memᴰ.not-nil h)
 
 -- a part outside the domain is refused
-part-ok : (l : Layout) (p : PartType) (m : Mark) → sound_b l ≡ true → light_of l p ≡ lights.Room m → part_b p ≡ true
+part-ok : (l : Layout) (p : PartType) (m : Mark) → sound_b l ≡ true → light_of l p ≡ Ok (Some m) → part_b p ≡ true
 unfolding light_of
 part-ok l p m sound e = go (test (part_b p))
   where

@@ -7,6 +7,7 @@ use mathlib.Core.Logic.{◌⊎◌, inl, inr, ⊎_elim}
 use Prim.Native.Nat.{ℕ, ◌≤◌, ◌<◌}
 use native.Mathlib.Omega.{arith}
 use lib.ListN.{get_or-eq_default}
+use Rattle.std.specs.Prelude.{Ok}
 use Rattle.piece.specs.declared.rotation.Rotation.{Rotation}
 use Rattle.piece.specs.declared.parttype.PartType.{PartType}
 use Rattle.piece.specs.declared.node.Datum.{Datum}
@@ -21,7 +22,6 @@ use Rattle.table.specs.declared.Node.{Node}
 use Rattle.table.specs.Table.{zero_datum, zero_node}
 use Rattle.marks.specs.declared.Mark.{Mark}
 use Rattle.layout.specs.declared.layout.Layout.{Layout}
-use Rattle.layout.specs.declared.open.OpenOutcome.TheVariants as opening
 use Rattle.layout.specs.declared.insert.Inserted.{Inserted}
 use Rattle.layout.specs.declared.remove.Removed.{Removed}
 use Rattle.layout.specs.declared.tidy.Tidied.{Tidied}
@@ -259,7 +259,7 @@ run-one (next {n} {l = m} {ls} run step) k l a b i j d e y z s = go (run-one run
 -- ---- every life is such a run
 
 open-right : (o : Opening) (m : Mark)
-    → (open_of o).outcome ≡ opening.Free m
+    → (open_of o).outcome ≡ Ok m
     → Right (open_of o).layout
 open-right o m e =
     let z = opened-so o m e in

@@ -7,14 +7,13 @@ use mathlib.Core.Logic.{◌⊎◌, inl, inr, ⊎_elim}
 use mathlib.Core.Option.{some}
 use Prim.Native.Nat.{ℕ}
 use borrow.Author.Tests.{eq-eqb}
+use Rattle.std.specs.Prelude.{Ok, Err}
 use Rattle.piece.specs.declared.rotation.Rotation.{Rotation}
 use Rattle.piece.specs.declared.parttype.PartType.{PartType}
 use Rattle.piece.specs.declared.insertion_blueprint.InsertionShape.{InsertionShape}
 use Rattle.marks.specs.declared.Mark.{Mark}
 use Rattle.marks.specs.declared.Refusal.TheVariants.{Gone}
 use Rattle.layout.specs.declared.layout.Layout.{Layout}
-use Rattle.layout.specs.declared.replies.Outcome.TheVariants.{Refused}
-use Rattle.layout.specs.declared.replies.Sought.TheVariants as sought
 use Rattle.layout.specs.Check.{sound_b}
 use Rattle.layout.specs.SoundLayout.{SoundLayout}
 use Rattle.layout.specs.Asked.{part_b, gone_b, sought_of, free_piece_of}
@@ -35,14 +34,14 @@ later-both k l (h ∷ hs) (inl y) = (y.1, inl y.0)
 later-both k l (h ∷ hs) (inr o) = let z = later-both k l hs o in (inr z.0, inr z.1)
 
 -- a mark of this layout is gone, or names a piece
-gone-or-names : (l : Layout) → SoundLayout l → (m : Mark) → m.layout ≡ l.number → (sought_of l m ≡ sought.Refused Gone) ⊎ NamesPiece l m
+gone-or-names : (l : Layout) → SoundLayout l → (m : Mark) → m.layout ≡ l.number → (sought_of l m ≡ Err Gone) ⊎ NamesPiece l m
 unfolding sought_of
 gone-or-names l sound m same = go (gone_b l m) refl
   where
-    go : (b : Bool) → gone_b l m ≡ b → (sought_of l m ≡ sought.Refused Gone) ⊎ NamesPiece l m
+    go : (b : Bool) → gone_b l m ≡ b → (sought_of l m ≡ Err Gone) ⊎ NamesPiece l m
     go true e = inl (sym (onward _ (eq-eqb m.layout l.number same) (onward _ e refl)))
     go false e =
-        let found : sought_of l m ≡ sought.Piece (piece_at l m.place) =
+        let found : sought_of l m ≡ Ok (piece_at l m.place) =
         sym (onward _ (eq-eqb m.layout l.number same) (ended _ e refl))
         in
         let n = sought-names l sound m (piece_at l m.place) found in
@@ -50,7 +49,7 @@ gone-or-names l sound m same = go (gone_b l m) refl
 
 -- A mark that named a piece of a state names the same piece of every later state, or is gone there.
 pub marks-last : {ls : List Layout} → Life ls → (k l : Layout) → Later k l ls → (m : Mark) → NamesPiece k m
-    → (sought_of l m ≡ sought.Refused Gone) ⊎ (NamesPiece l m × SamePiece k l m)
+    → (sought_of l m ≡ Err Gone) ⊎ (NamesPiece l m × SamePiece k l m)
 marks-last {ls} life k l later m named =
     let o = later-both k l ls later in
     let number = named.number ∙ one_number life k l o.0 o.1 in
@@ -65,15 +64,15 @@ marks-last {ls} life k l later m named =
         record { piece = sym z.1; parent = sym z.2; parent_piece = sym z.3 }
 
 -- Then a call with it is refused with 5, where no earlier refusal holds.
-module _ {ls : List Layout} (life : Life ls) (l : Layout) (state : OneOf l ls) (m : Mark) (gone : sought_of l m ≡ sought.Refused Gone) where
+module _ {ls : List Layout} (life : Life ls) (l : Layout) (state : OneOf l ls) (m : Mark) (gone : sought_of l m ≡ Err Gone) where
   checked : sound_b l ≡ true
   checked = let h = states-sound life l state in sound-shown l h.1 h.0
 
-  pub gone-offers : (p : PartType) → part_b p ≡ true → (offers_call l m p).outcome ≡ Refused Gone
+  pub gone-offers : (p : PartType) → part_b p ≡ true → offers_call l m p ≡ Err Gone
   unfolding offers_call free_piece_of
   gone-offers p part = rw (checked, part, gone) refl
 
-  pub gone-why-not : (p : PartType) → part_b p ≡ true → (why_call l m p).outcome ≡ Refused Gone
+  pub gone-why-not : (p : PartType) → part_b p ≡ true → why_call l m p ≡ Err Gone
   unfolding why_call free_piece_of
   gone-why-not p part = rw (checked, part, gone) refl
 

@@ -9,6 +9,7 @@ use Prim.Native.Nat.{ℕ, ◌+◌}
 use lib.Dec.{ltb}
 use lib.ListN.{take}
 use borrow.Author.Tests.{ltb-true}
+use Rattle.std.specs.Prelude.{Result, Ok, Err}
 use Rattle.piece.specs.declared.rotation.Rotation.{Rotation}
 use Rattle.piece.specs.declared.parttype.PartType.{PartType}
 use Rattle.piece.specs.declared.node.Datum.{Datum}
@@ -31,8 +32,6 @@ use Rattle.removal.specs.Remove.{new_free}
 use Rattle.removal.proofs.Pieces.{new-there}
 use Rattle.removal.proofs.Serials.{new-serial, new-free}
 use Rattle.layout.specs.declared.layout.Layout.{Layout}
-use Rattle.layout.specs.declared.open.OpenOutcome.TheVariants as opening
-use Rattle.layout.specs.declared.replies.Outcome.TheVariants.{Done}
 use Rattle.layout.specs.declared.insert.Inserted.{Inserted}
 use Rattle.layout.specs.declared.remove.Removed.{Removed}
 use Rattle.layout.specs.Check.{limit, tree, sound_b}
@@ -44,8 +43,6 @@ use Rattle.layout.specs.Remove.{place_for, RemoveSays}
 use Rattle.layout.proofs.Listed.{piece_is}
 use Rattle.layout.proofs.Admitted.{is_free-kind}
 use Rattle.layout.proofs.Opened.{fresh-tree, fresh-sound}
-use Rattle.questions.specs.declared.replies.MarkAnswer.{MarkAnswer}
-use Rattle.questions.specs.declared.replies.MarkAnswer.TheVariants as answer
 use Rattle.questions.specs.Answers.{free_mark_of, removable_mark_of}
 use Rattle.questions.proofs.ListMarks.{free-mark-names, removable-mark-names}
 use Rattle.demands.specs.Life.{NamesPiece}
@@ -72,7 +69,7 @@ module _ (l : Layout) (sound : SoundLayout l) (m : Mark) (d : Datum) (number : m
 -- ---- the opening
 
 pub open-mark-names : (o : Opening) (m : Mark)
-    → (open_of o).outcome ≡ opening.Free m → NamesKind Free (open_of o).layout m
+    → (open_of o).outcome ≡ Ok m → NamesKind Free (open_of o).layout m
 unfolding fresh_layout
 open-mark-names o m h =
     let z = opened-so o m h in
@@ -141,13 +138,13 @@ module _ (l : Layout) (x : ℕ) (p : PartType) (r : Rotation) (s : InsertionShap
       }
 
 pub insert-marks-name : (l : Layout) (m : Mark) (p : PartType) (r : Rotation) (s : InsertionShape) (a : Inserted) → Sized l
-    → InsertSays l m p r s a → a.outcome ≡ Done → BookedMarks l m.place p r s a
+    → InsertSays l m p r s a → a.outcome ≡ Ok tt → BookedMarks l m.place p r s a
 insert-marks-name l m p r s a sized says answer =
     let z = accepted-insert l m p r s a sized (record { says = says; done = answer }) in booked-marks l m.place p r s z.insertable a z.done
 
 -- ---- remove
 
-pub remove-mark-names : (l : Layout) (m : Mark) (room : ℕ) (a : Removed) → Sized l → RemoveSays l m room a → a.outcome ≡ Done
+pub remove-mark-names : (l : Layout) (m : Mark) (room : ℕ) (a : Removed) → Sized l → RemoveSays l m room a → a.outcome ≡ Ok tt
     → NamesKind Free a.layout a.free
 remove-mark-names l m room a sized says answer =
     let z = accepted-remove l m room a sized (record { says = says; done = answer }) in
@@ -167,17 +164,17 @@ remove-mark-names l m room a sized says answer =
 -- ---- the two lists
 
 -- a position gives a mark only below the list's end
-within : (a b : Bool) (k m : Mark) (e f : Refusal) → cond a (cond b (answer.Found k) (answer.Refused e)) (answer.Refused f) ≡ answer.Found m
+within : (a b : Bool) (k m : Mark) (e f : Refusal) → cond a (cond b (Ok k) (Err e)) (Err f) ≡ Ok m
     → b ≡ true
 within true true k m e f h = refl
 within true false k m e f h = absurd (clash (cc))
 within false b k m e f h = absurd (clash (cc))
 
-same_answer : (o : MarkAnswer) (k m : Mark) → o ≡ answer.Found k → o ≡ answer.Found m → k ≡ m
+same_answer : (o : Result Mark Refusal) (k m : Mark) → o ≡ Ok k → o ≡ Ok m → k ≡ m
 same_answer o k m x y = cc
 
 module _ (l : Layout) (sized : Sized l) (sound : SoundLayout l) (k : ℕ) (m : Mark) where
-  pub free-position-names : free_mark_of l k ≡ answer.Found m → NamesKind Free l m
+  pub free-position-names : free_mark_of l k ≡ Ok m → NamesKind Free l m
   unfolding free_mark_of
   free-position-names h =
       let b = ltb-true k l.frees (within (sound_b l) (ltb k l.frees) _ m _ _ h) in
@@ -186,7 +183,7 @@ module _ (l : Layout) (sized : Sized l) (sound : SoundLayout l) (k : ℕ) (m : M
       (kind-named l sound z.0 z.1 z.3.layout z.3.there z.3.serial Free z.4)
 
   -- a part or a structure
-  pub removable-position-names : removable_mark_of l k ≡ answer.Found m → NamesPiece l m × (is_free (piece_at l m.place).kind ≡ false)
+  pub removable-position-names : removable_mark_of l k ≡ Ok m → NamesPiece l m × (is_free (piece_at l m.place).kind ≡ false)
   unfolding removable_mark_of
   removable-position-names h =
       let b = ltb-true k l.removables (within (sound_b l) (ltb k l.removables) _ m _ _ h) in

@@ -11,6 +11,7 @@ use native.Mathlib.Omega.{arith}
 use lib.Dec.{eqb, leb}
 use lib.ListN.{length}
 use borrow.Author.Tests.{eqb-false, le-leb, leb-false, leb-true, ne_eqb}
+use Rattle.std.specs.Prelude.{Result, Ok, Err}
 use Rattle.piece.specs.declared.rotation.Rotation.{Rotation}
 use Rattle.piece.specs.declared.parttype.PartType.{PartType}
 use Rattle.piece.specs.declared.node.Datum.{Datum}
@@ -24,8 +25,6 @@ use Rattle.marks.specs.declared.Refusal.{Refusal}
 use Rattle.marks.specs.declared.Refusal.TheVariants.{BufferTooShort, FreePiece, Gone, NotFree, NotOffered, NotSound, OtherLayout, PartOutside, SerialsSpent, TheTop, TooManyNodes}
 use Rattle.marks.specs.declared.Refusal.TheVariants as refusal
 use Rattle.layout.specs.declared.layout.Layout.{Layout}
-use Rattle.layout.specs.declared.replies.Sought.{Sought}
-use Rattle.layout.specs.declared.replies.Sought.TheVariants as sought
 use Rattle.layout.specs.Check.{limit, max_serial, sound_b, tree}
 use Rattle.layout.specs.Asked.{free_piece_of, gone_b, only_free, part_b, sought_of}
 use Rattle.layout.specs.Refusing.{or_else}
@@ -51,7 +50,7 @@ use Rattle.demands.proofs.EveryOrder.{Old, Waits, all_old, all-wait, older}
 abbrev pub late_no : Layout → Step → Option Refusal
 late_no l s = cond (room_b l s) (cond (leb (l.serial + new_of s) max_serial) none (some SerialsSpent)) (some TooManyNodes)
 
-found : (l : Layout) → SoundLayout l → (m : Mark) → NamesPiece l m → sought_of l m ≡ sought.Piece (piece_at l m.place)
+found : (l : Layout) → SoundLayout l → (m : Mark) → NamesPiece l m → sought_of l m ≡ Ok (piece_at l m.place)
 found l sound m named =
     names-sought l sound m (piece_at l m.place) (record { layout = named.number; there = named.there; serial = named.serial })
 
@@ -115,33 +114,33 @@ late e (inl (inl h)) = absurd (clash (cc))
 late e (inl (inr h)) = let z : e ≡ TooManyNodes = cc in rw z refl
 late e (inr h) = let z : e ≡ SerialsSpent = cc in rw z refl
 
-sought-early : (l : Layout) (m : Mark) (e : Refusal) → sought_of l m ≡ sought.Refused e → late_b e ≡ false
+sought-early : (l : Layout) (m : Mark) (e : Refusal) → sought_of l m ≡ Err e → late_b e ≡ false
 unfolding sought_of
 sought-early l m e = go (eqb m.layout l.number) (gone_b l m)
   where
     go : (a b : Bool)
-        → cond a (cond b (sought.Refused Gone) (sought.Piece (piece_at l m.place))) (sought.Refused OtherLayout) ≡ sought.Refused e → late_b e ≡ false
+        → cond a (cond b (Err Gone) (Ok (piece_at l m.place))) (Err OtherLayout) ≡ Err e → late_b e ≡ false
     go true true h = let z : e ≡ Gone = cc in rw z refl
     go true false h = absurd (clash (cc))
     go false b h = let z : e ≡ OtherLayout = cc in rw z refl
 
-free-early : (l : Layout) (m : Mark) (p : PartType) (e : Refusal) → free_piece_of l m p ≡ sought.Refused e → late_b e ≡ false
+free-early : (l : Layout) (m : Mark) (p : PartType) (e : Refusal) → free_piece_of l m p ≡ Err e → late_b e ≡ false
 unfolding free_piece_of
 free-early l m p e = go (sound_b l) (part_b p) (sought_of l m) refl
   where
-    only : (d : Datum) (b : Bool) → cond b (sought.Piece d) (sought.Refused NotFree) ≡ sought.Refused e → late_b e ≡ false
+    only : (d : Datum) (b : Bool) → cond b (Ok d) (Err NotFree) ≡ Err e → late_b e ≡ false
     only d true h = absurd (clash (cc))
     only d false h = let z : e ≡ NotFree = cc in rw z refl
 
-    go : (a b : Bool) (q : Sought) → sought_of l m ≡ q
-        → cond a (cond b (only_free q) (sought.Refused PartOutside)) (sought.Refused NotSound) ≡ sought.Refused e → late_b e ≡ false
-    go true true (sought.Piece d) f h = only d (is_free d.kind) h
-    go true true (sought.Refused x) f h = let z : x ≡ e = cc in sought-early l m e (f ∙ ap sought.Refused z)
+    go : (a b : Bool) (q : Result Datum Refusal) → sought_of l m ≡ q
+        → cond a (cond b (only_free q) (Err PartOutside)) (Err NotSound) ≡ Err e → late_b e ≡ false
+    go true true (Ok d) f h = only d (is_free d.kind) h
+    go true true (Err x) f h = let z : x ≡ e = cc in sought-early l m e (f ∙ ap Err z)
     go true false q f h = let z : e ≡ PartOutside = cc in rw z refl
     go false b q f h = let z : e ≡ NotSound = cc in rw z refl
 
 module _ (l : Layout) (sized : Sized l) (m : Mark) where
-  named_by : (d : Datum) → SoundLayout l → sought_of l m ≡ sought.Piece d → NamesPiece l m × (piece_at l m.place ≡ d)
+  named_by : (d : Datum) → SoundLayout l → sought_of l m ≡ Ok d → NamesPiece l m × (piece_at l m.place ≡ d)
   named_by d sound h =
       let n = sought-names l sound m d h in
       let is : piece_at l m.place ≡ d = piece_is l.nodes (tree l) sound.holds m.place d n.there in
@@ -156,9 +155,9 @@ module _ (l : Layout) (sized : Sized l) (m : Mark) where
       offered d true c e h = refl
       offered d false c e h = absurd (clash (late NotOffered h))
 
-      go : (q : Sought) → free_piece_of l m p ≡ q → OnlyEightOrNine (piece_no l p r s q) → Ready l (booking m p r s)
-      go (sought.Refused e) f h = absurd (clash (sym (free-early l m p e f) ∙ late e h))
-      go (sought.Piece d) f h =
+      go : (q : Result Datum Refusal) → free_piece_of l m p ≡ q → OnlyEightOrNine (piece_no l p r s q) → Ready l (booking m p r s)
+      go (Err e) f h = absurd (clash (sym (free-early l m p e f) ∙ late e h))
+      go (Ok d) f h =
           let q = headed l m p d f in
           let n = named_by d (sound-says l sized q.sound) q.named in
           let o = offered d (offered_b d p l.settings r s) (leb (l.held - 1 + new_nodes s) limit) (leb (l.serial + new_nodes s) max_serial) h in
@@ -172,7 +171,7 @@ module _ (l : Layout) (sized : Sized l) (m : Mark) where
       x : ℕ
       x = m.place
 
-      tests : (d : Datum) → SoundLayout l → sought_of l m ≡ sought.Piece d
+      tests : (d : Datum) → SoundLayout l → sought_of l m ≡ Ok d
           → (a : Bool) → eqb x 0 ≡ a → (b : Bool) → is_free d.kind ≡ b → (c : Bool) → leb (l.serial + 1) max_serial ≡ c
           → (o : Bool) → leb (length (numbers_out l x)) room ≡ o
           → OnlyEightOrNine (or_else (cond a (some TheTop) (cond b (some FreePiece) (cond c none (some SerialsSpent)))) (cond o none (some BufferTooShort)))
@@ -185,12 +184,12 @@ module _ (l : Layout) (sized : Sized l) (m : Mark) where
           let n = named_by d sound f in
           inl (record { names = n.0; meets = (rw n.1 g, eqb-false x 0 e); asks = leb-true (length (numbers_out l x)) room j })
 
-      go : (a : Bool) → sound_b l ≡ a → (q : Sought) → sought_of l m ≡ q → OnlyEightOrNine (cond a (going_no l x room q) (some NotSound))
+      go : (a : Bool) → sound_b l ≡ a → (q : Result Datum Refusal) → sought_of l m ≡ q → OnlyEightOrNine (cond a (going_no l x room q) (some NotSound))
           → Ready l (removal m room) ⊎ (max_serial < l.serial + 1)
-      go true e (sought.Piece d) f h =
+      go true e (Ok d) f h =
           tests d (sound-says l sized e) f (eqb x 0) refl (is_free d.kind) refl (leb (l.serial + 1) max_serial) refl
           (leb (length (numbers_out l x)) room) refl h
-      go true e (sought.Refused r) f h = absurd (clash (sym (sought-early l m r f) ∙ late r h))
+      go true e (Err r) f h = absurd (clash (sym (sought-early l m r f) ∙ late r h))
       go false e q f h = absurd (clash (late NotSound h))
 
 asked-ready : (l : Layout) → Sized l → (s : Step) → OnlyEightOrNine (refusal_of l s) → Ready l s ⊎ (max_serial < l.serial + 1)

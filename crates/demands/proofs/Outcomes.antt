@@ -11,6 +11,7 @@ use native.Mathlib.Omega.{arith}
 use lib.Dec.{eqb, leb}
 use lib.ListN.{length}
 use borrow.Author.Tests.{eqb-true, leb-true}
+use Rattle.std.specs.Prelude.{Ok}
 use Rattle.piece.specs.declared.rotation.Rotation.{Rotation}
 use Rattle.piece.specs.declared.parttype.PartType.{PartType}
 use Rattle.piece.specs.declared.node.Datum.{Datum}
@@ -26,8 +27,6 @@ use Rattle.marks.specs.declared.Mark.{Mark}
 use Rattle.marks.specs.declared.Refusal.{Refusal}
 use Rattle.marks.specs.declared.Refusal.TheVariants.{BufferTooShort, NotSound, SerialsSpent}
 use Rattle.layout.specs.declared.layout.Layout.{Layout}
-use Rattle.layout.specs.declared.open.OpenOutcome.TheVariants as opening
-use Rattle.layout.specs.declared.replies.Outcome.TheVariants.{Done}
 use Rattle.layout.specs.declared.insert.Inserted.{Inserted}
 use Rattle.layout.specs.declared.remove.Removed.{Removed}
 use Rattle.layout.specs.declared.tidy.Tidied.{Tidied}
@@ -53,7 +52,7 @@ use Rattle.demands.specs.Calls.{InsertAccepted, RemoveAccepted, TidyAccepted}
 
 -- it was accepted: the layout is the fresh one, and the mark that of its free piece
 pub opened-so : (o : Opening) (m : Mark)
-    → (open_of o).outcome ≡ opening.Free m
+    → (open_of o).outcome ≡ Ok m
     → (domain_b o.settings ≡ true) × ((open_of o).layout ≡ fresh_layout o)
     × (m ≡ record { layout = o.number; place = 1; serial = 2 })
 unfolding open_of
@@ -200,12 +199,12 @@ pub record PutBack (l k : Layout) : Type 0 where
   pub number : k.number ≡ l.number
   pub is : (restore_of l k).layout ≡ with_serial k (greater l.serial k.serial)
 
-pub restored-so : (l k : Layout) → (((restore_of l k).outcome ≡ Done → ⊥) × ((restore_of l k).layout ≡ l)) ⊎ PutBack l k
+pub restored-so : (l k : Layout) → (((restore_of l k).outcome ≡ Ok tt → ⊥) × ((restore_of l k).layout ≡ l)) ⊎ PutBack l k
 unfolding restore_of
 restored-so l k = go (sound_b l) (sound_b k) (eqb l.number k.number) refl refl refl
   where
     go : (a b c : Bool) → sound_b l ≡ a → sound_b k ≡ b → eqb l.number k.number ≡ c
-        → (((restore_of l k).outcome ≡ Done → ⊥) × ((restore_of l k).layout ≡ l)) ⊎ PutBack l k
+        → (((restore_of l k).outcome ≡ Ok tt → ⊥) × ((restore_of l k).layout ≡ l)) ⊎ PutBack l k
     go true true true x y z =
         inr (record { was = x; kept = y; number = sym (eqb-true l.number k.number z); is = rw (x, y, z) refl })
     go true true false x y z = inl (rw (x, y, z) ((λ d. clash (cc)), refl))

@@ -6,6 +6,7 @@ use mathlib.Core.Bool.{true}
 use mathlib.Core.Logic.{inl, inr}
 use Prim.Native.Nat.{ℕ}
 use borrow.Author.Tests.{eq-eqb}
+use Rattle.std.specs.Prelude.{Result, Ok, Err}
 use Rattle.piece.specs.declared.node.Datum.{Datum}
 use Rattle.piece.specs.declared.settings.Opening.{Opening}
 use Rattle.tree.specs.Tree.{At}
@@ -14,8 +15,7 @@ use Rattle.lists.proofs.Scan.{clash}
 use Rattle.marks.specs.declared.Mark.{Mark}
 use Rattle.marks.specs.declared.Refusal.TheVariants.{OtherLayout}
 use Rattle.layout.specs.declared.layout.Layout.{Layout}
-use Rattle.layout.specs.declared.open.OpenOutcome.{OpenOutcome}
-use Rattle.layout.specs.declared.open.OpenOutcome.TheVariants as opening
+use Rattle.marks.specs.declared.Refusal.{Refusal}
 use Rattle.layout.specs.Check.{tree, sound_b}
 use Rattle.layout.specs.Open.{fresh_layout, open_of}
 use Rattle.layout.specs.Insert.{piece_at}
@@ -42,17 +42,17 @@ first_mark number = record { layout = number; place = 1; serial = 2 }
 module _ (o : Opening) where
   -- the opening was accepted, and the layout is its
   accepted : (s t : Session) (m : Mark) → Answers s (OfLayout (Open o)) t (opened m)
-      → ((open_of o).outcome ≡ opening.Free m) × (t.layout ≡ (open_of o).layout)
+      → ((open_of o).outcome ≡ Ok m) × (t.layout ≡ (open_of o).layout)
   unfolding Answers after_open
   accepted s t m h = go (open_of o).outcome h
     where
-      go : (v : OpenOutcome) → reply t (opened m) ≡ opened_by s (open_of o).layout v → (v ≡ opening.Free m) × (t.layout ≡ (open_of o).layout)
-      go (opening.Free k) h =
+      go : (v : Result Mark Refusal) → reply t (opened m) ≡ opened_by s (open_of o).layout v → (v ≡ Ok m) × (t.layout ≡ (open_of o).layout)
+      go (Ok k) h =
           let same : opened m ≡ opened k = ap (λ (r : Reply). r.answer) h in
-          let is : m ≡ k = cc in (ap opening.Free (sym is), ap (λ (r : Reply). r.session.layout) h)
-      go (opening.Refused e) h = let z = ap (λ (r : Reply). r.answer) h in absurd (clash (cc))
+          let is : m ≡ k = cc in (ap Ok (sym is), ap (λ (r : Reply). r.session.layout) h)
+      go (Err e) h = let z = ap (λ (r : Reply). r.answer) h in absurd (clash (cc))
 
-  module _ (m : Mark) (e : (open_of o).outcome ≡ opening.Free m) where
+  module _ (m : Mark) (e : (open_of o).outcome ≡ Ok m) where
     checked : sound_b (open_of o).layout ≡ true
     checked = let z = opened-so o m e in rw z.1 (sound-shown _ (fresh-sized o) (fresh-sound o z.0))
 

@@ -4,6 +4,7 @@
 use mathlib.Core.Path.{◌≡◌, refl, sym}
 use mathlib.Core.Option.{Option, none, some}
 use Prim.Native.Nat.{ℕ, ◌+◌, ◌-◌, ◌≤◌}
+use Rattle.std.specs.Prelude.{Ok}
 use Rattle.piece.specs.declared.size.Size.{Size}
 use Rattle.piece.specs.declared.rotation.Rotation.{Rotation}
 use Rattle.piece.specs.declared.parttype.PartType.{PartType}
@@ -19,7 +20,6 @@ use Rattle.booking.specs.Book.{booked_nodes}
 use Rattle.marks.specs.declared.Mark.{Mark}
 use Rattle.marks.specs.declared.Refusal.{Refusal}
 use Rattle.layout.specs.declared.layout.Layout.{Layout}
-use Rattle.layout.specs.declared.replies.Outcome.TheVariants.{Done}
 use Rattle.layout.specs.declared.insert.Inserted.{Inserted}
 use Rattle.layout.specs.declared.remove.Removed.{Removed}
 use Rattle.layout.specs.SoundLayout.{Sized}
@@ -46,7 +46,7 @@ module _ (l : Layout) (m : Mark) (p : PartType) (r : Rotation) (s : InsertionSha
   answer : Inserted
   answer =
       record {
-        outcome = Done;
+        outcome = Ok tt;
         marks = new_marks l.number (those made.new);
         layout = with_nodes l made.nodes (l.held - 1 + new_nodes s) (l.used + area size) (l.serial + new_nodes s);
       }

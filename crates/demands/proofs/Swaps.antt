@@ -9,6 +9,7 @@ use mathlib.Core.Option.{none}
 use Prim.Native.Nat.{ℕ, ◌+◌, ◌-◌, ◌≤◌}
 use native.Mathlib.Omega.{arith}
 use borrow.Author.Tests.{le-leb, leb-true}
+use Rattle.std.specs.Prelude.{Err}
 use Rattle.piece.specs.declared.rotation.Rotation.{Rotation}
 use Rattle.piece.specs.declared.parttype.PartType.{PartType}
 use Rattle.piece.specs.declared.node.Datum.{Datum}
@@ -25,7 +26,6 @@ use Rattle.tree.proofs.Others.{alone-inside}
 use Rattle.marks.specs.declared.Mark.{Mark}
 use Rattle.marks.specs.declared.Refusal.TheVariants.{TooManyNodes}
 use Rattle.layout.specs.declared.layout.Layout.{Layout}
-use Rattle.layout.specs.declared.replies.Outcome.TheVariants.{Refused}
 use Rattle.layout.specs.declared.insert.Inserted.{Inserted}
 use Rattle.layout.specs.declared.remove.Removed.{Removed}
 use Rattle.layout.specs.Check.{limit, max_serial, tree}
@@ -120,7 +120,7 @@ unfolding RemoveSays
 remove-none l m room a h says = let d : RemoveDone l m.place a = rw h at says in record { says = says; done = d.outcome }
 
 insert-eight : (l : Layout) (m : Mark) (p : PartType) (r : Rotation) (s : InsertionShape) (a : Inserted) → OnlyEight (insert_no l m p r s)
-    → InsertSays l m p r s a → InsertAccepted l m p r s a ⊎ (a.outcome ≡ Refused TooManyNodes)
+    → InsertSays l m p r s a → InsertAccepted l m p r s a ⊎ (a.outcome ≡ Err TooManyNodes)
 insert-eight l m p r s a (inl h) says = inl (insert-none l m p r s a h says)
 insert-eight l m p r s a (inr h) says = inr (ap (λ (x : Inserted). x.outcome) (refused-insert l m p r s a TooManyNodes h says))
 
@@ -206,7 +206,7 @@ module _ (l : Layout) (sized : Sized l) (m : Mark) (p : PartType) (r : Rotation)
   -- the removal first: that they are apart follows; the booking, when it comes first, may be refused with 8
   pub remove-insert : NamesPiece l m → (a : Removed) (b c : Inserted) (d : Removed) → RemoveAccepted l m' room a → InsertAccepted a.layout m p r s b
       → InsertSays l m p r s c → RemoveSays c.layout m' room d
-      → (c.outcome ≡ Refused TooManyNodes)
+      → (c.outcome ≡ Err TooManyNodes)
       ⊎ (InsertAccepted l m p r s c × RemoveAccepted c.layout m' room d × SameTree b.layout d.layout)
   remove-insert named a b c d one two says after =
       let q : Two l R B a.layout b.layout = record { sized = sized; one = (a, one, refl); two = (b, two, refl); named = named } in

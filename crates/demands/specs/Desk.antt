@@ -1,12 +1,10 @@
 -- Demand 1 at the desk (docs/DESK.md). Three of the desk's questions write marks too: the room light, and the two lists by position. Tidying writes none, and
 -- changes the layout. Here is what their law is said with.
 use mathlib.Core.List.{List, [], ◌∷◌, Memᴰ}
+use Rattle.std.specs.Prelude.{Result, Ok, Err, Some, None, Option}
 use Rattle.marks.specs.declared.Mark.{Mark}
 use Rattle.layout.specs.declared.layout.Layout.{Layout}
-use Rattle.questions.specs.declared.replies.LightAnswer.{LightAnswer}
-use Rattle.questions.specs.declared.replies.LightAnswer.TheVariants as lights
-use Rattle.questions.specs.declared.replies.MarkAnswer.{MarkAnswer}
-use Rattle.questions.specs.declared.replies.MarkAnswer.TheVariants as marks
+use Rattle.marks.specs.declared.Refusal.{Refusal}
 use Rattle.questions.specs.Answers.{free_mark_of, removable_mark_of}
 use Rattle.questions.specs.Light.{light_of}
 use Rattle.frames.specs.declared.Request.{Request}
@@ -20,14 +18,14 @@ use Rattle.desk_frames.specs.Desk.{DeskAnswer, counters}
 use Rattle.demands.specs.Counter.{marks_written}
 
 -- the mark that the light names, and the one at a position
-abbrev pub mark_lit : LightAnswer → List Mark
-mark_lit (lights.Room m) = m ∷ []
-mark_lit lights.NoRoom = []
-mark_lit (lights.Refused e) = []
+abbrev pub mark_lit : Result (Option Mark) Refusal → List Mark
+mark_lit (Ok (Some m)) = m ∷ []
+mark_lit (Ok None) = []
+mark_lit (Err e) = []
 
-abbrev pub mark_listed : MarkAnswer → List Mark
-mark_listed (marks.Found m) = m ∷ []
-mark_listed (marks.Refused e) = []
+abbrev pub mark_listed : Result Mark Refusal → List Mark
+mark_listed (Ok m) = m ∷ []
+mark_listed (Err e) = []
 
 -- the marks that the answer to a question writes
 abbrev pub marks_told : Layout → Question → List Mark

@@ -4,7 +4,7 @@
 --
 -- A second opening of the same number begins another life: its serials start at 1 again, so that a snapshot kept from the first one would revive
 -- its marks. Document 01 speaks of a layout that is opened once, and so do the theorems.
-use Rattle.std.specs.Prelude.{◌≡◌, ◌⊎◌, ℕ, take}
+use Rattle.std.specs.Prelude.{◌≡◌, ◌⊎◌, ℕ, take, Ok}
 use mathlib.Core.List.{List, [], ◌∷◌, Memᴰ}
 use Rattle.piece.specs.declared.rotation.Rotation.{Rotation}
 use Rattle.piece.specs.declared.parttype.PartType.{PartType}
@@ -15,8 +15,6 @@ use Rattle.tree.specs.Tree.{At}
 use Rattle.tree.specs.Family.{parent_of}
 use Rattle.marks.specs.declared.Mark.{Mark}
 use Rattle.layout.specs.declared.layout.Layout.{Layout}
-use Rattle.layout.specs.declared.open.OpenOutcome.TheVariants.{Free}
-use Rattle.layout.specs.declared.replies.Outcome.TheVariants.{Done}
 use Rattle.layout.specs.declared.insert.Inserted.{Inserted}
 use Rattle.layout.specs.declared.remove.Removed.{Removed}
 use Rattle.layout.specs.declared.tidy.Tidied.{Tidied}
@@ -27,7 +25,6 @@ use Rattle.layout.specs.Insert.{InsertSays, piece_at}
 use Rattle.layout.specs.Remove.{RemoveSays}
 use Rattle.layout.specs.Tidy.{TidySays}
 use Rattle.layout.specs.Restore.{restore_of}
-use Rattle.questions.specs.declared.replies.MarkAnswer.TheVariants.{Found}
 use Rattle.questions.specs.Answers.{free_mark_of, removable_mark_of}
 
 -- l is one of the states
@@ -36,7 +33,7 @@ OneOf l [] = ⊥
 OneOf l (k ∷ ks) = (l ≡ k) ⊎ OneOf l ks
 
 pub data Life : List Layout → Type 0 where
-  opened : (o : Opening) (m : Mark) → (open_of o).outcome ≡ Free m
+  opened : (o : Opening) (m : Mark) → (open_of o).outcome ≡ Ok m
       → Life ((open_of o).layout ∷ [])
   inserted : (l : Layout) (ls : List Layout) → Life (l ∷ ls) → (m : Mark) (p : PartType) (r : Rotation) (s : InsertionShape) (a : Inserted)
       → InsertSays l m p r s a → Life (a.layout ∷ l ∷ ls)
@@ -81,14 +78,14 @@ pub record SamePiece (k l : Layout) (m : Mark) : Type 0 where
 
 -- the mark m was answered by a call that gave the state l, or that was asked in it: every way to get a mark. (Sized is what the type of a layout says.)
 pub data Given : Layout → Mark → Type 0 where
-  by_open : (o : Opening) (m : Mark) → (open_of o).outcome ≡ Free m
+  by_open : (o : Opening) (m : Mark) → (open_of o).outcome ≡ Ok m
       → Given (open_of o).layout m
   by_insert_first : (l : Layout) (m : Mark) (p : PartType) (r : Rotation) (s : InsertionShape) (a : Inserted) → Sized l → InsertSays l m p r s a
-      → a.outcome ≡ Done → Given a.layout a.marks.first
+      → a.outcome ≡ Ok tt → Given a.layout a.marks.first
   by_insert_part : (l : Layout) (m : Mark) (p : PartType) (r : Rotation) (s : InsertionShape) (a : Inserted) → Sized l → InsertSays l m p r s a
-      → a.outcome ≡ Done → Given a.layout a.marks.part
+      → a.outcome ≡ Ok tt → Given a.layout a.marks.part
   by_insert_free : (l : Layout) (m : Mark) (p : PartType) (r : Rotation) (s : InsertionShape) (a : Inserted) → Sized l → InsertSays l m p r s a
-      → a.outcome ≡ Done → (k : Mark) → Memᴰ k (take a.marks.count a.marks.frees) → Given a.layout k
-  by_remove : (l : Layout) (m : Mark) (room : ℕ) (a : Removed) → Sized l → RemoveSays l m room a → a.outcome ≡ Done → Given a.layout a.free
-  by_free_list : (l : Layout) (k : ℕ) (m : Mark) → free_mark_of l k ≡ Found m → Given l m
-  by_removable_list : (l : Layout) (k : ℕ) (m : Mark) → removable_mark_of l k ≡ Found m → Given l m
+      → a.outcome ≡ Ok tt → (k : Mark) → Memᴰ k (take a.marks.count a.marks.frees) → Given a.layout k
+  by_remove : (l : Layout) (m : Mark) (room : ℕ) (a : Removed) → Sized l → RemoveSays l m room a → a.outcome ≡ Ok tt → Given a.layout a.free
+  by_free_list : (l : Layout) (k : ℕ) (m : Mark) → free_mark_of l k ≡ Ok m → Given l m
+  by_removable_list : (l : Layout) (k : ℕ) (m : Mark) → removable_mark_of l k ≡ Ok m → Given l m

@@ -12,6 +12,7 @@ use lib.Ieee.Bits.{to_bits-lt, of_bits-fits}
 use lib.Ieee.Fits.{div-fits}
 use lib.ListN.{length, get_or}
 use borrow.Author.Tests.{ltb-true}
+use Rattle.std.specs.Prelude.{Result, Ok, Err, None, ⊤, Some, None}
 use Rattle.piece.specs.declared.orientation.Orientation.{Orientation}
 use Rattle.piece.specs.declared.node.Datum.{Datum}
 use Rattle.piece.specs.declared.node.Kind.{Kind}
@@ -33,8 +34,7 @@ use Rattle.walks.specs.Along.{numbers_along, below}
 use Rattle.marks.specs.declared.Refusal.TheVariants as refusals
 use Rattle.marks.specs.Marks.{zero_mark}
 use Rattle.layout.specs.declared.layout.Layout.{Layout}
-use Rattle.layout.specs.declared.replies.Outcome.{Outcome}
-use Rattle.layout.specs.declared.replies.Outcome.TheVariants as outcomes
+use Rattle.marks.specs.declared.Refusal.{Refusal}
 use Rattle.layout.specs.Asked.{part_b}
 use Rattle.layout.specs.declared.tidy.Tidied.{Tidied}
 use Rattle.layout.specs.Check.{limit, tree, sound_b}
@@ -44,10 +44,8 @@ use Rattle.layout.proofs.Areas.{used-small}
 use Rattle.layout.proofs.Exactly.{sound-says}
 use Rattle.layout.proofs.Listed.{piece-low, piece_is}
 use Rattle.questions.specs.declared.reason.Reason.{Reason}
+use Rattle.questions.specs.declared.why_not.Reasons.{Reasons}
 use Rattle.questions.specs.declared.reason.Reason.TheVariants.{Forbidden, TooWide, TooTall, TooWideAndTall, StagesUsedUp, Offered}
-use Rattle.questions.specs.declared.replies.AreaAnswer.TheVariants as areas
-use Rattle.questions.specs.declared.replies.LightAnswer.TheVariants as lights
-use Rattle.questions.specs.declared.replies.MarkAnswer.TheVariants as marks
 use Rattle.questions.specs.Answers.{all_free, eaten_area_of, mark_of, mark_at_position, free_mark_of, removable_mark_of}
 use Rattle.questions.specs.Light.{first_offering, light_at, light_of}
 use Rattle.questions.specs.Reasons.{reason_no}
@@ -73,7 +71,7 @@ use Rattle.session.proofs.Fits.{answer-read}
 use Rattle.desk_frames.specs.declared.Question.{Question}
 use Rattle.desk_frames.specs.declared.Question.TheVariants.{WhyNot, RoomLight, FreePiece, RemovablePiece, PartNumbers, Figures, Snapshot, Cuts, EatenArea, Amounts}
 use Rattle.desk_frames.specs.declared.DeskRequest.{DeskRequest}
-use Rattle.desk_frames.specs.Answers.{Found, found, refused_with, if_sound, why_by, light_found, mark_found, area_found, numbers_bytes, figures_bytes, figures_of, yes_no}
+use Rattle.desk_frames.specs.Answers.{Found, found, refused_with, if_sound, reasons_found, light_found, mark_found, area_found, numbers_bytes, figures_bytes, figures_of, yes_no}
 use Rattle.desk_frames.specs.Answers.{snapshot_found, cuts_found, amounts_found, found_in, question_op, tidy_found, tidy_op, content_for}
 use Rattle.desk_frames.specs.Ranges.{DeskRequestFits}
 use Rattle.desk_frames.specs.Desk.{DeskAnswer, desk_content, DeskAnswers, at-counter, question, tidying}
@@ -224,9 +222,9 @@ content-bytes : (op : ℕ) (f : Found) → op < 256 → BytesIn f → AreBytes (
 content-bytes op (found bs) h e = begun h (omega arith) e
 content-bytes op (refused_with r) h e = begun h (refusal-small r) no_bytes
 
-why-bytes : (v : Outcome) (bs : List ℕ) → AreBytes bs → BytesIn (why_by v bs)
-why-bytes outcomes.Done bs e = e
-why-bytes (outcomes.Refused r) bs e = tt
+why-bytes : (v : Result Reasons Refusal) → BytesIn (reasons_found v)
+why-bytes (Ok w) = then (reason-small w.default) (then (reason-small w.rotated) no_bytes)
+why-bytes (Err r) = tt
 
 question-small : (q : Question) → question_op q < 256
 question-small (WhyNot mark part) = omega arith
@@ -270,12 +268,12 @@ module _ (l : Layout) (sized : Sized l) (number : l.number < 2 ^ 16) where
   light-bytes part = go (sound_b l) refl (part_b part)
     where
       named : sound_b l ≡ true → (k : ℕ) (b : Bool) → ltb k l.frees ≡ b
-          → BytesIn (light_found (cond b (lights.Room (mark_of l (get_or l.free k 0))) lights.NoRoom))
+          → BytesIn (light_found (cond b (Ok (Some (mark_of l (get_or l.free k 0)))) (Ok None)))
       named ok k true e = then (omega arith) (are-mark (mark_of l (get_or l.free k 0)) (free_bytes ok k (ltb-true k l.frees e)))
       named ok k false e = then (omega arith) (are-mark zero_mark (record { layout = omega arith; place = omega arith; serial = omega arith }))
 
       go : (b : Bool) → sound_b l ≡ b → (c : Bool)
-          → BytesIn (light_found (cond b (cond c (light_at l (first_offering l part)) (lights.Refused refusals.PartOutside)) (lights.Refused refusals.NotSound)))
+          → BytesIn (light_found (cond b (cond c (light_at l (first_offering l part)) (Err refusals.PartOutside)) (Err refusals.NotSound)))
       go true ok true = named ok (first_offering l part) (ltb (first_offering l part) l.frees) refl
       go true ok false = tt
       go false ok c = tt
@@ -284,7 +282,7 @@ module _ (l : Layout) (sized : Sized l) (number : l.number < 2 ^ 16) where
   mark-bytes list n k f = go (sound_b l) refl (ltb k n) refl
     where
       go : (b : Bool) → sound_b l ≡ b → (c : Bool) → ltb k n ≡ c
-          → BytesIn (mark_found (cond b (cond c (marks.Found (mark_of l (get_or list k 0))) (marks.Refused refusals.PastTheEnd)) (marks.Refused refusals.NotSound)))
+          → BytesIn (mark_found (cond b (cond c (Ok (mark_of l (get_or list k 0))) (Err refusals.PastTheEnd)) (Err refusals.NotSound)))
       go true ok true h = are-mark (mark_of l (get_or list k 0)) (f ok (ltb-true k n h))
       go true ok false h = tt
       go false ok c h = tt
@@ -325,14 +323,13 @@ module _ (l : Layout) (sized : Sized l) (number : l.number < 2 ^ 16) where
   unfolding eaten_area_of
   eaten-bytes = go (sound_b l) refl
     where
-      go : (b : Bool) → sound_b l ≡ b → BytesIn (area_found (cond b (areas.Area (eaten_area (tree l))) (areas.Refused refusals.NotSound)))
+      go : (b : Bool) → sound_b l ≡ b → BytesIn (area_found (cond b (Ok (eaten_area (tree l))) (Err refusals.NotSound)))
       go true ok = let s = sound-says l sized ok in are-eight (eaten_area (tree l)) (omega (arith, strips-are l s, strips-small l s))
       go false ok = tt
 
   found-bytes : (q : Question) → BytesIn (found_in l q)
   unfolding found_in free_mark_of removable_mark_of
-  found-bytes (WhyNot mark part) =
-      let a = why_call l mark part in why-bytes a.outcome _ (then (reason-small a.default) (then (reason-small a.rotated) no_bytes))
+  found-bytes (WhyNot mark part) = why-bytes (why_call l mark part)
   found-bytes (RoomLight part) = light-bytes part
   found-bytes (FreePiece k) = mark-bytes l.free l.frees k (λ ok h. free_bytes ok k h)
   found-bytes (RemovablePiece k) = mark-bytes l.removable l.removables k (λ ok h. removable-bytes ok k h)
@@ -351,9 +348,9 @@ module _ (l : Layout) (sized : Sized l) (number : l.number < 2 ^ 16) where
   question-back q = content-back (question-fits q)
 
   -- and so is that of a tidying: there are fewer structures than places
-  tidy-bytes : (v : Outcome) (k : ℕ) → k < 2 ^ 16 → BytesIn (tidy_found v k)
-  tidy-bytes outcomes.Done k h = are-two k h
-  tidy-bytes (outcomes.Refused e) k h = tt
+  tidy-bytes : (v : Result ⊤ Refusal) (k : ℕ) → k < 2 ^ 16 → BytesIn (tidy_found v k)
+  tidy-bytes (Ok tt) k h = are-two k h
+  tidy-bytes (Err e) k h = tt
 
   pub tidy-back : (d : Tidied) → TidySays l d
       → pairs (chars_of (framed (content_for tidy_op (tidy_found d.outcome d.count)))) ≡ framed (content_for tidy_op (tidy_found d.outcome d.count))

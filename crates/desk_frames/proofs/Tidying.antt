@@ -5,11 +5,10 @@ use mathlib.Core.Bool.{Bool, true, false, cond}
 use mathlib.Core.Option.{Option, none, some}
 use Prim.Native.Nat.{ℕ, ◌^◌, ◌<◌}
 use native.Mathlib.Omega.{arith}
+use Rattle.std.specs.Prelude.{Result, Ok, Err, ⊤}
 use Rattle.marks.specs.declared.Refusal.{Refusal}
 use Rattle.marks.specs.declared.Refusal.TheVariants.{NotSound}
 use Rattle.layout.specs.declared.layout.Layout.{Layout}
-use Rattle.layout.specs.declared.replies.Outcome.{Outcome}
-use Rattle.layout.specs.declared.replies.Outcome.TheVariants.{Done, Refused}
 use Rattle.layout.specs.declared.tidy.Tidied.{Tidied}
 use Rattle.layout.specs.Check.{tree, sound_b}
 use Rattle.layout.specs.SoundLayout.{Sized}
@@ -35,10 +34,10 @@ not-refused l h = passed (sound_b l) _ h
 pub tidy-leaves : (l : Layout) (d : Tidied) → Sized l → TidySays l d → TidyLeaves l d
 tidy-leaves l d sized says = go d.outcome refl
   where
-    go : (v : Outcome) → d.outcome ≡ v → TidyLeaves l d
-    go Done e =
+    go : (v : Result ⊤ Refusal) → d.outcome ≡ v → TidyLeaves l d
+    go (Ok tt) e =
         let a = tidy-accepted l d says e in
         let s = sound-says l sized (not-refused l a.0) in
         let m = chain-means s sized a.1.tidies in
         record { sized = m.sized; number = m.number; count = omega (arith, m.count, empties-most (tree l), s.sound.room) }
-    go (Refused r) e = rw (tidy-refused l d says r e).1 (record { sized = sized; number = refl; count = omega arith })
+    go (Err r) e = rw (tidy-refused l d says r e).1 (record { sized = sized; number = refl; count = omega arith })

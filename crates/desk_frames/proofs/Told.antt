@@ -8,20 +8,17 @@ use lib.Dec.{leb}
 use lib.ListN.{length, take, length-replicate}
 use lib.Seq.{sets, length-sets}
 use borrow.Author.Tests.{leb-true, le-leb}
+use Rattle.std.specs.Prelude.{Result, Ok, Err}
 use Rattle.lists.specs.Lists.{zeros}
 use Rattle.tree.specs.Tree.{count}
 use Rattle.marks.specs.declared.Refusal.{Refusal}
 use Rattle.marks.specs.declared.Refusal.TheVariants.{NotSound, BufferTooShort}
 use Rattle.layout.specs.declared.layout.Layout.{Layout}
-use Rattle.layout.specs.declared.replies.Outcome.TheVariants as outcomes
-use Rattle.layout.specs.declared.replies.Outcome.TheVariants.{Done}
 use Rattle.layout.specs.Check.{limit, tree, sound_b}
 use Rattle.layout.specs.SoundLayout.{Sized}
 use Rattle.layout.proofs.Exactly.{sound-says}
-use Rattle.questions.specs.declared.why_not.WhyAnswer.{WhyAnswer}
+use Rattle.questions.specs.declared.why_not.Reasons.{Reasons}
 use Rattle.questions.specs.Reasons.{reason_no}
-use Rattle.questions.specs.declared.replies.CountAnswer.{CountAnswer}
-use Rattle.questions.specs.declared.replies.CountAnswer.TheVariants.{Count, Refused}
 use Rattle.questions.specs.Written.{answer_to, left_in_buffer, snapshot_bytes, held_numbers}
 use Rattle.questions.proofs.Lent.{numbers-room}
 use Rattle.questions.proofs.Snapshots.{snapshot-length}
@@ -51,12 +48,8 @@ line-room {before} {content} {after} {n} y = ap length y.line ∙ length-sets be
 
 -- ---- the reasons
 
-pub reasons-found : {a b : WhyAnswer} {x y : ℕ} → a ≡ b → a.outcome ≡ Done → x ≡ reason_no a.default → y ≡ reason_no a.rotated
-    → found (x ∷ y ∷ []) ≡ reasons_found b
-reasons-found e h f g = rw (← e, h, f, g) refl
-
-pub why-refused : {a b : WhyAnswer} {r : Refusal} → a ≡ b → a.outcome ≡ outcomes.Refused r → refused_with r ≡ reasons_found b
-why-refused e h = rw (← e, h) refl
+pub reasons-found : (w : Reasons) {x y : ℕ} → x ≡ reason_no w.default → y ≡ reason_no w.rotated → found (x ∷ y ∷ []) ≡ reasons_found (Ok w)
+reasons-found w f g = rw (f, g) refl
 
 -- ---- where only refusal 1 can be given
 
@@ -72,10 +65,10 @@ pub counted-bytes : {k m : ℕ} {x y : List ℕ} → k ≡ m → x ≡ y → two
 counted-bytes e f = rw (e, f) refl
 
 -- a call that is to write `what` into a buffer of zeros
-module _ (l : Layout) (what : List ℕ) (room : ℕ) (after : List ℕ) {r : CountAnswer}
+module _ (l : Layout) (what : List ℕ) (room : ℕ) (after : List ℕ) {r : Result ℕ Refusal}
     (leaves : after ≡ left_in_buffer l what (zeros room)) (answers : r ≡ answer_to l what (length (zeros room))) where
   -- its count is that of what is written, which then stands first
-  pub lent-count : {n : ℕ} → r ≡ Count n → (sound_b l ≡ true) × (n ≡ length what) × (n ≤ length after) × (take n after ≡ what)
+  pub lent-count : {n : ℕ} → r ≡ Ok n → (sound_b l ≡ true) × (n ≡ length what) × (n ≤ length after) × (take n after ≡ what)
   lent-count {n} h =
       let before = zeros room in
       let w =
@@ -84,15 +77,15 @@ module _ (l : Layout) (what : List ℕ) (room : ℕ) (after : List ℕ) {r : Cou
       (w.0, w.2, omega (arith, w.2, ap length w.3, length-sets before 0 what), rw (w.3, w.2) (take-stored what before (length what) refl fits))
 
   -- with room for all, it is refused only where the layout isn't sound
-  pub lent-refused : (sound_b l ≡ true → length what ≤ room) → {e : Refusal} → r ≡ Refused e → (sound_b l ≡ false) × (e ≡ NotSound)
+  pub lent-refused : (sound_b l ≡ true → length what ≤ room) → {e : Refusal} → r ≡ Err e → (sound_b l ≡ false) × (e ≡ NotSound)
   lent-refused enough {e} h = go (sound_b l) enough (sym h ∙ answers)
     where
       go : (b : Bool) → (b ≡ true → length what ≤ room)
-          → Refused e ≡ cond b (cond (leb (length what) (length (zeros room))) (Count (length what)) (Refused BufferTooShort)) (Refused NotSound)
+          → Err e ≡ cond b (cond (leb (length what) (length (zeros room))) (Ok (length what)) (Err BufferTooShort)) (Err NotSound)
           → (b ≡ false) × (e ≡ NotSound)
       go true fits f =
           let long : length what ≤ length (zeros room) = omega (arith, fits refl, length-replicate {A = ℕ} room 0) in
-          let g : Refused e ≡ Count (length what) = rw (le-leb (length what) (length (zeros room)) long) at f in
+          let g : Err e ≡ Ok (length what) = rw (le-leb (length what) (length (zeros room)) long) at f in
           let z : ◌≡◌ {A = ℕ} 0 1 = cc in
           absurd (omega arith)
       go false fits f = (refl, cc)

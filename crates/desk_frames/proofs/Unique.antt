@@ -5,9 +5,10 @@ use mathlib.Core.List.{List}
 use Prim.Native.Nat.{ℕ}
 use lib.ListN.{length}
 use lib.Seq.{sets}
+use Rattle.std.specs.Prelude.{Result, ⊤}
 use Rattle.layout.proofs.Determined.{only}
 use Rattle.layout.specs.declared.layout.Layout.{Layout}
-use Rattle.layout.specs.declared.replies.Outcome.{Outcome}
+use Rattle.marks.specs.declared.Refusal.{Refusal}
 use Rattle.lines.specs.Stream.{Fed}
 use Rattle.frames.specs.Writing.{line_for, LinePut}
 use Rattle.session.specs.declared.Session.{Session}
@@ -33,7 +34,7 @@ module _ (before a b : List ℕ) where
   answer-is-one l q n m = same_line refl
 
   -- ---- what is answered to a tidying
-  pub tidied-is-one : (v : Outcome) (k n m : ℕ) → LinePut before (content_for tidy_op (tidy_found v k)) a n
+  pub tidied-is-one : (v : Result ⊤ Refusal) (k n m : ℕ) → LinePut before (content_for tidy_op (tidy_found v k)) a n
       → LinePut before (content_for tidy_op (tidy_found v k)) b m → (a ≡ b) × (n ≡ m)
   tidied-is-one v k n m = same_line refl
 

@@ -1,6 +1,6 @@
 -- docs/DESK.md, "What is answered": what each question finds in a layout, and what tidying gives, as the bytes behind the op and 00, or the refusal. The rules
 -- are those of the calls that the ops are for (`questions`, `saw`, `layout`).
-use Rattle.std.specs.Prelude.{Bool, cond, List, [], ◌∷◌, ◌++◌, ℕ, length}
+use Rattle.std.specs.Prelude.{Bool, cond, List, [], ◌∷◌, ◌++◌, ℕ, length, Result, Ok, Err, Some, None, ⊤, Option}
 use Rattle.std.specs.Float.{binary64}
 use Rattle.std.specs.Float.Ieee.{to_bits}
 use Rattle.piece.specs.Sides.{area}
@@ -11,16 +11,9 @@ use Rattle.marks.specs.declared.Refusal.{Refusal}
 use Rattle.marks.specs.declared.Refusal.TheVariants.{NotSound}
 use Rattle.marks.specs.Refusals.{refusal_no}
 use Rattle.layout.specs.declared.layout.Layout.{Layout}
-use Rattle.layout.specs.declared.replies.Outcome.{Outcome}
-use Rattle.layout.specs.declared.replies.Outcome.TheVariants as outcomes
+use Rattle.marks.specs.declared.Mark.{Mark}
 use Rattle.layout.specs.Check.{tree, sound_b}
-use Rattle.questions.specs.declared.replies.AreaAnswer.{AreaAnswer}
-use Rattle.questions.specs.declared.replies.AreaAnswer.TheVariants as areas
-use Rattle.questions.specs.declared.replies.LightAnswer.{LightAnswer}
-use Rattle.questions.specs.declared.replies.LightAnswer.TheVariants as lights
-use Rattle.questions.specs.declared.replies.MarkAnswer.{MarkAnswer}
-use Rattle.questions.specs.declared.replies.MarkAnswer.TheVariants as marks
-use Rattle.questions.specs.declared.why_not.WhyAnswer.{WhyAnswer}
+use Rattle.questions.specs.declared.why_not.Reasons.{Reasons}
 use Rattle.questions.specs.Answers.{all_free, eaten_area_of, free_mark_of, removable_mark_of}
 use Rattle.questions.specs.Light.{light_of}
 use Rattle.questions.specs.Reasons.{reason_no}
@@ -46,28 +39,25 @@ abbrev pub if_sound : Layout → List ℕ → Found
 if_sound l bs = cond (sound_b l) (found bs) (refused_with NotSound)
 
 -- "reason in rotation Default 1, reason in rotation Rotated 1": refusals 1, 3, 4, 5, 6
-abbrev pub why_by : Outcome → List ℕ → Found
-why_by outcomes.Done bs = found bs
-why_by (outcomes.Refused e) bs = refused_with e
-
-abbrev pub reasons_found : WhyAnswer → Found
-reasons_found a = why_by a.outcome (reason_no a.default ∷ reason_no a.rotated ∷ [])
+abbrev pub reasons_found : Result Reasons Refusal → Found
+reasons_found (Ok w) = found (reason_no w.default ∷ reason_no w.rotated ∷ [])
+reasons_found (Err e) = refused_with e
 
 -- "01 and its mark 7; or 00 and seven zero bytes": refusals 1, 3
-abbrev pub light_found : LightAnswer → Found
-light_found (lights.Room m) = found (1 ∷ mark_bytes m)
-light_found lights.NoRoom = found (0 ∷ mark_bytes zero_mark)
-light_found (lights.Refused e) = refused_with e
+abbrev pub light_found : Result (Option Mark) Refusal → Found
+light_found (Ok (Some m)) = found (1 ∷ mark_bytes m)
+light_found (Ok None) = found (0 ∷ mark_bytes zero_mark)
+light_found (Err e) = refused_with e
 
 -- "mark 7": refusals 1, 12
-abbrev pub mark_found : MarkAnswer → Found
-mark_found (marks.Found m) = found (mark_bytes m)
-mark_found (marks.Refused e) = refused_with e
+abbrev pub mark_found : Result Mark Refusal → Found
+mark_found (Ok m) = found (mark_bytes m)
+mark_found (Err e) = refused_with e
 
 -- "area 8": refusal 1
-abbrev pub area_found : AreaAnswer → Found
-area_found (areas.Area a) = found (eight a)
-area_found (areas.Refused e) = refused_with e
+abbrev pub area_found : Result ℕ Refusal → Found
+area_found (Ok a) = found (eight a)
+area_found (Err e) = refused_with e
 
 -- "how many 2; part number 2 each"
 abbrev pub numbers_bytes : List ℕ → List ℕ
@@ -134,9 +124,9 @@ question_op EatenArea = 25
 question_op Amounts = 26
 
 -- of tidying, the answer is "how many 2": refusals 1, 9
-abbrev pub tidy_found : Outcome → ℕ → Found
-tidy_found outcomes.Done count = found (two count)
-tidy_found (outcomes.Refused e) count = refused_with e
+abbrev pub tidy_found : Result ⊤ Refusal → ℕ → Found
+tidy_found (Ok tt) count = found (two count)
+tidy_found (Err e) count = refused_with e
 
 abbrev pub tidy_op : ℕ
 tidy_op = 27

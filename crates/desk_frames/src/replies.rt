@@ -15,12 +15,8 @@ use crate::write::FigureList;
 use crate::{Question, write};
 use frames::write::refused;
 use layout::layout::Layout;
-use layout::replies::Outcome;
 use marks::{Mark, Refusal};
 use piece::parttype::PartType;
-use questions::replies::{
-    AreaAnswer, CountAnswer, EmptyAnswer, LightAnswer, MarkAnswer, UsageAnswer,
-};
 use table::LIMIT;
 
 // The bytes of a node of a snapshot, and of a cut.
@@ -32,13 +28,9 @@ fn why_not(layout: Layout, mark: Mark, part: PartType, out: &mut [u8]) -> usize
     requires { desk_longest ≤ length out.old }
     ensures { Tells layout (questions.WhyNot mark part) out.old out.new result }
 {
-    let answer = questions::why_not::why_not(layout, mark, part);
-    let default = answer.default;
-    let rotated = answer.rotated;
-    let outcome = answer.outcome;
-    match outcome {
-        Outcome::Done => write::pair(out, WHY_NOT, default.number(), rotated.number()),
-        Outcome::Refused(refusal) => refused(out, WHY_NOT, refusal),
+    match questions::why_not::why_not(layout, mark, part) {
+        Ok(reasons) => write::pair(out, WHY_NOT, reasons.default.into(), reasons.rotated.into()),
+        Err(refusal) => refused(out, WHY_NOT, refusal),
     }
 }
 
@@ -47,9 +39,9 @@ fn room_light(layout: Layout, part: PartType, out: &mut [u8]) -> usize
     ensures { Tells layout (questions.RoomLight part) out.old out.new result }
 {
     match questions::room::room_light(layout, part) {
-        LightAnswer::Room(mark) => write::light(out, ROOM_LIGHT, 1, mark),
-        LightAnswer::NoRoom => write::light(out, ROOM_LIGHT, 0, Mark::zero()),
-        LightAnswer::Refused(refusal) => refused(out, ROOM_LIGHT, refusal),
+        Ok(Some(mark)) => write::light(out, ROOM_LIGHT, 1, mark),
+        Ok(None) => write::light(out, ROOM_LIGHT, 0, Mark::zero()),
+        Err(refusal) => refused(out, ROOM_LIGHT, refusal),
     }
 }
 
@@ -58,8 +50,8 @@ fn free_piece(layout: Layout, position: u16, out: &mut [u8]) -> usize
     ensures { Tells layout (questions.FreePiece position) out.old out.new result }
 {
     match questions::positions::free_mark(layout, position) {
-        MarkAnswer::Found(mark) => write::mark(out, FREE_PIECE, mark),
-        MarkAnswer::Refused(refusal) => refused(out, FREE_PIECE, refusal),
+        Ok(mark) => write::mark(out, FREE_PIECE, mark),
+        Err(refusal) => refused(out, FREE_PIECE, refusal),
     }
 }
 
@@ -68,8 +60,8 @@ fn removable_piece(layout: Layout, position: u16, out: &mut [u8]) -> usize
     ensures { Tells layout (questions.RemovablePiece position) out.old out.new result }
 {
     match questions::positions::removable_mark(layout, position) {
-        MarkAnswer::Found(mark) => write::mark(out, REMOVABLE_PIECE, mark),
-        MarkAnswer::Refused(refusal) => refused(out, REMOVABLE_PIECE, refusal),
+        Ok(mark) => write::mark(out, REMOVABLE_PIECE, mark),
+        Err(refusal) => refused(out, REMOVABLE_PIECE, refusal),
     }
 }
 
@@ -80,8 +72,8 @@ fn part_numbers(layout: Layout, out: &mut [u8]) -> usize
 {
     let mut numbers = [0u16; LIMIT];
     match questions::written::part_numbers(layout, &mut numbers) {
-        CountAnswer::Count(count) => write::numbers(out, PART_NUMBERS, &numbers, count),
-        CountAnswer::Refused(refusal) => refused(out, PART_NUMBERS, refusal),
+        Ok(count) => write::numbers(out, PART_NUMBERS, &numbers, count),
+        Err(refusal) => refused(out, PART_NUMBERS, refusal),
     }
 }
 
@@ -97,22 +89,22 @@ fn figures(layout: Layout, out: &mut [u8]) -> usize
     requires { desk_longest ≤ length out.old }
     ensures { Tells layout questions.Figures out.old out.new result }
 {
-    let AreaAnswer::Area(used) = questions::figures::used_area(layout) else {
+    let Ok(used) = questions::figures::used_area(layout) else {
         return unsound(out, FIGURES);
     };
-    let AreaAnswer::Area(free) = questions::figures::free_area(layout) else {
+    let Ok(free) = questions::figures::free_area(layout) else {
         return unsound(out, FIGURES);
     };
-    let CountAnswer::Count(nodes) = questions::figures::nodes_held(layout) else {
+    let Ok(nodes) = questions::figures::nodes_held(layout) else {
         return unsound(out, FIGURES);
     };
-    let EmptyAnswer::Says(empty) = questions::figures::is_empty(layout) else {
+    let Ok(empty) = questions::figures::is_empty(layout) else {
         return unsound(out, FIGURES);
     };
-    let UsageAnswer::Usage(sheet) = questions::figures::sheet_usage(layout) else {
+    let Ok(sheet) = questions::figures::sheet_usage(layout) else {
         return unsound(out, FIGURES);
     };
-    let UsageAnswer::Usage(tree) = questions::figures::tree_usage(layout) else {
+    let Ok(tree) = questions::figures::tree_usage(layout) else {
         return unsound(out, FIGURES);
     };
     write::figures(
@@ -142,8 +134,8 @@ fn snapshot(layout: Layout, out: &mut [u8]) -> usize
 {
     let mut bytes = [0u8; 14 * LIMIT];
     match questions::written::snapshot(layout, &mut bytes) {
-        CountAnswer::Count(n) => write::entries(out, SNAPSHOT, n / NODE, &bytes[..n as usize]),
-        CountAnswer::Refused(refusal) => refused(out, SNAPSHOT, refusal),
+        Ok(n) => write::entries(out, SNAPSHOT, n / NODE, &bytes[..n as usize]),
+        Err(refusal) => refused(out, SNAPSHOT, refusal),
     }
 }
 
@@ -154,8 +146,8 @@ fn cuts(layout: Layout, out: &mut [u8]) -> usize
 {
     let mut bytes = [0u8; saw::cuts::ROOM];
     match saw::cuts::cuts(layout, &mut bytes) {
-        CountAnswer::Count(n) => write::entries(out, CUTS, n / CUT, &bytes[..n as usize]),
-        CountAnswer::Refused(refusal) => refused(out, CUTS, refusal),
+        Ok(n) => write::entries(out, CUTS, n / CUT, &bytes[..n as usize]),
+        Err(refusal) => refused(out, CUTS, refusal),
     }
 }
 
@@ -164,8 +156,8 @@ fn eaten_area(layout: Layout, out: &mut [u8]) -> usize
     ensures { Tells layout questions.EatenArea out.old out.new result }
 {
     match questions::figures::eaten_area(layout) {
-        AreaAnswer::Area(area) => write::area(out, EATEN_AREA, area),
-        AreaAnswer::Refused(refusal) => refused(out, EATEN_AREA, refusal),
+        Ok(area) => write::area(out, EATEN_AREA, area),
+        Err(refusal) => refused(out, EATEN_AREA, refusal),
     }
 }
 
@@ -176,19 +168,19 @@ fn amounts(layout: Layout, out: &mut [u8]) -> usize
 {
     let mut bytes = [0u8; saw::cuts::AMOUNTS];
     match saw::cuts::amounts(layout, &mut bytes) {
-        CountAnswer::Count(n) => write::entries(out, AMOUNTS, n, &bytes[..n as usize]),
-        CountAnswer::Refused(refusal) => refused(out, AMOUNTS, refusal),
+        Ok(n) => write::entries(out, AMOUNTS, n, &bytes[..n as usize]),
+        Err(refusal) => refused(out, AMOUNTS, refusal),
     }
 }
 
 // The answer to a tidying: how many structures were taken out, or its refusal.
-pub fn tidied(outcome: Outcome, count: u16, out: &mut [u8]) -> usize
+pub fn tidied(outcome: Result<(), Refusal>, count: u16, out: &mut [u8]) -> usize
     requires { desk_longest ≤ length out.old }
     ensures { LinePut out.old (content_for tidy_op (tidy_found outcome count)) out.new result }
 {
     match outcome {
-        Outcome::Done => write::count(out, TIDY, count),
-        Outcome::Refused(refusal) => refused(out, TIDY, refusal),
+        Ok(()) => write::count(out, TIDY, count),
+        Err(refusal) => refused(out, TIDY, refusal),
     }
 }
 

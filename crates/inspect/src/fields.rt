@@ -3,9 +3,9 @@
 use crate::pen::{Pen, ROOM, put, put_byte, put_eight, put_four, put_two};
 use frames::{Ask, Request};
 use layout::layout::Layout;
-use marks::Mark;
+use marks::{Mark, Refusal};
 use piece::parttype::PartType;
-use questions::replies::{AreaAnswer, CountAnswer, LightAnswer, MarkAnswer, UsageAnswer};
+use questions::room::light_mark;
 use table::LIMIT;
 
 // The bytes of the longest snapshot: 14 for each place.
@@ -53,7 +53,7 @@ fn put_bytes(out: &mut [u8; ROOM], pen: Pen, bytes: &[u8], n: usize) -> Pen {
 pub fn snapshot(out: &mut [u8; ROOM], pen: Pen, layout: Layout) -> Pen {
     let p = put(out, pen, b' ');
     let mut bytes = [0u8; SNAPSHOT];
-    let CountAnswer::Count(count) = questions::written::snapshot(layout, &mut bytes) else {
+    let Ok(count) = questions::written::snapshot(layout, &mut bytes) else {
         return missing(out, p);
     };
     put_bytes(out, p, &bytes, count as usize)
@@ -65,7 +65,7 @@ fn put_mark(out: &mut [u8; ROOM], pen: Pen, mark: Mark) -> Pen {
     put_four(out, place, mark.serial)
 }
 
-fn mark_at(layout: Layout, listing: Listing, position: u16) -> MarkAnswer {
+fn mark_at(layout: Layout, listing: Listing, position: u16) -> Result<Mark, Refusal> {
     match listing {
         Listing::Free => questions::positions::free_mark(layout, position),
         Listing::Removable => questions::positions::removable_mark(layout, position),
@@ -77,7 +77,7 @@ pub fn marks(out: &mut [u8; ROOM], pen: Pen, layout: Layout, listing: Listing) -
     let mut p = put(out, pen, b' ');
     let mut i: u16 = 0;
     while i < LIMIT as u16 {
-        let MarkAnswer::Found(mark) = mark_at(layout, listing, i) else {
+        let Ok(mark) = mark_at(layout, listing, i) else {
             break;
         };
         p = put_mark(out, p, mark);
@@ -98,19 +98,19 @@ fn bits(usage: f64) -> u64 {
 // Used area, free area, the bits of the sheet's usage and the tree's, and eaten area.
 pub fn figures(out: &mut [u8; ROOM], pen: Pen, layout: Layout) -> Pen {
     let p = put(out, pen, b' ');
-    let AreaAnswer::Area(used) = questions::figures::used_area(layout) else {
+    let Ok(used) = questions::figures::used_area(layout) else {
         return missing(out, p);
     };
-    let AreaAnswer::Area(free) = questions::figures::free_area(layout) else {
+    let Ok(free) = questions::figures::free_area(layout) else {
         return missing(out, p);
     };
-    let UsageAnswer::Usage(sheet) = questions::figures::sheet_usage(layout) else {
+    let Ok(sheet) = questions::figures::sheet_usage(layout) else {
         return missing(out, p);
     };
-    let UsageAnswer::Usage(tree) = questions::figures::tree_usage(layout) else {
+    let Ok(tree) = questions::figures::tree_usage(layout) else {
         return missing(out, p);
     };
-    let AreaAnswer::Area(eaten) = questions::figures::eaten_area(layout) else {
+    let Ok(eaten) = questions::figures::eaten_area(layout) else {
         return missing(out, p);
     };
     let one = put_eight(out, p, used);
@@ -124,7 +124,7 @@ pub fn figures(out: &mut [u8; ROOM], pen: Pen, layout: Layout) -> Pen {
 pub fn part_numbers(out: &mut [u8; ROOM], pen: Pen, layout: Layout) -> Pen {
     let mut p = put(out, pen, b' ');
     let mut numbers = [0u16; LIMIT];
-    let CountAnswer::Count(count) = questions::written::part_numbers(layout, &mut numbers) else {
+    let Ok(count) = questions::written::part_numbers(layout, &mut numbers) else {
         return missing(out, p);
     };
     let n = count as usize;
@@ -149,9 +149,9 @@ fn put_light(out: &mut [u8; ROOM], pen: Pen, yes: u8, mark: Mark) -> Pen {
 fn light_for(out: &mut [u8; ROOM], pen: Pen, layout: Layout, part: PartType) -> Pen {
     let light = questions::room::room_light(layout, part);
     match light {
-        LightAnswer::Room(_mark) => put_light(out, pen, 1, light.mark()),
-        LightAnswer::NoRoom => put_light(out, pen, 0, light.mark()),
-        LightAnswer::Refused(refusal) => put_byte(out, pen, refusal.number()),
+        Ok(Some(_)) => put_light(out, pen, 1, light_mark(light)),
+        Ok(None) => put_light(out, pen, 0, light_mark(light)),
+        Err(refusal) => put_byte(out, pen, refusal.number()),
     }
 }
 
@@ -181,7 +181,7 @@ pub fn light(out: &mut [u8; ROOM], pen: Pen, layout: Layout, request: Request) -
 pub fn cuts(out: &mut [u8; ROOM], pen: Pen, layout: Layout) -> Pen {
     let p = put(out, pen, b' ');
     let mut bytes = [0u8; saw::cuts::ROOM];
-    let CountAnswer::Count(count) = saw::cuts::cuts(layout, &mut bytes) else {
+    let Ok(count) = saw::cuts::cuts(layout, &mut bytes) else {
         return missing(out, p);
     };
     put_bytes(out, p, &bytes, count as usize)
@@ -191,7 +191,7 @@ pub fn cuts(out: &mut [u8; ROOM], pen: Pen, layout: Layout) -> Pen {
 pub fn amounts(out: &mut [u8; ROOM], pen: Pen, layout: Layout) -> Pen {
     let p = put(out, pen, b' ');
     let mut bytes = [0u8; saw::cuts::AMOUNTS];
-    let CountAnswer::Count(count) = saw::cuts::amounts(layout, &mut bytes) else {
+    let Ok(count) = saw::cuts::amounts(layout, &mut bytes) else {
         return missing(out, p);
     };
     put_bytes(out, p, &bytes, count as usize)

@@ -5,9 +5,9 @@ use Prim.Native.Nat.{ℕ, ◌≤◌}
 use native.Mathlib.Omega.{arith}
 use lib.ListN.{length, take, length-replicate}
 use lib.Seq.{sets}
+use Rattle.std.specs.Prelude.{Ok, Err}
 use Rattle.marks.specs.declared.Refusal.{Refusal}
 use Rattle.layout.specs.declared.layout.Layout.{Layout}
-use Rattle.layout.specs.declared.replies.Outcome.TheVariants.{Done, Refused}
 use Rattle.layout.specs.declared.tidy.Tidied.{Tidied}
 use Rattle.layout.specs.Tidy.{TidySays}
 use Rattle.frames.specs.declared.Request.{Request}
@@ -39,11 +39,11 @@ module _ {given : SessionRecord} {l : Layout} {line : List ℕ} {n : ℕ} (d : T
   tidy-answered : {next : SessionRecord} → next ≡ record_tidied given d → DeskAnswered given Tidy next line n
   tidy-answered h = rw h (tidying d (rw e at t) y)
 
-  pub tidy-done : {r : LayoutRecord} → d.outcome ≡ Done → r ≡ layout_record d.layout
+  pub tidy-done : {r : LayoutRecord} → d.outcome ≡ Ok tt → r ≡ layout_record d.layout
       → DeskAnswered given Tidy (record { layout = r; kept = given.kept }) line n
   tidy-done h w = tidy-answered (rw (h, w) refl)
 
-  pub tidy-refused : {no : Refusal} → d.outcome ≡ Refused no → DeskAnswered given Tidy given line n
+  pub tidy-refused : {no : Refusal} → d.outcome ≡ Err no → DeskAnswered given Tidy given line n
   tidy-refused h = tidy-answered (rw h refl)
 
 module _ {given next : SessionRecord} {q : Request} {said : List ℕ} {n : ℕ} (a : Answered given q next said n) where

@@ -13,14 +13,14 @@ use borrow.Author.Tests.{le-leb}
 use mir.Val.{Val}
 use denote.Laws.{Is}
 use denote.Struct.Declared.{row}
+use Rattle.std.specs.Prelude.{Result, Ok, Err}
 use Rattle.marks.specs.declared.Refusal.TheVariants.{NotSound, BufferTooShort}
 use Rattle.layout.specs.declared.layout.Layout.{Layout}
 use Rattle.layout.specs.Check.{limit, tree, sound_b}
 use Rattle.layout.specs.SoundLayout.{Sized}
 use Rattle.layout.specs.Zero.{zero_layout}
 use Rattle.layout.proofs.Exactly.{sound-says, zero-sized}
-use Rattle.questions.specs.declared.replies.CountAnswer.{CountAnswer}
-use Rattle.questions.specs.declared.replies.CountAnswer.TheVariants.{Count, Refused}
+use Rattle.marks.specs.declared.Refusal.{Refusal}
 use Rattle.questions.specs.Written.{answer_to, left_in_buffer}
 use Rattle.saw.specs.Saw.{saw}
 use Rattle.saw.specs.Cuts.{boards}
@@ -48,9 +48,9 @@ record-sized r vs g = go (all_listed_b r.nodes)
     go false = zero-sized
 
 -- what is said of an answer
-abbrev pub said : CountAnswer → ℕ
-said (Count n) = n
-said (Refused e) = 65535
+abbrev pub said : Result ℕ Refusal → ℕ
+said (Ok n) = n
+said (Err e) = 65535
 
 -- a list for which there is room where the layout is sound
 module _ (l : Layout) (what before : List ℕ) (fits : sound_b l ≡ true → length what ≤ length before) where
@@ -58,7 +58,7 @@ module _ (l : Layout) (what before : List ℕ) (fits : sound_b l ≡ true → le
   said-count = go (sound_b l) fits
     where
       go : (b : Bool) → (b ≡ true → length what ≤ length before)
-          → said (cond b (cond (leb (length what) (length before)) (Count (length what)) (Refused BufferTooShort)) (Refused NotSound))
+          → said (cond b (cond (leb (length what) (length before)) (Ok (length what)) (Err BufferTooShort)) (Err NotSound))
           ≡ cond b (length what) 65535
       go true h = rw (le-leb (length what) (length before) (h refl)) refl
       go false h = refl
@@ -73,7 +73,7 @@ module _ (l : Layout) (what before : List ℕ) (fits : sound_b l ≡ true → le
 
 -- the call's answer a on the layout l of the record, and the bytes after it
 pub hands_out : (r : LayoutRecord) (vs : List Val) → Is (row the_type) r vs → (before after : List ℕ) → length before ≡ 9 * limit → {l : Layout}
-    → l ≡ layout_of r → {a : CountAnswer} → a ≡ answer_to l (saw_bytes l) (length before) → after ≡ left_in_buffer l (saw_bytes l) before
+    → l ≡ layout_of r → {a : Result ℕ Refusal} → a ≡ answer_to l (saw_bytes l) (length before) → after ≡ left_in_buffer l (saw_bytes l) before
     → Handed r before after (said a)
 hands_out r vs g before after len at answers leaves =
     let fits : sound_b (layout_of r) ≡ true → length (saw_bytes (layout_of r)) ≤ length before =

@@ -10,6 +10,7 @@ use mathlib.Core.Option.{some}
 use Prim.Native.Nat.{ℕ}
 use lib.ListN.{length}
 use lib.Seq.{sets}
+use Rattle.std.specs.Prelude.{Result, Ok, Err, ⊤}
 use Rattle.lists.proofs.Scan.{test, clash}
 use Rattle.marks.specs.declared.Refusal.{Refusal}
 use Rattle.marks.specs.declared.Refusal.TheVariants.{NotSound}
@@ -19,8 +20,6 @@ use Rattle.frames.specs.declared.Request.TheVariants.{OfLayout, Keep, Restore, M
 use Rattle.frames.specs.Answers.{Answer, refused, answer_line, content_of}
 use Rattle.frames.specs.Writing.{line_for, LinePut}
 use Rattle.layout.specs.declared.layout.Layout.{Layout}
-use Rattle.layout.specs.declared.replies.Outcome.{Outcome}
-use Rattle.layout.specs.declared.replies.Outcome.TheVariants as outcomes
 use Rattle.layout.specs.declared.tidy.Tidied.{Tidied}
 use Rattle.layout.specs.Check.{sound_b}
 use Rattle.layout.specs.Tidy.{TidySays, tidy_no}
@@ -203,10 +202,10 @@ pub desk-tidied-stands : {before next : SessionRecord} {answer : List ℕ} {coun
     → (d : Tidied) × TidySays (layout_of before.layout) d × (session_of next ≡ with_layout (session_of before) d.layout) × (next.kept ≡ before.kept)
 desk-tidied-stands {before} (tidying d g t) = (d, g, stands d.outcome refl, kept (is_refused d.outcome))
   where
-    stands : (v : Outcome) → d.outcome ≡ v
+    stands : (v : Result ⊤ Refusal) → d.outcome ≡ v
         → session_of (cond (is_refused v) before (record_with_layout before d.layout)) ≡ with_layout (session_of before) d.layout
-    stands outcomes.Done e = let back = layout-back d.layout in λ i. record { layout = back i; kept = layout_of before.kept }
-    stands (outcomes.Refused r) e =
+    stands (Ok tt) e = let back = layout-back d.layout in λ i. record { layout = back i; kept = layout_of before.kept }
+    stands (Err r) e =
         let same = ap (λ (x : Tidied). x.layout) (tidy-refused (layout_of before.layout) d g r e).1 in
         λ i. record { layout = sym same i; kept = layout_of before.kept }
 

@@ -1,9 +1,8 @@
 -- What the exported answer of the desk is: the session that the record says takes the line at the desk (docs/DESK.md), and the record, the answer and its
 -- count are what comes of it. What is asked at the counter leaves the record as the counter's own step does; a question leaves it as it was; tidying leaves
 -- what is kept, and where it is refused each number of the record is as it was.
-use Rattle.std.specs.Prelude.{Bool, true, false, cond, List, ℕ, replicate}
-use Rattle.layout.specs.declared.replies.Outcome.{Outcome}
-use Rattle.layout.specs.declared.replies.Outcome.TheVariants.{Done, Refused}
+use Rattle.std.specs.Prelude.{Bool, true, false, cond, List, ℕ, replicate, Result, Ok, Err, ⊤}
+use Rattle.marks.specs.declared.Refusal.{Refusal}
 use Rattle.layout.specs.declared.tidy.Tidied.{Tidied}
 use Rattle.layout.specs.Tidy.{TidySays}
 use Rattle.frames.specs.declared.Request.{Request}
@@ -22,9 +21,9 @@ use Rattle.kiosk.specs.Step.{Answered, record_with_layout}
 abbrev pub blank : List ℕ
 blank = replicate desk_longest 0
 
-abbrev pub is_refused : Outcome → Bool
-is_refused Done = false
-is_refused (Refused e) = true
+abbrev pub is_refused : Result ⊤ Refusal → Bool
+is_refused (Ok tt) = false
+is_refused (Err e) = true
 
 -- the record after a tidying
 abbrev pub record_tidied : SessionRecord → Tidied → SessionRecord

@@ -3,7 +3,6 @@
 ghost use Rattle.kiosk.specs.Cuts.{Handed};
 
 use crate::records::{LayoutRecord, SessionRecord, layout_of};
-use questions::replies::CountAnswer;
 use saw::cuts::{ROOM, cuts};
 
 // What is said where there is no list: refusal 1, the layout isn't sound. No list has so many bytes.
@@ -23,8 +22,8 @@ fn handed(given: LayoutRecord, mut list: [u8; ROOM]) -> CutsRecord
 {
     let layout = layout_of(given);
     match cuts(layout, &mut list) {
-        CountAnswer::Count(count) => CutsRecord { list, count },
-        CountAnswer::Refused(_why) => CutsRecord {
+        Ok(count) => CutsRecord { list, count },
+        Err(_) => CutsRecord {
             list,
             count: NO_LIST,
         },

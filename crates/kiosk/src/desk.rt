@@ -12,7 +12,6 @@ use desk_frames::read::request;
 use desk_frames::replies::{answer, tidied};
 use desk_frames::{DeskRequest, LONGEST_ANSWER, Question};
 use frames::Request;
-use layout::replies::Outcome;
 use saw::cuts::copy_first;
 
 // The next state, and the answer: the first count characters of line, its newline among them; the rest is zero.
@@ -50,7 +49,7 @@ fn tidy(mut given: SessionRecord) -> DeskRecord
     let mut line = [0u8; LONGEST_ANSWER];
     let count = tidied(outcome, after.count, &mut line);
     match outcome {
-        Outcome::Done => {
+        Ok(()) => {
             let left = after.layout;
             given.layout = layout_record(left);
             DeskRecord {
@@ -59,7 +58,7 @@ fn tidy(mut given: SessionRecord) -> DeskRecord
                 count,
             }
         }
-        Outcome::Refused(_) => DeskRecord {
+        Err(_) => DeskRecord {
             session: given,
             line,
             count,

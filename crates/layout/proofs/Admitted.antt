@@ -6,6 +6,7 @@ use Prim.Native.Nat.{◌+◌, ◌-◌, ◌≤◌}
 use native.Mathlib.Omega.{arith}
 use lib.Dec.{leb}
 use borrow.Author.Tests.{leb-true}
+use Rattle.std.specs.Prelude.{Result, Ok, Err}
 use Rattle.piece.specs.declared.rotation.Rotation.{Rotation}
 use Rattle.piece.specs.declared.parttype.PartType.{PartType}
 use Rattle.piece.specs.declared.node.Datum.{Datum}
@@ -25,9 +26,6 @@ use Rattle.marks.specs.declared.Refusal.TheVariants.{NotOffered, TooManyNodes, S
 use Rattle.piece.specs.Offered.{offered_b}
 use Rattle.layout.specs.declared.layout.Layout.{Layout}
 use Rattle.layout.specs.declared.insert.Inserted.{Inserted}
-use Rattle.layout.specs.declared.replies.Outcome.TheVariants.{Done, Refused}
-use Rattle.layout.specs.declared.replies.Sought.{Sought}
-use Rattle.layout.specs.declared.replies.Sought.TheVariants as sought
 use Rattle.layout.specs.Check.{limit, max_serial, tree}
 use Rattle.layout.specs.Asked.{free_piece_of}
 use Rattle.layout.specs.SoundLayout.{SoundLayout, Sized}
@@ -49,11 +47,11 @@ passed true o e h = (refl, h)
 passed false o e h = nothing h
 
 -- the outcome tells what it is refused with
-pub outcome-some : (o : Option Refusal) (e : Refusal) → outcome_of o ≡ Refused e → o ≡ some e
+pub outcome-some : (o : Option Refusal) (e : Refusal) → outcome_of o ≡ Err e → o ≡ some e
 outcome-some none e h = absurd (clash (cc))
 outcome-some (some x) e h = cc
 
-pub outcome-none : (o : Option Refusal) → outcome_of o ≡ Done → o ≡ none
+pub outcome-none : (o : Option Refusal) → outcome_of o ≡ Ok tt → o ≡ none
 outcome-none none h = refl
 outcome-none (some x) h = absurd (clash (cc))
 
@@ -85,9 +83,9 @@ module _ (l : Layout) (m : Mark) (p : PartType) (r : Rotation) (s : InsertionSha
   done-says a h f = rw (sym h) f
 
   -- the mark names a free piece, and that is not refused
-  found-piece : (q : Sought) → piece_no l p r s q ≡ none → (d : Datum) × (q ≡ sought.Piece d) × (book_no l d p r s ≡ none)
-  found-piece (sought.Refused e) h = nothing h
-  found-piece (sought.Piece d) h = (d, refl, h)
+  found-piece : (q : Result Datum Refusal) → piece_no l p r s q ≡ none → (d : Datum) × (q ≡ Ok d) × (book_no l d p r s ≡ none)
+  found-piece (Err e) h = nothing h
+  found-piece (Ok d) h = (d, refl, h)
 
   -- what book_no tests of a piece
   record Passes (d : Datum) : Type 0 where

@@ -8,6 +8,7 @@ use native.Mathlib.Omega.{arith}
 use lib.Dec.{leb}
 use lib.ListN.{length}
 use borrow.Author.Tests.{leb-true}
+use Rattle.std.specs.Prelude.{Ok}
 use Rattle.piece.specs.declared.size.Size.{Size}
 use Rattle.piece.specs.declared.rotation.Rotation.{Rotation}
 use Rattle.piece.specs.declared.rotation.Rotation.TheVariants.{Default, Rotated}
@@ -47,7 +48,6 @@ use Rattle.booking.proofs.Sums.{book-count, book-part-area}
 use Rattle.booking.proofs.BlockMarks.{marks-are}
 use Rattle.booking.proofs.Stands.{book-bookable, book-stands, book-list, book-new}
 use Rattle.layout.specs.declared.layout.Layout.{Layout}
-use Rattle.layout.specs.declared.replies.Outcome.TheVariants.{Done}
 use Rattle.layout.specs.Check.{limit, side_b, tree}
 use Rattle.layout.specs.Asked.{part_b}
 use Rattle.layout.specs.Parts.{nodes_of, with_nodes}
@@ -202,7 +202,7 @@ module _ (l : Layout) (x : ℕ) (p : PartType) (r : Rotation) (s : InsertionShap
         -- what is handed back is what document 01 says
         pub insert-done : {few a : ℕ} {marks : NewMarks} {then : Layout} → few ≡ new_nodes s → a ≡ area sides
             → then ≡ with_nodes l made.nodes (l.held - 1 + few) (l.used + a) (l.serial + few)
-            → marks ≡ new_marks l.number (those made.new) → InsertDone l x b (record { outcome = Done; marks = marks; layout = then })
+            → marks ≡ new_marks l.number (those made.new) → InsertDone l x b (record { outcome = Ok tt; marks = marks; layout = then })
         insert-done {few} {a} few-is a-is then_is marks-are =
             let same : with_nodes l made.nodes (l.held - 1 + few) (l.used + a) (l.serial + few) ≡ next = rw (made_after, few-is, a-is, sides-are) refl in
             record {

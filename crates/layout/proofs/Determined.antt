@@ -5,6 +5,7 @@ use mathlib.Core.Bool.{Bool}
 use mathlib.Core.List.{List}
 use mathlib.Core.Option.{Option, none, some}
 use Prim.Native.Nat.{ℕ}
+use Rattle.std.specs.Prelude.{Result}
 use Rattle.piece.specs.declared.settings.Opening.{Opening}
 use Rattle.piece.specs.declared.rotation.Rotation.{Rotation}
 use Rattle.piece.specs.declared.parttype.PartType.{PartType}
@@ -14,7 +15,7 @@ use Rattle.marks.specs.declared.Mark.{Mark}
 use Rattle.marks.specs.declared.Refusal.{Refusal}
 use Rattle.layout.specs.declared.layout.Layout.{Layout}
 use Rattle.layout.specs.declared.open.Opened.{Opened}
-use Rattle.layout.specs.declared.replies.Sought.{Sought}
+use Rattle.piece.specs.declared.node.Datum.{Datum}
 use Rattle.layout.specs.declared.restore.Restored.{Restored}
 use Rattle.layout.specs.declared.insert.Inserted.{Inserted}
 use Rattle.layout.specs.declared.remove.Removed.{Removed}
@@ -38,7 +39,7 @@ module _ (l : Layout) where
   pub sound-is-one : (r s : Bool) → r ≡ sound_b l → s ≡ sound_b l → r ≡ s
   sound-is-one = only
 
-  pub free-piece-is-one : (m : Mark) (p : PartType) (r s : Sought) → r ≡ free_piece_of l m p → s ≡ free_piece_of l m p → r ≡ s
+  pub free-piece-is-one : (m : Mark) (p : PartType) (r s : Result Datum Refusal) → r ≡ free_piece_of l m p → s ≡ free_piece_of l m p → r ≡ s
   free-piece-is-one m p = only
 
 pub open-is-one : (o : Opening) (r s : Opened)

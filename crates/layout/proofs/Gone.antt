@@ -7,6 +7,7 @@ use mathlib.Core.Option.{Option, none, some}
 use Prim.Native.Nat.{ℕ, ◌+◌, ◌≤◌}
 use lib.ListN.{length}
 use lib.Seq.{sets}
+use Rattle.std.specs.Prelude.{Result, Ok, Err}
 use Rattle.piece.specs.declared.node.Datum.{Datum}
 use Rattle.piece.specs.Kinds.{is_free}
 use Rattle.tree.specs.Tree.{At, Inside}
@@ -18,9 +19,6 @@ use Rattle.marks.specs.declared.Refusal.{Refusal}
 use Rattle.marks.specs.declared.Refusal.TheVariants.{NotSound}
 use Rattle.sound.proofs.Says.{clash}
 use Rattle.layout.specs.declared.layout.Layout.{Layout}
-use Rattle.layout.specs.declared.replies.Outcome.TheVariants.{Done, Refused}
-use Rattle.layout.specs.declared.replies.Sought.{Sought}
-use Rattle.layout.specs.declared.replies.Sought.TheVariants as sought
 use Rattle.layout.specs.declared.remove.Removed.{Removed}
 use Rattle.layout.specs.Check.{limit, tree, sound_b}
 use Rattle.layout.specs.Asked.{sought_of}
@@ -35,15 +33,15 @@ use Rattle.layout.proofs.TakenOut.{numbers-fewer}
 
 -- ---- what the outcome says of the tests
 
-done-means : (o : Option Refusal) (l : Layout) (x : ℕ) (a : Removed) → remove_is o l x a → a.outcome ≡ Done → (o ≡ none) × RemoveDone l x a
+done-means : (o : Option Refusal) (l : Layout) (x : ℕ) (a : Removed) → remove_is o l x a → a.outcome ≡ Ok tt → (o ≡ none) × RemoveDone l x a
 done-means none l x a h d = (refl, h)
-done-means (some e) l x a h d = let z : Refused e ≡ Done = sym (ap (λ (r : Removed). r.outcome) h) ∙ d in absurd (clash (cc))
+done-means (some e) l x a h d = let z : Err e ≡ Ok tt = sym (ap (λ (r : Removed). r.outcome) h) ∙ d in absurd (clash (cc))
 
-refused-means : (o : Option Refusal) (l : Layout) (x : ℕ) (a : Removed) (e : Refusal) → remove_is o l x a → a.outcome ≡ Refused e
+refused-means : (o : Option Refusal) (l : Layout) (x : ℕ) (a : Removed) (e : Refusal) → remove_is o l x a → a.outcome ≡ Err e
     → (o ≡ some e) × (a ≡ refused_remove l e)
-refused-means none l x a e h d = let z : Done ≡ Refused e = sym h.outcome ∙ d in absurd (clash (cc))
+refused-means none l x a e h d = let z : (Ok tt) ≡ Err e = sym h.outcome ∙ d in absurd (clash (cc))
 refused-means (some f) l x a e h d =
-    let z : Refused f ≡ Refused e = sym (ap (λ (r : Removed). r.outcome) h) ∙ d in
+    let z : Err f ≡ Err e = sym (ap (λ (r : Removed). r.outcome) h) ∙ d in
     let same : f ≡ e = cc in
     (ap some same, h ∙ ap (refused_remove l) same)
 
@@ -51,7 +49,7 @@ refused-means (some f) l x a e h d =
 pub record Passed (l : Layout) (m : Mark) (room : ℕ) : Type 0 where
   pub piece : Datum
   pub checked : sound_b l ≡ true
-  pub named : sought_of l m ≡ sought.Piece piece
+  pub named : sought_of l m ≡ Ok piece
   pub allowed : go_no l m.place piece ≡ none
   pub roomy : room_no l m.place room ≡ none
 
@@ -63,12 +61,12 @@ pub none_passes : (l : Layout) (m : Mark) (room : ℕ) → remove_no l m room �
 unfolding remove_no
 none_passes l m room h = go (sound_b l) refl (sought_of l m) refl h
   where
-    go : (b : Bool) → sound_b l ≡ b → (f : Sought) → sought_of l m ≡ f → cond b (going_no l m.place room f) (some NotSound) ≡ none
+    go : (b : Bool) → sound_b l ≡ b → (f : Result Datum Refusal) → sought_of l m ≡ f → cond b (going_no l m.place room f) (some NotSound) ≡ none
         → Passed l m room
-    go true e (sought.Piece d) f h =
+    go true e (Ok d) f h =
         let n = neither-refuses (go_no l m.place d) (room_no l m.place room) h in
         record { piece = d; checked = e; named = f; allowed = n.0; roomy = n.1 }
-    go true e (sought.Refused r) f h = absurd (clash (cc))
+    go true e (Err r) f h = absurd (clash (cc))
     go false e f g h = absurd (clash (cc))
 
 -- a removal that nothing refuses can be made
@@ -84,10 +82,10 @@ module _ (l : Layout) (m : Mark) (room : ℕ) (a : Removed) (says : RemoveSays l
   told = says
 
   -- refused: the layout comes back as it came, and all else is zero
-  pub remove-refused : (e : Refusal) → a.outcome ≡ Refused e → (remove_no l m room ≡ some e) × (a ≡ refused_remove l e)
+  pub remove-refused : (e : Refusal) → a.outcome ≡ Err e → (remove_no l m room ≡ some e) × (a ≡ refused_remove l e)
   remove-refused e d = refused-means (remove_no l m room) l m.place a e told d
 
-  module _ (done : a.outcome ≡ Done) where
+  module _ (done : a.outcome ≡ Ok tt) where
     pub remove-accepted : (remove_no l m room ≡ none) × RemoveDone l m.place a
     remove-accepted = done-means (remove_no l m room) l m.place a told done
 
@@ -136,7 +134,7 @@ pub record TakenOut (l : Layout) (m : Mark) (room : ℕ) (a : Removed) : Type 0 
   pub count : a.count ≡ length (numbers_out l m.place)
   pub left : (out : List ℕ) → length out ≡ room → numbers_left l m out ≡ sets out 0 (numbers_out l m.place)
 
-pub remove-says : (l : Layout) (m : Mark) (room : ℕ) (a : Removed) → Sized l → RemoveSays l m room a → a.outcome ≡ Done → TakenOut l m room a
+pub remove-says : (l : Layout) (m : Mark) (room : ℕ) (a : Removed) → Sized l → RemoveSays l m room a → a.outcome ≡ Ok tt → TakenOut l m room a
 remove-says l m room a sized says done =
     record {
       few = numbers-fewest l m room a says done sized;

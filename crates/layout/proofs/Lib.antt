@@ -2,6 +2,7 @@ pub mod Passes
 pub mod Listed
 pub mod Summed
 pub mod Unique
+pub mod Examined
 pub mod Exactly
 pub mod Opened
 pub mod Typed

@@ -7,6 +7,7 @@ use Prim.Native.Nat.{◌<◌}
 use native.Mathlib.Omega.{arith}
 use lib.Dec.{eqb, leb}
 use borrow.Author.Tests.{eq-eqb, ne_eqb, lt-leb, eqb-true, eqb-false, leb-false, not-false}
+use Rattle.std.specs.Prelude.{Result, Ok, Err}
 use Rattle.piece.specs.declared.node.Datum.{Datum}
 use Rattle.piece.specs.declared.parttype.PartType.{PartType}
 use Rattle.piece.specs.Kinds.{is_free}
@@ -16,8 +17,7 @@ use Rattle.marks.specs.declared.Mark.{Mark}
 use Rattle.marks.specs.declared.Refusal.TheVariants.{NotSound, PartOutside, OtherLayout, Gone, NotFree}
 use Rattle.sound.proofs.Says.{clash}
 use Rattle.layout.specs.declared.layout.Layout.{Layout}
-use Rattle.layout.specs.declared.replies.Sought.{Sought}
-use Rattle.layout.specs.declared.replies.Sought.TheVariants as sought
+use Rattle.marks.specs.declared.Refusal.{Refusal}
 use Rattle.layout.specs.Check.{limit, tree, sound_b}
 use Rattle.layout.specs.Asked.{part_b, gone_b, sought_of, only_free, free_piece_of}
 use Rattle.layout.specs.SoundLayout.{SoundLayout}
@@ -38,7 +38,7 @@ neither true b e = absurd (clash (sym e))
 
 -- a piece is given only past both refusals
 found : (a g : Bool) (e d : Datum)
-    → cond a (cond g (sought.Refused Gone) (sought.Piece e)) (sought.Refused OtherLayout) ≡ sought.Piece d
+    → cond a (cond g (Err Gone) (Ok e)) (Err OtherLayout) ≡ Ok d
     → (a ≡ true) × (g ≡ false) × (e ≡ d)
 found true false e d h = (refl, refl, cc)
 found true true e d h = absurd (clash (cc))
@@ -58,7 +58,7 @@ module _ (l : Layout) (s : SoundLayout l) where
       )
 
   -- `sought` finds exactly the piece that the mark names
-  pub sought-names : (m : Mark) (d : Datum) → sought_of l m ≡ sought.Piece d → Names l m d
+  pub sought-names : (m : Mark) (d : Datum) → sought_of l m ≡ Ok d → Names l m d
   unfolding sought_of
   sought-names m d e =
       let f = found (eqb m.layout l.number) (gone_b l m) (at l.nodes m.place).datum d e in
@@ -69,7 +69,7 @@ module _ (l : Layout) (s : SoundLayout l) where
         serial = sym (ap (λ (x : Datum). x.serial) f.2) ∙ t.1;
       }
 
-  pub names-sought : (m : Mark) (d : Datum) → Names l m d → sought_of l m ≡ sought.Piece d
+  pub names-sought : (m : Mark) (d : Datum) → Names l m d → sought_of l m ≡ Ok d
   unfolding sought_of
   names-sought m d n =
       let is = piece_is l.nodes (tree l) s.holds m.place d n.there in
@@ -80,7 +80,7 @@ module _ (l : Layout) (s : SoundLayout l) where
       let gone : gone_b l m ≡ false =
       or_else (lt-leb limit m.place low) (or_else (ne_eqb _ 0 some) (ap not (eq-eqb _ m.serial (serial ∙ n.serial))))
       in
-      sym (onward _ (eq-eqb m.layout l.number n.layout) (ended _ gone (ap sought.Piece (sym is))))
+      sym (onward _ (eq-eqb m.layout l.number n.layout) (ended _ gone (ap Ok (sym is))))
 
 -- ---- the head of a call on a free piece
 
@@ -88,23 +88,23 @@ module _ (l : Layout) (s : SoundLayout l) where
 pub record Headed (l : Layout) (m : Mark) (p : PartType) (d : Datum) : Type 0 where
   pub sound : sound_b l ≡ true
   pub part : part_b p ≡ true
-  pub named : sought_of l m ≡ sought.Piece d
+  pub named : sought_of l m ≡ Ok d
   pub free : is_free d.kind ≡ true
 
-free-only : (x d : Datum) (b : Bool) → is_free x.kind ≡ b → cond b (sought.Piece x) (sought.Refused NotFree) ≡ sought.Piece d
+free-only : (x d : Datum) (b : Bool) → is_free x.kind ≡ b → cond b (Ok x) (Err NotFree) ≡ Ok d
     → (x ≡ d) × (is_free d.kind ≡ true)
 free-only x d true e h = let is : x ≡ d = cc in (is, rw is at e)
 free-only x d false e h = absurd (clash (cc))
 
-pub headed : (l : Layout) (m : Mark) (p : PartType) (d : Datum) → free_piece_of l m p ≡ sought.Piece d → Headed l m p d
+pub headed : (l : Layout) (m : Mark) (p : PartType) (d : Datum) → free_piece_of l m p ≡ Ok d → Headed l m p d
 unfolding free_piece_of
 headed l m p d = go (sound_b l) refl (part_b p) refl (sought_of l m) refl
   where
-    go : (a : Bool) → sound_b l ≡ a → (b : Bool) → part_b p ≡ b → (q : Sought) → sought_of l m ≡ q
-        → cond a (cond b (only_free q) (sought.Refused PartOutside)) (sought.Refused NotSound) ≡ sought.Piece d → Headed l m p d
-    go true e true f (sought.Piece x) g h =
+    go : (a : Bool) → sound_b l ≡ a → (b : Bool) → part_b p ≡ b → (q : Result Datum Refusal) → sought_of l m ≡ q
+        → cond a (cond b (only_free q) (Err PartOutside)) (Err NotSound) ≡ Ok d → Headed l m p d
+    go true e true f (Ok x) g h =
         let o = free-only x d (is_free x.kind) refl h in
-        record { sound = e; part = f; named = g ∙ ap sought.Piece o.0; free = o.1 }
-    go true e true f (sought.Refused r) g h = absurd (clash (cc))
+        record { sound = e; part = f; named = g ∙ ap Ok o.0; free = o.1 }
+    go true e true f (Err r) g h = absurd (clash (cc))
     go true e false f q g h = absurd (clash (cc))
     go false e b f q g h = absurd (clash (cc))

@@ -8,6 +8,7 @@ use mathlib.Core.Option.{some}
 use Prim.Native.Nat.{ℕ}
 use lib.Dec.{eqb}
 use lib.ListN.{length}
+use Rattle.std.specs.Prelude.{Err}
 use Rattle.piece.specs.declared.rotation.Rotation.{Rotation}
 use Rattle.piece.specs.declared.parttype.PartType.{PartType}
 use Rattle.piece.specs.declared.insertion_blueprint.InsertionShape.{InsertionShape}
@@ -17,8 +18,6 @@ use Rattle.marks.specs.declared.Mark.{Mark}
 use Rattle.marks.specs.declared.Refusal.{Refusal}
 use Rattle.marks.specs.declared.Refusal.TheVariants.{NotSound}
 use Rattle.layout.specs.declared.layout.Layout.{Layout}
-use Rattle.layout.specs.declared.open.OpenOutcome.TheVariants as opening
-use Rattle.layout.specs.declared.replies.Outcome.TheVariants.{Refused}
 use Rattle.layout.specs.declared.insert.Inserted.{Inserted}
 use Rattle.layout.specs.declared.remove.Removed.{Removed}
 use Rattle.layout.specs.declared.tidy.Tidied.{Tidied}
@@ -52,7 +51,7 @@ pub refused-tidy : (l : Layout) (a : Tidied) (e : Refusal) → tidy_no l ≡ som
 unfolding TidySays
 refused-tidy l a e h says = rw h at says
 
-pub refused-restore : (l s : Layout) (e : Refusal) → (restore_of l s).outcome ≡ Refused e → (restore_of l s).layout ≡ l
+pub refused-restore : (l s : Layout) (e : Refusal) → (restore_of l s).outcome ≡ Err e → (restore_of l s).layout ≡ l
 unfolding restore_of
 refused-restore l s e h = go (sound_b l) (sound_b s) (eqb l.number s.number) refl refl refl
   where
@@ -64,7 +63,7 @@ refused-restore l s e h = go (sound_b l) (sound_b s) (eqb l.number s.number) ref
 
 -- an opening: all zero
 pub refused-open : (o : Opening) (e : Refusal)
-    → (open_of o).outcome ≡ opening.Refused e → (open_of o).layout ≡ zero_layout
+    → (open_of o).outcome ≡ Err e → (open_of o).layout ≡ zero_layout
 unfolding open_of
 refused-open o e h = go (domain_b o.settings) refl
   where

@@ -8,6 +8,7 @@ use Prim.Native.Nat.{ℕ, ◌+◌, ◌≤◌, ◌<◌}
 use lib.Dec.{eqb, leb}
 use lib.ListN.{length}
 use borrow.Author.Tests.{eqb-false, le-leb, lt-leb, leb-true}
+use Rattle.std.specs.Prelude.{Ok, Err}
 use Rattle.piece.specs.declared.node.Datum.{Datum}
 use Rattle.piece.specs.Kinds.{is_free}
 use Rattle.marks.specs.declared.Mark.{Mark}
@@ -15,7 +16,6 @@ use Rattle.marks.specs.declared.Refusal.{Refusal}
 use Rattle.marks.specs.declared.Refusal.TheVariants.{NotSound, TheTop, FreePiece, SerialsSpent, BufferTooShort}
 use Rattle.sound.proofs.Says.{clash}
 use Rattle.layout.specs.declared.layout.Layout.{Layout}
-use Rattle.layout.specs.declared.replies.Sought.TheVariants as sought
 use Rattle.layout.specs.declared.remove.Removed.{Removed}
 use Rattle.layout.specs.Check.{sound_b, max_serial}
 use Rattle.layout.specs.Asked.{sought_of}
@@ -45,15 +45,15 @@ module _ (l : Layout) (m : Mark) where
     not_sound e = rw e refl
 
     module _ (checked : sound_b l ≡ true) where
-      pub no-mark : {e : Refusal} → sought_of l m ≡ sought.Refused e → remove_no l m room ≡ some e
+      pub no-mark : {e : Refusal} → sought_of l m ≡ Err e → remove_no l m room ≡ some e
       unfolding remove_no
       no-mark s = rw (checked, s) refl
 
-      pub may-not : {d : Datum} {e : Refusal} → sought_of l m ≡ sought.Piece d → go_no l m.place d ≡ some e → remove_no l m room ≡ some e
+      pub may-not : {d : Datum} {e : Refusal} → sought_of l m ≡ Ok d → go_no l m.place d ≡ some e → remove_no l m room ≡ some e
       unfolding remove_no
       may-not s g = rw (checked, s, g) refl
 
-      pub may-go : {d : Datum} → sought_of l m ≡ sought.Piece d → go_no l m.place d ≡ none → remove_no l m room ≡ room_no l m.place room
+      pub may-go : {d : Datum} → sought_of l m ≡ Ok d → go_no l m.place d ≡ none → remove_no l m room ≡ room_no l m.place room
       unfolding remove_no
       may-go s g = rw (checked, s, g) refl
 
@@ -82,7 +82,7 @@ passed false false false h = absurd (clash (cc))
 passed false true c h = absurd (clash (cc))
 passed true b c h = absurd (clash (cc))
 
-pub takeable : (l : Layout) (m : Mark) (d : Datum) → Sized l → sound_b l ≡ true → sought_of l m ≡ sought.Piece d → go_no l m.place d ≡ none
+pub takeable : (l : Layout) (m : Mark) (d : Datum) → Sized l → sound_b l ≡ true → sought_of l m ≡ Ok d → go_no l m.place d ≡ none
     → Takeable l m.place
 unfolding go_no
 takeable l m d sized checked s g =

@@ -8,6 +8,7 @@ use native.Mathlib.Nat.{le_refl}
 use native.Mathlib.Omega.{arith}
 use lib.ListN.{length, get_or, length-append}
 use lib.Seq.{take-length}
+use Rattle.std.specs.Prelude.{Ok}
 use Rattle.piece.specs.declared.node.Kind.{Kind}
 use Rattle.piece.specs.declared.node.Kind.TheVariants.{Free, Part, Structure}
 use Rattle.piece.specs.Row.{nil, grow}
@@ -41,7 +42,6 @@ use Rattle.removal.proofs.Pieces.{parent-low, last-low}
 use Rattle.removal.proofs.Stands.{remove-clearable, remove-stands, remove-place, remove-list}
 use Rattle.removal.proofs.Sums.{left-count, removed-count, removed-area, going-most, removed-numbers, removed-few}
 use Rattle.layout.specs.declared.layout.Layout.{Layout}
-use Rattle.layout.specs.declared.replies.Outcome.TheVariants.{Done}
 use Rattle.layout.specs.declared.remove.Removed.{Removed}
 use Rattle.layout.specs.Check.{limit, tree}
 use Rattle.layout.specs.Parts.{nodes_of, with_nodes}
@@ -215,7 +215,7 @@ module _ (l : Layout) (x : ℕ) where
   reply : Removed
   reply =
       record {
-        outcome = Done;
+        outcome = Ok tt;
         free = record { layout = l.number; place = left.place; serial = l.serial + 1 };
         count = length (numbers_out l x);
         layout = with_nodes l left.nodes ((l.held + 1) - all-going.count) (l.used - area_along l.nodes (places all-going)) (l.serial + 1);

@@ -7,6 +7,7 @@ use Prim.Native.Nat.{ℕ, ◌+◌, ◌-◌, ◌≤◌, ◌<◌}
 use native.Mathlib.Omega.{arith}
 use borrow.Author.Tests.{le-leb, lt-leb}
 use lib.ListN.{length}
+use Rattle.std.specs.Prelude.{Ok}
 use Rattle.piece.specs.Row.{nil, grow}
 use Rattle.tree.specs.Tree.{Tree, count}
 use Rattle.tree.specs.Tidy.{Untidy, Lowest, Tidy, empties, empty_in, is_empty}
@@ -20,7 +21,6 @@ use Rattle.removal.proofs.Gone.{bare-length}
 use Rattle.removal.proofs.Bare.{found-lowest, found_none, bare-first, bare-goes, bare-area}
 use Rattle.marks.specs.declared.Refusal.TheVariants.{NotSound, SerialsSpent}
 use Rattle.layout.specs.declared.layout.Layout.{Layout}
-use Rattle.layout.specs.declared.replies.Outcome.TheVariants.{Done}
 use Rattle.layout.specs.declared.remove.Removed.{Removed}
 use Rattle.layout.specs.declared.tidy.Tidied.{Tidied}
 use Rattle.layout.specs.Check.{limit, max_serial, tree, sound_b}
@@ -155,7 +155,7 @@ module _ (l : Layout) where
         rw (checked, lt-leb (l.serial + empties (tree l)) max_serial over) e
 
     -- none is left
-    pub done-so : Tidy (tree left) → TidySays l (record { outcome = Done; count = c; layout = left })
+    pub done-so : Tidy (tree left) → TidySays l (record { outcome = Ok tt; count = c; layout = left })
     unfolding TidySays tidy_no
     done-so t =
         let z = tidy-none (tree left) h.sound.sound t in

@@ -10,6 +10,7 @@ use native.Mathlib.Omega.{arith}
 use native.Mathlib.Decide.{dec_lt}
 use lib.Dec.{leb}
 use borrow.Author.Tests.{leb-true}
+use Rattle.std.specs.Prelude.{Ok, Err}
 use Rattle.tree.specs.Tree.{Tree}
 use Rattle.tree.specs.Tidy.{Lowest, Tidy, Takings, taken, empties}
 use Rattle.tree.specs.Tidy as takings
@@ -20,7 +21,6 @@ use Rattle.marks.specs.declared.Refusal.{Refusal}
 use Rattle.marks.specs.declared.Refusal.TheVariants.{NotSound, SerialsSpent}
 use Rattle.sound.proofs.Says.{clash}
 use Rattle.layout.specs.declared.layout.Layout.{Layout}
-use Rattle.layout.specs.declared.replies.Outcome.TheVariants.{Done, Refused}
 use Rattle.layout.specs.declared.remove.Removed.{Removed}
 use Rattle.layout.specs.declared.tidy.Tidied.{Tidied}
 use Rattle.layout.specs.Check.{limit, max_serial, tree, sound_b}
@@ -151,27 +151,27 @@ some-tidy l z = go (sound_b l) refl (leb (l.serial + empties (tree l)) max_seria
     go true e false f = (refused_tidy l SerialsSpent, rw (e, f) refl)
     go true e true f =
         let g = tidies-some l (sound-says l z e) z (leb-true (l.serial + empties (tree l)) max_serial f) in
-        (record { outcome = Done; count = g.0; layout = g.1 }, rw (e, f) (record { outcome = refl; tidies = g.2 }))
+        (record { outcome = Ok tt; count = g.0; layout = g.1 }, rw (e, f) (record { outcome = refl; tidies = g.2 }))
 
 -- ---- an answer that meets the contract
 
-done-means : (o : Option Refusal) (l : Layout) (a : Tidied) → tidy_is o l a → a.outcome ≡ Done → (o ≡ none) × TidyDone l a
+done-means : (o : Option Refusal) (l : Layout) (a : Tidied) → tidy_is o l a → a.outcome ≡ Ok tt → (o ≡ none) × TidyDone l a
 done-means none l a h d = (refl, h)
-done-means (some e) l a h d = let z : Refused e ≡ Done = sym (ap (λ (r : Tidied). r.outcome) h) ∙ d in absurd (clash (cc))
+done-means (some e) l a h d = let z : Err e ≡ Ok tt = sym (ap (λ (r : Tidied). r.outcome) h) ∙ d in absurd (clash (cc))
 
-pub tidy-accepted : (l : Layout) (a : Tidied) → TidySays l a → a.outcome ≡ Done → (tidy_no l ≡ none) × TidyDone l a
+pub tidy-accepted : (l : Layout) (a : Tidied) → TidySays l a → a.outcome ≡ Ok tt → (tidy_no l ≡ none) × TidyDone l a
 unfolding TidySays
 tidy-accepted l a says done = done-means (tidy_no l) l a says done
 
-refused-means : (o : Option Refusal) (l : Layout) (a : Tidied) (e : Refusal) → tidy_is o l a → a.outcome ≡ Refused e
+refused-means : (o : Option Refusal) (l : Layout) (a : Tidied) (e : Refusal) → tidy_is o l a → a.outcome ≡ Err e
     → (o ≡ some e) × (a ≡ refused_tidy l e)
-refused-means none l a e h d = let z : Done ≡ Refused e = sym h.outcome ∙ d in absurd (clash (cc))
+refused-means none l a e h d = let z : (Ok tt) ≡ Err e = sym h.outcome ∙ d in absurd (clash (cc))
 refused-means (some f) l a e h d =
-    let z : Refused f ≡ Refused e = sym (ap (λ (r : Tidied). r.outcome) h) ∙ d in
+    let z : Err f ≡ Err e = sym (ap (λ (r : Tidied). r.outcome) h) ∙ d in
     let same : f ≡ e = cc in
     (ap some same, h ∙ ap (refused_tidy l) same)
 
 -- refused: the layout comes back as it came, and nothing was taken out
-pub tidy-refused : (l : Layout) (a : Tidied) → TidySays l a → (e : Refusal) → a.outcome ≡ Refused e → (tidy_no l ≡ some e) × (a ≡ refused_tidy l e)
+pub tidy-refused : (l : Layout) (a : Tidied) → TidySays l a → (e : Refusal) → a.outcome ≡ Err e → (tidy_no l ≡ some e) × (a ≡ refused_tidy l e)
 unfolding TidySays
 tidy-refused l a says e d = refused-means (tidy_no l) l a e says d

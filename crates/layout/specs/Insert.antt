@@ -1,6 +1,6 @@
 -- Document 01, "Insertion": what `insert` answers. Refusals 1, 3, 4, 5, 6, 7, 8, 9, in this order, each exactly on its condition; and else what is
 -- booked, the marks, and the next layout.
-use Rattle.std.specs.Prelude.{◌≡◌, cond, ℕ, ◌+◌, ◌-◌, leb}
+use Rattle.std.specs.Prelude.{◌≡◌, cond, ℕ, ◌+◌, ◌-◌, leb, Result, Ok, Err}
 use Rattle.std.proofs.Math.Option.{Option, none, some}
 use Rattle.piece.specs.declared.rotation.Rotation.{Rotation}
 use Rattle.piece.specs.declared.parttype.PartType.{PartType}
@@ -20,9 +20,6 @@ use Rattle.marks.specs.declared.Mark.{Mark}
 use Rattle.marks.specs.declared.Refusal.{Refusal}
 use Rattle.marks.specs.declared.Refusal.TheVariants.{NotOffered, TooManyNodes, SerialsSpent}
 use Rattle.layout.specs.declared.layout.Layout.{Layout}
-use Rattle.layout.specs.declared.replies.Outcome.TheVariants.{Done, Refused}
-use Rattle.layout.specs.declared.replies.Sought.{Sought}
-use Rattle.layout.specs.declared.replies.Sought.TheVariants as sought
 use Rattle.layout.specs.declared.insert.Inserted.{Inserted}
 use Rattle.layout.specs.Check.{limit, tree}
 use Rattle.layout.specs.Asked.{free_piece_of}
@@ -40,9 +37,9 @@ book_no l d p r s =
     (some NotOffered)
 
 -- after refusals 1, 3, 4, 5 and 6
-abbrev pub piece_no : Layout → PartType → Rotation → InsertionShape → Sought → Option Refusal
-piece_no l p r s (sought.Refused e) = some e
-piece_no l p r s (sought.Piece d) = book_no l d p r s
+abbrev pub piece_no : Layout → PartType → Rotation → InsertionShape → Result Datum Refusal → Option Refusal
+piece_no l p r s (Err e) = some e
+piece_no l p r s (Ok d) = book_no l d p r s
 
 -- what it is refused with
 unfoldable pub insert_no : Layout → Mark → PartType → Rotation → InsertionShape → Option Refusal
@@ -50,7 +47,7 @@ insert_no l m p r s = piece_no l p r s (free_piece_of l m p)
 
 -- "Refused: number, layout as handed in .., zero in other fields"
 abbrev pub refused_insert : Layout → Refusal → Inserted
-refused_insert l e = record { outcome = Refused e; marks = zero_marks; layout = l }
+refused_insert l e = record { outcome = Err e; marks = zero_marks; layout = l }
 
 -- the piece at a place
 abbrev pub piece_at : Layout → ℕ → Datum
@@ -71,7 +68,7 @@ booking_for l x p r s =
 
 -- accepted: "marks of first node and part; count; free marks in creation order", and the next layout
 pub record InsertDone (l : Layout) (x : ℕ) (b : Booking) (a : Inserted) : Type 0 where
-  pub outcome : a.outcome ≡ Done
+  pub outcome : a.outcome ≡ Ok tt
   pub marks : a.marks ≡ block_marks l.number (block b (piece_at l x))
   pub next : Next l (book x b (tree l)) (booked_list limit x (piece_at l x) b (tree l) (removables l)) (l.serial + new_nodes b.shape) a.layout
 

@@ -1,6 +1,6 @@
 -- Document 01, "Open": "top at level 0 with the first cut given; one free child of full size, level 1, the other cut". proofs/Opened.antt says
 -- that the layout is sound and that its tree is the opened one.
-use Rattle.std.specs.Prelude.{List, [], ◌∷◌, cond}
+use Rattle.std.specs.Prelude.{List, [], ◌∷◌, cond, Ok, Err}
 use Rattle.piece.specs.declared.settings.Opening.{Opening}
 use Rattle.tree.specs.Open.{top_datum, first_free}
 use Rattle.table.specs.declared.Node.{Node}
@@ -9,7 +9,6 @@ use Rattle.table.specs.Steps.{top_only}
 use Rattle.lists.specs.Lists.{padded}
 use Rattle.marks.specs.declared.Refusal.TheVariants.{OpeningOutside}
 use Rattle.layout.specs.declared.layout.Layout.{Layout}
-use Rattle.layout.specs.declared.open.OpenOutcome.TheVariants.{Free, Refused}
 use Rattle.layout.specs.declared.open.Opened.{Opened}
 use Rattle.layout.specs.Check.{limit, domain_b}
 use Rattle.layout.specs.Zero.{zero_layout}
@@ -39,7 +38,7 @@ unfoldable pub open_of : Opening → Opened
 open_of o =
     cond (domain_b o.settings)
     (record {
-      outcome = Free (record { layout = o.number; place = 1; serial = 2 });
+      outcome = Ok (record { layout = o.number; place = 1; serial = 2 });
       layout = fresh_layout o;
     })
-    (record { outcome = Refused OpeningOutside; layout = zero_layout })
+    (record { outcome = Err OpeningOutside; layout = zero_layout })

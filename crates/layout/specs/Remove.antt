@@ -1,6 +1,6 @@
 -- Document 01, "Removal": what `remove` answers and leaves in the lent buffer. Refusals 1, 4, 5, 10, 11, 9, 13, in this order, each exactly on its
 -- condition; and else the part numbers of the subtree, the mark of the new free piece, and the next layout.
-use Rattle.std.specs.Prelude.{◌≡◌, cond, List, ℕ, ◌+◌, eqb, leb, length}
+use Rattle.std.specs.Prelude.{◌≡◌, cond, List, ℕ, ◌+◌, eqb, leb, length, Result, Ok, Err}
 use Rattle.std.proofs.Math.Option.{Option, none, some}
 use Rattle.std.proofs.lemmas.List.Edits.{sets}
 use Rattle.piece.specs.declared.node.Datum.{Datum}
@@ -14,9 +14,6 @@ use Rattle.marks.specs.declared.Mark.{Mark}
 use Rattle.marks.specs.declared.Refusal.{Refusal}
 use Rattle.marks.specs.declared.Refusal.TheVariants.{NotSound, TheTop, FreePiece, SerialsSpent, BufferTooShort}
 use Rattle.layout.specs.declared.layout.Layout.{Layout}
-use Rattle.layout.specs.declared.replies.Outcome.TheVariants.{Done, Refused}
-use Rattle.layout.specs.declared.replies.Sought.{Sought}
-use Rattle.layout.specs.declared.replies.Sought.TheVariants as sought
 use Rattle.layout.specs.declared.remove.Removed.{Removed}
 use Rattle.layout.specs.Check.{limit, tree, sound_b}
 use Rattle.layout.specs.Asked.{sought_of}
@@ -38,9 +35,9 @@ unfoldable pub room_no : Layout → ℕ → ℕ → Option Refusal
 room_no l x room = cond (leb (length (numbers_out l x)) room) none (some BufferTooShort)
 
 -- after refusals 4 and 5
-abbrev pub going_no : Layout → ℕ → ℕ → Sought → Option Refusal
-going_no l x room (sought.Refused e) = some e
-going_no l x room (sought.Piece d) = or_else (go_no l x d) (room_no l x room)
+abbrev pub going_no : Layout → ℕ → ℕ → Result Datum Refusal → Option Refusal
+going_no l x room (Err e) = some e
+going_no l x room (Ok d) = or_else (go_no l x d) (room_no l x room)
 
 -- what it is refused with
 unfoldable pub remove_no : Layout → Mark → ℕ → Option Refusal
@@ -48,7 +45,7 @@ remove_no l m room = cond (sound_b l) (going_no l m.place room (sought_of l m)) 
 
 -- "Refused: number, layout as handed in .., zero in other fields"
 abbrev pub refused_remove : Layout → Refusal → Removed
-refused_remove l e = record { outcome = Refused e; free = zero_mark; count = 0; layout = l }
+refused_remove l e = record { outcome = Err e; free = zero_mark; count = 0; layout = l }
 
 -- the place of the new free piece
 abbrev pub place_for : Layout → ℕ → ℕ
@@ -56,7 +53,7 @@ place_for l x = new_place limit (cleared x (tree l)) 0
 
 -- accepted: the mark of the new free piece, how many part numbers come out, and the next layout
 pub record RemoveDone (l : Layout) (x : ℕ) (a : Removed) : Type 0 where
-  pub outcome : a.outcome ≡ Done
+  pub outcome : a.outcome ≡ Ok tt
   pub free : a.free ≡ record { layout = l.number; place = place_for l x; serial = l.serial + 1 }
   pub count : a.count ≡ length (numbers_out l x)
   pub next : Next l (remove x (place_for l x) (l.serial + 1) (tree l)) (removed_list limit x (tree l) (removables l)) (l.serial + 1) a.layout

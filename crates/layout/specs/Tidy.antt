@@ -1,13 +1,12 @@
 -- Document 02, No. 5: what `tidy` answers. "While some structure other than the top has one child and that is free, it is taken out by the old removal, lowest
 -- place first." "Refusals: 1, then 9 if the whole tidying wouldn't find serials, and then nothing is changed."
-use Rattle.std.specs.Prelude.{◌≡◌, cond, ℕ, ◌+◌, leb}
+use Rattle.std.specs.Prelude.{◌≡◌, cond, ℕ, ◌+◌, leb, Ok, Err}
 use Rattle.std.proofs.Math.Option.{Option, none, some}
 use Rattle.tree.specs.Pieces.{max_serial}
 use Rattle.tree.specs.Tidy.{Lowest, Tidy, empties}
 use Rattle.marks.specs.declared.Refusal.{Refusal}
 use Rattle.marks.specs.declared.Refusal.TheVariants.{NotSound, SerialsSpent}
 use Rattle.layout.specs.declared.layout.Layout.{Layout}
-use Rattle.layout.specs.declared.replies.Outcome.TheVariants.{Done, Refused}
 use Rattle.layout.specs.declared.remove.Removed.{Removed}
 use Rattle.layout.specs.declared.tidy.Tidied.{Tidied}
 use Rattle.layout.specs.Check.{tree, sound_b}
@@ -19,7 +18,7 @@ tidy_no l = cond (sound_b l) (cond (leb (l.serial + empties (tree l)) max_serial
 
 -- "Refused: number, layout as handed in .., zero in other fields"
 abbrev pub refused_tidy : Layout → Refusal → Tidied
-refused_tidy l e = record { outcome = Refused e; count = 0; layout = l }
+refused_tidy l e = record { outcome = Err e; count = 0; layout = l }
 
 -- THE RULE: from l, the lowest untidy structure is taken out, and so on, k times in all, until none is left, and then the layout is n
 pub data Tidies : Layout → ℕ → Layout → Type 0 where
@@ -28,7 +27,7 @@ pub data Tidies : Layout → ℕ → Layout → Type 0 where
 
 -- accepted: how many were taken out, and the layout that is left
 pub record TidyDone (l : Layout) (a : Tidied) : Type 0 where
-  pub outcome : a.outcome ≡ Done
+  pub outcome : a.outcome ≡ Ok tt
   pub tidies : Tidies l a.count a.layout
 
 abbrev pub tidy_is : Option Refusal → Layout → Tidied → Type 0

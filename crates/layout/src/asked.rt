@@ -4,8 +4,8 @@ ghost use Rattle.std.specs.Prelude.{◌≡◌};
 ghost use Rattle.layout.specs.Asked.{free_piece_of, part_b, sought_of};
 
 use crate::layout::Layout;
-use crate::replies::Sought;
 use marks::{Mark, Refusal};
+use piece::node::Datum;
 use piece::parttype::PartType;
 use sound::frame::side_ok;
 use table::NONE;
@@ -15,57 +15,40 @@ pub fn part_ok(part: PartType) -> bool
     ensures { result ≡ part_b part }
 {
     let size = part.size;
-    if side_ok(size.width) {
-        side_ok(size.height)
-    } else {
-        false
-    }
+    side_ok(size.width) && side_ok(size.height)
 }
 
 impl Layout {
     // What a mark names: refusals 4 and 5.
-    pub(crate) fn sought(self, mark: Mark) -> Sought
+    pub(crate) fn sought(self, mark: Mark) -> Result<Datum, Refusal>
         ensures { result ≡ sought_of self mark }
     {
         if mark.layout != self.number {
-            return Sought::Refused(Refusal::OtherLayout);
+            return Err(Refusal::OtherLayout);
         }
         let place = mark.place;
         if NONE <= place {
-            return Sought::Refused(Refusal::Gone);
+            return Err(Refusal::Gone);
         }
-        let at = place as usize;
-        let n = self.nodes[at];
-        let d = n.datum;
-        if d.serial == 0 {
-            return Sought::Refused(Refusal::Gone);
+        let d = self.nodes[place as usize].datum;
+        if d.serial == 0 || d.serial != mark.serial {
+            return Err(Refusal::Gone);
         }
-        if d.serial != mark.serial {
-            return Sought::Refused(Refusal::Gone);
-        }
-        Sought::Piece(d)
+        Ok(d)
     }
 
     // The free piece that a mark names, for a part: refusals 1, 3, 4, 5 and 6.
-    pub fn free_piece(self, mark: Mark, part: PartType) -> Sought
+    pub fn free_piece(self, mark: Mark, part: PartType) -> Result<Datum, Refusal>
         ensures { result ≡ free_piece_of self mark part }
     {
-        if self.sound() {} else {
-            return Sought::Refused(Refusal::NotSound);
+        self.examined()?;
+        if !part_ok(part) {
+            return Err(Refusal::PartOutside);
         }
-        if part_ok(part) {} else {
-            return Sought::Refused(Refusal::PartOutside);
+        let piece = self.sought(mark)?;
+        if !piece.kind.is_free() {
+            return Err(Refusal::NotFree);
         }
-        match self.sought(mark) {
-            Sought::Refused(refusal) => Sought::Refused(refusal),
-            Sought::Piece(d) => {
-                let kind = d.kind;
-                if kind.is_free() {
-                    Sought::Piece(d)
-                } else {
-                    Sought::Refused(Refusal::NotFree)
-                }
-            }
-        }
+        Ok(piece)
     }
 }

@@ -3,9 +3,11 @@
 // since the compiler takes what stands behind an early return for rare; `rest_ok` waits for them.
 ghost use Rattle.std.specs.Prelude.{◌≡◌};
 ghost use Rattle.layout.specs.Check.{sound_b};
+ghost use Rattle.layout.specs.Refusing.{examined_of};
 
 use crate::layout::Layout;
 use lists::flags::flags_of;
+use marks::Refusal;
 use sound::census::census_ok;
 use sound::frame::{frame_ok, rest_ok};
 use sound::rows::rows_ok;
@@ -43,5 +45,16 @@ impl Layout {
         );
         let framed = frame_ok(settings, nodes[0], self.serial);
         linked & counted & framed && rest_ok(&area, &serial, &self.free, frees, &self.removable, removables)
+    }
+
+    // Refusal 1, at the head of a call.
+    pub fn examined(self) -> Result<(), Refusal>
+        ensures { result ≡ examined_of self }
+    {
+        if self.sound() {
+            Ok(())
+        } else {
+            Err(Refusal::NotSound)
+        }
     }
 }

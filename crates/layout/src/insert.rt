@@ -7,7 +7,6 @@ ghost use Rattle.layout.specs.Insert.{InsertDone, InsertSays, book_no, booking_f
 ghost use Rattle.layout.specs.Inner.{Insertable};
 
 use crate::layout::Layout;
-use crate::replies::{Outcome, Sought};
 use booking::book::book;
 use booking::new_marks::{NewMarks, marks_of, no_marks};
 use marks::{Mark, Refusal};
@@ -22,7 +21,7 @@ use table::LIMIT;
 // The marks of the new nodes; zero, with the layout as it came, where it is refused.
 #[derive(Clone, Copy)]
 pub struct Inserted {
-    pub outcome: Outcome,
+    pub outcome: Result<(), Refusal>,
     pub marks: NewMarks,
     pub layout: Layout,
 }
@@ -32,7 +31,7 @@ impl Layout {
         ensures { result ≡ refused_insert self refusal }
     {
         Inserted {
-            outcome: Outcome::Refused(refusal),
+            outcome: Err(refusal),
             marks: no_marks(),
             layout: self,
         }
@@ -45,21 +44,21 @@ impl Layout {
         part: PartType,
         rotation: Rotation,
         shape: InsertionShape,
-    ) -> Outcome
+    ) -> Result<(), Refusal>
         requires { (1 ≤ self.held) × (self.held ≤ limit) × (self.serial ≤ max_serial) }
         ensures { result ≡ outcome_of (book_no self piece part rotation shape) }
     {
-        if is_offered(piece, part, self.settings, rotation, shape) {} else {
-            return Outcome::Refused(Refusal::NotOffered);
+        if !is_offered(piece, part, self.settings, rotation, shape) {
+            return Err(Refusal::NotOffered);
         }
         let new = shape.new_count();
         if LIMIT < (self.held - 1 + new) as usize {
-            return Outcome::Refused(Refusal::TooManyNodes);
+            return Err(Refusal::TooManyNodes);
         }
         if MAX_SERIAL < self.serial + new as u32 {
-            return Outcome::Refused(Refusal::SerialsSpent);
+            return Err(Refusal::SerialsSpent);
         }
-        Outcome::Done
+        Ok(())
     }
 
     // What is booked, and the marks of its nodes.
@@ -91,7 +90,7 @@ impl Layout {
             self.serial + new as u32,
         );
         Inserted {
-            outcome: Outcome::Done,
+            outcome: Ok(()),
             marks: marks_of(self.number, b.new),
             layout: next,
         }
@@ -108,10 +107,10 @@ impl Layout {
         ensures { InsertSays self mark part rotation shape result }
     {
         match self.free_piece(mark, part) {
-            Sought::Refused(refusal) => self.refused_insert(refusal),
-            Sought::Piece(piece) => match self.may_book(piece, part, rotation, shape) {
-                Outcome::Refused(refusal) => self.refused_insert(refusal),
-                Outcome::Done => self.booked(mark.place, part, rotation, shape),
+            Err(refusal) => self.refused_insert(refusal),
+            Ok(piece) => match self.may_book(piece, part, rotation, shape) {
+                Err(refusal) => self.refused_insert(refusal),
+                Ok(()) => self.booked(mark.place, part, rotation, shape),
             },
         }
     }

@@ -11,6 +11,5 @@ pub mod layout;
 pub mod open;
 pub mod parts;
 pub mod remove;
-pub mod replies;
 pub mod restore;
 pub mod tidy;

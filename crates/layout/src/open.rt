@@ -13,17 +13,10 @@ use sound::frame::domain_ok;
 use table::nodes::empty_table;
 use table::{LIMIT, NONE, Node};
 
-// The mark of the free piece, or why there is none.
-#[derive(Clone, Copy)]
-pub enum OpenOutcome {
-    Free(Mark),
-    Refused(Refusal),
-}
-
-// With the layout of zeros where it is refused.
+// The mark of the free piece, or why there is none; with the layout of zeros where it is refused.
 #[derive(Clone, Copy)]
 pub struct Opened {
-    pub outcome: OpenOutcome,
+    pub outcome: Result<Mark, Refusal>,
     pub layout: Layout,
 }
 
@@ -122,16 +115,16 @@ impl Layout {
     pub fn open(opening: Opening) -> Opened
         ensures { result ≡ open_of opening }
     {
-        if domain_ok(opening.settings) {} else {
+        if !domain_ok(opening.settings) {
             let layout = Layout::zero();
             return Opened {
-                outcome: OpenOutcome::Refused(Refusal::OpeningOutside),
+                outcome: Err(Refusal::OpeningOutside),
                 layout,
             };
         }
         let layout = Layout::fresh(opening);
         Opened {
-            outcome: OpenOutcome::Free(Mark {
+            outcome: Ok(Mark {
                 layout: opening.number,
                 place: 1,
                 serial: 2,

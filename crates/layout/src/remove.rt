@@ -6,7 +6,6 @@ ghost use Rattle.layout.specs.Remove.{RemoveDone, RemoveSays, go_no, numbers_lef
 ghost use Rattle.layout.specs.Inner.{Leaving, Takeable};
 
 use crate::layout::Layout;
-use crate::replies::{Outcome, Sought};
 use marks::{Mark, Refusal};
 use piece::node::Datum;
 use removal::going::{Going, going_with};
@@ -17,7 +16,7 @@ use walks::numbers::{count_numbers, put_numbers};
 // The mark of the new free piece, and how many part numbers came out; zero, with the layout as it came, where it is refused.
 #[derive(Clone, Copy)]
 pub struct Removed {
-    pub outcome: Outcome,
+    pub outcome: Result<(), Refusal>,
     pub free: Mark,
     pub count: u16,
     pub layout: Layout,
@@ -28,7 +27,7 @@ impl Layout {
         ensures { result ≡ refused_remove self refusal }
     {
         Removed {
-            outcome: Outcome::Refused(refusal),
+            outcome: Err(refusal),
             free: Mark::zero(),
             count: 0,
             layout: self,
@@ -36,20 +35,19 @@ impl Layout {
     }
 
     // Refusals 10, 11 and 9, of the piece that the mark names.
-    fn may_go(self, place: u16, piece: Datum) -> Outcome
+    fn may_go(self, place: u16, piece: Datum) -> Result<(), Refusal>
         ensures { result ≡ outcome_of (go_no self place piece) }
     {
         if place == 0 {
-            return Outcome::Refused(Refusal::TheTop);
+            return Err(Refusal::TheTop);
         }
-        let kind = piece.kind;
-        if kind.is_free() {
-            return Outcome::Refused(Refusal::FreePiece);
+        if piece.kind.is_free() {
+            return Err(Refusal::FreePiece);
         }
         if MAX_SERIAL <= self.serial {
-            return Outcome::Refused(Refusal::SerialsSpent);
+            return Err(Refusal::SerialsSpent);
         }
-        Outcome::Done
+        Ok(())
     }
     // The nodes and the lists without what goes, and the mark of the new free piece.
     fn without(self, place: u16, g: Going, count: usize) -> Removed
@@ -65,7 +63,7 @@ impl Layout {
             last,
         );
         Removed {
-            outcome: Outcome::Done,
+            outcome: Ok(()),
             free: Mark {
                 layout: self.number,
                 place: c.place,
@@ -98,14 +96,14 @@ impl Layout {
         ensures says { RemoveSays self mark (length out.old) result }
         ensures written { out.new ≡ numbers_left self mark out.old }
     {
-        if self.sound() {} else {
+        if !self.sound() {
             return self.refused_remove(Refusal::NotSound);
         }
         match self.sought(mark) {
-            Sought::Refused(refusal) => self.refused_remove(refusal),
-            Sought::Piece(piece) => match self.may_go(mark.place, piece) {
-                Outcome::Refused(refusal) => self.refused_remove(refusal),
-                Outcome::Done => self.taken_out(mark.place, out),
+            Err(refusal) => self.refused_remove(refusal),
+            Ok(piece) => match self.may_go(mark.place, piece) {
+                Err(refusal) => self.refused_remove(refusal),
+                Ok(()) => self.taken_out(mark.place, out),
             },
         }
     }

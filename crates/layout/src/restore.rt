@@ -3,13 +3,12 @@ ghost use Rattle.std.specs.Prelude.{◌≡◌};
 ghost use Rattle.layout.specs.Restore.{refused_restore, restore_of};
 
 use crate::layout::Layout;
-use crate::replies::Outcome;
 use marks::Refusal;
 
 // With the layout as it came where it is refused.
 #[derive(Clone, Copy)]
 pub struct Restored {
-    pub outcome: Outcome,
+    pub outcome: Result<(), Refusal>,
     pub layout: Layout,
 }
 
@@ -18,7 +17,7 @@ impl Layout {
         ensures { result ≡ refused_restore self refusal }
     {
         Restored {
-            outcome: Outcome::Refused(refusal),
+            outcome: Err(refusal),
             layout: self,
         }
     }
@@ -27,10 +26,10 @@ impl Layout {
     pub fn restore(self, snapshot: Layout) -> Restored
         ensures { result ≡ restore_of self snapshot }
     {
-        if self.sound() {} else {
+        if !self.sound() {
             return self.refused_restore(Refusal::NotSound);
         }
-        if snapshot.sound() {} else {
+        if !snapshot.sound() {
             return self.refused_restore(Refusal::NotSound);
         }
         if self.number != snapshot.number {
@@ -41,7 +40,7 @@ impl Layout {
             next.serial = self.serial;
         }
         Restored {
-            outcome: Outcome::Done,
+            outcome: Ok(()),
             layout: next,
         }
     }

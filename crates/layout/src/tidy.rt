@@ -9,7 +9,6 @@ ghost use Rattle.layout.specs.Tidy.{TidySays, refused_tidy};
 
 use crate::layout::Layout;
 use crate::remove::Removed;
-use crate::replies::Outcome;
 use marks::{Mark, Refusal};
 use removal::remove::remove;
 use removal::untidy::{going_bare, lowest_untidy};
@@ -19,7 +18,7 @@ use table::NONE;
 // How many structures were taken out; zero, with the layout as it came, where it is refused.
 #[derive(Clone, Copy)]
 pub struct Tidied {
-    pub outcome: Outcome,
+    pub outcome: Result<(), Refusal>,
     pub count: u16,
     pub layout: Layout,
 }
@@ -29,7 +28,7 @@ impl Layout {
         ensures { result ≡ refused_tidy self refusal }
     {
         Tidied {
-            outcome: Outcome::Refused(refusal),
+            outcome: Err(refusal),
             count: 0,
             layout: self,
         }
@@ -45,7 +44,7 @@ impl Layout {
         let last = self.serial + 1;
         let next = self.with_nodes(c.nodes, self.held + 1 - g.count as u16, self.used, last);
         Removed {
-            outcome: Outcome::Done,
+            outcome: Ok(()),
             free: Mark {
                 layout: self.number,
                 place: c.place,
@@ -61,7 +60,7 @@ impl Layout {
     pub fn tidy(self) -> Tidied
         ensures { TidySays self result }
     {
-        if self.sound() {} else {
+        if !self.sound() {
             return self.refused_tidy(Refusal::NotSound);
         }
         let mut left = self;
@@ -70,7 +69,7 @@ impl Layout {
             let place = lowest_untidy(&left.nodes);
             if NONE <= place {
                 return Tidied {
-                    outcome: Outcome::Done,
+                    outcome: Ok(()),
                     count,
                     layout: left,
                 };

@@ -9,6 +9,7 @@ use native.Mathlib.Omega.{arith}
 use lib.Dec.{leb}
 use lib.ListN.{length, length-append}
 use borrow.Author.Tests.{ltb-true, ltb-false, leb-true, leb-false, lt-ltb, le-ltb, le-leb, lt-leb}
+use Rattle.std.specs.Prelude.{Result, Ok, Err, Some}
 use Rattle.piece.specs.declared.size.Size.{Size}
 use Rattle.piece.specs.declared.node.Datum.{Datum}
 use Rattle.piece.specs.declared.parttype.PartType.{PartType}
@@ -22,18 +23,16 @@ use Rattle.lists.proofs.Scan.{clash, and-false}
 use Rattle.marks.specs.declared.Mark.{Mark}
 use Rattle.marks.specs.declared.Refusal.{Refusal}
 use Rattle.layout.specs.declared.layout.Layout.{Layout}
-use Rattle.layout.specs.declared.replies.Sought.{Sought}
-use Rattle.layout.specs.declared.replies.Sought.TheVariants as sought
-use Rattle.layout.specs.declared.replies.Outcome.TheVariants as outcomes
 use Rattle.layout.specs.Asked.{sought_of, free_piece_of}
 use Rattle.layout.proofs.Marks.{headed}
-use Rattle.questions.specs.declared.replies.OffersAnswer.{OffersAnswer}
-use Rattle.questions.specs.Answers.{offered_for, offers_call, refused_offers}
+use Rattle.piece.specs.declared.insertion_option.OfferList.{OfferList}
+use Rattle.questions.specs.Answers.{offered_for, offers_call, offers_count}
 use Rattle.questions.specs.declared.reason.Reason.{Reason}
 use Rattle.questions.specs.declared.reason.Reason.TheVariants.{Forbidden, TooWide, TooTall, TooWideAndTall, StagesUsedUp, Offered}
-use Rattle.questions.specs.declared.why_not.WhyAnswer.{WhyAnswer}
+use Rattle.questions.specs.declared.why_not.Reasons.{Reasons}
+use Rattle.layout.specs.Refusing.{outcome_in}
 use Rattle.questions.specs.Reasons.{reason_in, reason_of, too_tall, too_wide}
-use Rattle.questions.specs.WhyNot.{reasons_for, refused_why, why_call, why_for}
+use Rattle.questions.specs.WhyNot.{SomeOffered, reasons_for, why_call, why_for}
 
 -- the two tests of the sides, and what they say together
 module _ (piece part : Size) where
@@ -185,24 +184,10 @@ module _ (piece : Datum) (part : PartType) (settings : Settings) (r : Rotation) 
 
 -- ---- over the calls
 
--- one of the reasons says offered
-abbrev Some : WhyAnswer → Type 0
-Some w = (w.default ≡ Offered) ⊎ (w.rotated ≡ Offered)
-
 -- two answers on the same layout, mark and part
-record Agree (w : WhyAnswer) (o : OffersAnswer) : Type 0 where
-  outcome : w.outcome ≡ o.outcome
-  offers : (0 < o.offers.count) ↔ Some w
-
-not-offered : Forbidden ≡ Offered → ⊥
-not-offered e = let z : ◌≡◌ {A = ℕ} 0 1 = cc in omega arith
-
-refused-agree : (e : Refusal) → Agree (refused_why e) (refused_offers e)
-refused-agree e =
-    record {
-      outcome = refl;
-      offers = ((λ h. let z : ⊥ = omega arith in absurd z), λ k. absurd (⊎_elim not-offered not-offered k));
-    }
+record Agree (w : Result Reasons Refusal) (o : Result OfferList Refusal) : Type 0 where
+  outcome : outcome_in w ≡ outcome_in o
+  offers : (0 < offers_count o) ↔ SomeOffered w
 
 -- one of two lists has an entry
 either-some : (a b : ℕ) → 0 < a + b → (0 < a) ⊎ (0 < b)
@@ -214,7 +199,7 @@ module _ (d : Datum) (p : PartType) (settings : Settings) where
   unfolding offers_of
   counted = held-count _ ∙ length-append (offers_in d p settings Default) (offers_in d p settings Rotated)
 
-  piece-offers : (0 < (as_offer_list (offers_of d p settings)).count) ↔ Some (reasons_for d p settings)
+  piece-offers : (0 < (as_offer_list (offers_of d p settings)).count) ↔ SomeOffered (Ok (reasons_for d p settings))
   piece-offers =
       let one = offered-has-offer d p settings Default in
       let two = offered-has-offer d p settings Rotated in (
@@ -222,9 +207,9 @@ module _ (d : Datum) (p : PartType) (settings : Settings) where
         ⊎_elim (λ e. omega (arith, counted, one.0 e)) (λ e. omega (arith, counted, two.0 e)),
       )
 
-sought-agree : (l : Layout) (p : PartType) (s : Sought) → Agree (why_for l p s) (offered_for l p s)
-sought-agree l p (sought.Refused e) = refused-agree e
-sought-agree l p (sought.Piece d) = record { outcome = refl; offers = piece-offers d p l.settings }
+sought-agree : (l : Layout) (p : PartType) (s : Result Datum Refusal) → Agree (why_for l p s) (offered_for l p s)
+sought-agree l p (Err e) = record { outcome = refl; offers = ((λ h. let z : ⊥ = omega arith in z), λ k. absurd k) }
+sought-agree l p (Ok d) = record { outcome = refl; offers = piece-offers d p l.settings }
 
 calls-agree : (l : Layout) (m : Mark) (p : PartType) → Agree (why_call l m p) (offers_call l m p)
 unfolding why_call offers_call
@@ -232,20 +217,21 @@ calls-agree l m p = sought-agree l p (free_piece_of l m p)
 
 module _ (l : Layout) (m : Mark) (p : PartType) where
   -- "Refusals: those of offers."
-  pub same_outcome : (why_call l m p).outcome ≡ (offers_call l m p).outcome
+  pub same_outcome : outcome_in (why_call l m p) ≡ outcome_in (offers_call l m p)
   same_outcome = (calls-agree l m p).outcome
 
   -- the piece has some offer for the part exactly where one of the two reasons says so
-  pub some-offer : (0 < (offers_call l m p).offers.count) ↔ (((why_call l m p).default ≡ Offered) ⊎ ((why_call l m p).rotated ≡ Offered))
+  pub some-offer : (0 < offers_count (offers_call l m p)) ↔ SomeOffered (why_call l m p)
   some-offer = (calls-agree l m p).offers
 
   -- a call that is done gives the reasons of the piece that the mark names, so that what is said above holds of its answer
-  pub reasons-of-piece : (d : Datum) → sought_of l m ≡ sought.Piece d → (why_call l m p).outcome ≡ outcomes.Done
-      → why_call l m p ≡ reasons_for d p l.settings
+  pub reasons-of-piece : (d : Datum) (w : Reasons) → sought_of l m ≡ Ok d → why_call l m p ≡ Ok w → w ≡ reasons_for d p l.settings
   unfolding why_call
-  reasons-of-piece d e = go (free_piece_of l m p) refl
+  reasons-of-piece d w e = go (free_piece_of l m p) refl
     where
-      go : (q : Sought) → free_piece_of l m p ≡ q → (why_for l p q).outcome ≡ outcomes.Done → why_for l p q ≡ reasons_for d p l.settings
-      go (sought.Refused r) f h = absurd (clash (cc))
-      go (sought.Piece x) f h =
-          let is : x ≡ d = cc (headed l m p x f).named in ap (λ (y : Datum). reasons_for y p l.settings) is
+      go : (q : Result Datum Refusal) → free_piece_of l m p ≡ q → why_for l p q ≡ Ok w → w ≡ reasons_for d p l.settings
+      go (Err r) f h = absurd (clash (cc))
+      go (Ok x) f h =
+          let is : x ≡ d = cc (headed l m p x f).named in
+          let given : w ≡ reasons_for x p l.settings = cc in
+          given ∙ ap (λ (y : Datum). reasons_for y p l.settings) is

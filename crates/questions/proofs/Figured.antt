@@ -35,14 +35,6 @@ use Rattle.layout.specs.Check.{limit, tree}
 use Rattle.layout.specs.SoundLayout.{SoundLayout}
 use Rattle.questions.specs.Answers.{all_free}
 
--- ---- an answer after refusal 1: the check, which says t, says yes; or it says no
-
-pub answered : {A : Type 0} {b t : Bool} {a r : A} (z : A) → t ≡ b → t ≡ true → a ≡ r → a ≡ cond b r z
-answered z e h f = rw (sym e ∙ h) f
-
-pub refused : {A : Type 0} {b t : Bool} {z : A} (r : A) → t ≡ b → t ≡ false → z ≡ cond b r z
-refused r e h = rw (sym e ∙ h) refl
-
 -- ---- areas
 
 -- a small area is cast to f64 without loss

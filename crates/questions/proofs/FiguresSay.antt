@@ -4,6 +4,7 @@ use mathlib.Core.Bool.{true, false}
 use mathlib.Core.Logic.{◌↔◌}
 use Prim.Native.Nat.{ℕ, ◌+◌}
 use native.Mathlib.Omega.{arith}
+use Rattle.std.specs.Prelude.{Ok}
 use Rattle.piece.specs.Sides.{area}
 use Rattle.tree.specs.Figures.{part_area, free_area, eaten_area, one, sheet_usage, tree_usage}
 use Rattle.tree.proofs.Laws.AreaConserved.{area-conserved}
@@ -13,9 +14,6 @@ use Rattle.layout.specs.declared.layout.Layout.{Layout}
 use Rattle.layout.specs.Check.{tree, sound_b}
 use Rattle.layout.specs.SoundLayout.{SoundLayout, Sized}
 use Rattle.layout.proofs.Exactly.{sound-shown}
-use Rattle.questions.specs.declared.replies.AreaAnswer.TheVariants.{Area}
-use Rattle.questions.specs.declared.replies.UsageAnswer.TheVariants.{Usage}
-use Rattle.questions.specs.declared.replies.EmptyAnswer.TheVariants.{Says}
 use Rattle.questions.specs.Answers.{used_area_of, free_area_of, eaten_area_of, sheet_usage_of, tree_usage_of, is_empty_of}
 use Rattle.questions.proofs.Figured.{never-empty}
 
@@ -25,30 +23,30 @@ module _ (l : Layout) (sized : Sized l) (s : SoundLayout l) where
   yes : sound_b l ≡ true
   yes = sound-shown l sized s
 
-  used-answer : used_area_of l ≡ Area (part_area (tree l))
+  used-answer : used_area_of l ≡ Ok (part_area (tree l))
   unfolding used_area_of
   used-answer = rw yes refl
 
-  free-answer : free_area_of l ≡ Area (free_area (tree l))
+  free-answer : free_area_of l ≡ Ok (free_area (tree l))
   unfolding free_area_of
   free-answer = rw yes refl
 
-  eaten-answer : eaten_area_of l ≡ Area (eaten_area (tree l))
+  eaten-answer : eaten_area_of l ≡ Ok (eaten_area (tree l))
   unfolding eaten_area_of
   eaten-answer = rw yes refl
 
-  sheet-answer : sheet_usage_of l ≡ Usage (sheet_usage (part_area (tree l)) (area l.settings.sheet))
+  sheet-answer : sheet_usage_of l ≡ Ok (sheet_usage (part_area (tree l)) (area l.settings.sheet))
   unfolding sheet_usage_of
   sheet-answer = rw yes refl
 
-  tree-answer : tree_usage_of l ≡ Usage (tree_usage (tree l))
+  tree-answer : tree_usage_of l ≡ Ok (tree_usage (tree l))
   unfolding tree_usage_of
   tree-answer = rw yes refl
 
   -- ---- what they say of each other
 
   -- the parts, the free pieces and what was eaten cover the sheet
-  pub areas-cover : (used free eaten : ℕ) → used_area_of l ≡ Area used → free_area_of l ≡ Area free → eaten_area_of l ≡ Area eaten
+  pub areas-cover : (used free eaten : ℕ) → used_area_of l ≡ Ok used → free_area_of l ≡ Ok free → eaten_area_of l ≡ Ok eaten
       → used + free + eaten ≡ area l.settings.sheet
   areas-cover used free eaten e f g =
       let a = used-answer in
@@ -60,17 +58,17 @@ module _ (l : Layout) (sized : Sized l) (s : SoundLayout l) where
       omega (arith, area-conserved (tree l) s.sound)
 
   -- sheet usage "is exactly 1 if and only if no free area is left" and nothing was eaten
-  pub full-sheet : (sheet_usage_of l ≡ Usage one) ↔ ((free_area (tree l) ≡ 0) × (eaten_area (tree l) ≡ 0))
+  pub full-sheet : (sheet_usage_of l ≡ Ok one) ↔ ((free_area (tree l) ≡ 0) × (eaten_area (tree l) ≡ 0))
   full-sheet =
       let law = sheet-usage-one (tree l) s.sound in
       let a = sheet-answer in
-      ((λ e. law.0 (cc)), λ e. a ∙ ap Usage (law.1 e))
+      ((λ e. law.0 (cc)), λ e. a ∙ ap Ok (law.1 e))
 
   -- "The top's is exactly 1 where no free piece has area" and nothing was eaten.
-  pub full-tree : free_area (tree l) ≡ 0 → eaten_area (tree l) ≡ 0 → tree_usage_of l ≡ Usage one
-  full-tree e f = tree-answer ∙ ap Usage (tree-usage-one (tree l) s.sound e f)
+  pub full-tree : free_area (tree l) ≡ 0 → eaten_area (tree l) ≡ 0 → tree_usage_of l ≡ Ok one
+  full-tree e f = tree-answer ∙ ap Ok (tree-usage-one (tree l) s.sound e f)
 
   -- "`is_empty` is no on every sound layout."
-  pub not-empty : is_empty_of l ≡ Says false
+  pub not-empty : is_empty_of l ≡ Ok false
   unfolding is_empty_of
-  not-empty = rw yes (ap Says (never-empty l s))
+  not-empty = rw yes (ap Ok (never-empty l s))

@@ -9,6 +9,7 @@ use native.Mathlib.Omega.{arith}
 use lib.ListN.{length}
 use lib.Seq.{sets}
 use borrow.Author.Tests.{eq-eqb, le-leb, lt-leb}
+use Rattle.std.specs.Prelude.{Result, Ok, Err}
 use Rattle.piece.specs.declared.settings.Settings.{Settings}
 use Rattle.piece.specs.Row.{nil, grow}
 use Rattle.tree.specs.Tree.{Tree, In}
@@ -26,26 +27,25 @@ use Rattle.marks.specs.declared.Refusal.TheVariants.{NotSound, BufferTooShort}
 use Rattle.layout.specs.declared.layout.Layout.{Layout}
 use Rattle.layout.specs.Check.{limit, tree, sound_b}
 use Rattle.layout.specs.SoundLayout.{SoundLayout}
-use Rattle.questions.specs.declared.replies.CountAnswer.{CountAnswer}
-use Rattle.questions.specs.declared.replies.CountAnswer.TheVariants.{Count, Refused}
+use Rattle.marks.specs.declared.Refusal.{Refusal}
 use Rattle.questions.specs.Written.{answer_to, left_in_buffer, snapshot_bytes, held_numbers}
 
 -- ---- the ways to end
 
 -- a call that is to write `what` answers r, and the buffer is this before and that after
-abbrev pub Ends : Layout → List ℕ → CountAnswer → List ℕ → List ℕ → Type 0
+abbrev pub Ends : Layout → List ℕ → Result ℕ Refusal → List ℕ → List ℕ → Type 0
 Ends l what r before after = (r ≡ answer_to l what (length before)) × (after ≡ left_in_buffer l what before)
 
 module _ (l : Layout) (what before : List ℕ) where
-  pub not_sound : sound_b l ≡ false → Ends l what (Refused NotSound) before before
+  pub not_sound : sound_b l ≡ false → Ends l what (Err NotSound) before before
   not_sound e = rw e (refl, refl)
 
-  pub too_short : sound_b l ≡ true → length before < length what → Ends l what (Refused BufferTooShort) before before
+  pub too_short : sound_b l ≡ true → length before < length what → Ends l what (Err BufferTooShort) before before
   too_short e h = rw (e, lt-leb (length what) (length before) h) (refl, refl)
 
   pub done : {n : ℕ} {after : List ℕ} → sound_b l ≡ true → length what ≤ length before → n ≡ length what
-      → after ≡ sets before 0 what → Ends l what (Count n) before after
-  done e h f g = rw (e, le-leb (length what) (length before) h) (ap Count f, g)
+      → after ≡ sets before 0 what → Ends l what (Ok n) before after
+  done e h f g = rw (e, le-leb (length what) (length before) h) (ap Ok f, g)
 
 -- ---- the snapshot
 

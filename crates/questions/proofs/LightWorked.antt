@@ -6,6 +6,7 @@ use mathlib.Core.Logic.{inl, inr}
 use Prim.Native.Nat.{ℕ, ◌<◌}
 use native.Mathlib.Omega.{arith}
 use lib.ListN.{length}
+use Rattle.std.specs.Prelude.{Ok, Some}
 use Rattle.piece.specs.declared.node.Datum.{Datum}
 use Rattle.piece.specs.declared.node.Kind.{Kind}
 use Rattle.piece.specs.declared.node.Kind.TheVariants.{Free, Part, Structure}
@@ -28,7 +29,6 @@ use Rattle.layout.specs.declared.layout.Layout.{Layout}
 use Rattle.layout.specs.Check.{tree}
 use Rattle.layout.specs.SoundLayout.{SoundLayout, Sized}
 use Rattle.layout.proofs.Marks.{Names}
-use Rattle.questions.specs.declared.replies.LightAnswer.TheVariants.{Room}
 use Rattle.questions.specs.Answers.{mark_of}
 use Rattle.questions.specs.Light.{light_of}
 use Rattle.questions.proofs.ListMarks.{one-mark}
@@ -117,7 +117,7 @@ module _ (l : Layout) (sized : Sized l) (s : SoundLayout l) (number : l.number �
       let is = only_below m.place o.piece found o.free (rw settings at o.offer) in
       one-mark l s m o.piece o.names ∙ ap (mark_of l) is.0 ∙ sym (one-mark l s strip below strips)
 
-  pub the-strip : light_of l shelf ≡ Room strip
+  pub the-strip : light_of l shelf ≡ Ok (Some strip)
   the-strip =
       let y = (yes-exactly l sized s shelf refl).1 (strip, offering) in
-      y.1 ∙ ap Room (named y.0 ((named-exactly l sized s shelf refl y.0).0 y.1).offering)
+      y.1 ∙ ap (λ (n : Mark). Ok (Some n)) (named y.0 ((named-exactly l sized s shelf refl y.0).0 y.1).offering)

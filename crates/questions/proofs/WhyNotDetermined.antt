@@ -9,7 +9,9 @@ use Rattle.marks.specs.declared.Mark.{Mark}
 use Rattle.layout.specs.declared.layout.Layout.{Layout}
 use Rattle.layout.proofs.Determined.{only}
 use Rattle.questions.specs.declared.reason.Reason.{Reason}
-use Rattle.questions.specs.declared.why_not.WhyAnswer.{WhyAnswer}
+use Rattle.std.specs.Prelude.{Result}
+use Rattle.marks.specs.declared.Refusal.{Refusal}
+use Rattle.questions.specs.declared.why_not.Reasons.{Reasons}
 use Rattle.questions.specs.Reasons.{reason_in, reason_no}
 use Rattle.questions.specs.WhyNot.{why_call}
 
@@ -20,5 +22,5 @@ pub reason-in-is-one : (d : Datum) (p : PartType) (settings : Settings) (q : Rot
     → r ≡ reason_in d p settings q → s ≡ reason_in d p settings q → r ≡ s
 reason-in-is-one d p settings q = only
 
-pub why-not-is-one : (l : Layout) (m : Mark) (p : PartType) (r s : WhyAnswer) → r ≡ why_call l m p → s ≡ why_call l m p → r ≡ s
+pub why-not-is-one : (l : Layout) (m : Mark) (p : PartType) (r s : Result Reasons Refusal) → r ≡ why_call l m p → s ≡ why_call l m p → r ≡ s
 why-not-is-one l m p = only

@@ -11,11 +11,9 @@ use table::{LIMIT, Node};
 fn strip_of(d: Datum) -> u64
     ensures { result ≡ strip_of d }
 {
-    let cut = d.cut;
-    let size = d.size;
     let strip = Size {
         width: d.eaten as u32,
-        height: size.laid(cut).height,
+        height: d.size.laid(d.cut).height,
     };
     strip.area()
 }

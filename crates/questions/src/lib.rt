@@ -8,7 +8,6 @@ mod eaten;
 pub mod figures;
 pub mod positions;
 pub mod reason;
-pub mod replies;
 pub mod room;
 pub mod why_not;
 pub mod written;

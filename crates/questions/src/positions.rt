@@ -5,7 +5,6 @@ ghost use Rattle.walks.specs.Inner.{Placed};
 ghost use Rattle.layout.specs.Check.{sound_b};
 ghost use Rattle.questions.specs.Answers.{free_mark_of, mark_at_position, mark_of, removable_mark_of};
 
-use crate::replies::MarkAnswer;
 use layout::layout::Layout;
 use marks::{Mark, Refusal};
 use table::LIMIT;
@@ -15,32 +14,27 @@ pub(crate) fn mark_of(layout: Layout, place: u16) -> Mark
     requires { place < limit }
     ensures { result ≡ mark_of layout place }
 {
-    let at = place as usize;
-    let n = layout.nodes[at];
     Mark {
         layout: layout.number,
         place,
-        serial: n.datum.serial,
+        serial: layout.nodes[place as usize].datum.serial,
     }
 }
 
 // The mark at a position of a list of which `count` entries count.
-fn mark_at(layout: Layout, list: [u16; LIMIT], count: u16, position: u16) -> MarkAnswer
+fn mark_at(layout: Layout, list: [u16; LIMIT], count: u16, position: u16) -> Result<Mark, Refusal>
     requires { sound_b layout ≡ true → (count ≤ limit) × Placed limit count list }
     ensures { result ≡ mark_at_position layout list count position }
 {
-    if layout.sound() {} else {
-        return MarkAnswer::Refused(Refusal::NotSound);
-    }
+    layout.examined()?;
     if count <= position {
-        return MarkAnswer::Refused(Refusal::PastTheEnd);
+        return Err(Refusal::PastTheEnd);
     }
-    let k = position as usize;
-    MarkAnswer::Found(mark_of(layout, list[k]))
+    Ok(mark_of(layout, list[position as usize]))
 }
 
 // The mark at a position of the free list.
-pub fn free_mark(layout: Layout, position: u16) -> MarkAnswer
+pub fn free_mark(layout: Layout, position: u16) -> Result<Mark, Refusal>
     ensures { result ≡ free_mark_of layout position }
 {
     let list = layout.free;
@@ -48,7 +42,7 @@ pub fn free_mark(layout: Layout, position: u16) -> MarkAnswer
 }
 
 // The mark at a position of the removable list.
-pub fn removable_mark(layout: Layout, position: u16) -> MarkAnswer
+pub fn removable_mark(layout: Layout, position: u16) -> Result<Mark, Refusal>
     ensures { result ≡ removable_mark_of layout position }
 {
     let list = layout.removable;

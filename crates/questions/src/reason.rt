@@ -18,11 +18,11 @@ pub enum Reason {
     Offered,
 }
 
-impl Reason {
-    pub fn number(self) -> u8
-        ensures { result ≡ reason_no self }
-    {
-        match self {
+impl From<Reason> for u8 {
+    ghost from_gives = { λ reason n. n ≡ reason_no reason };
+
+    fn from(reason: Reason) -> u8 {
+        match reason {
             Reason::Forbidden => 0,
             Reason::TooWide => 1,
             Reason::TooTall => 2,
@@ -37,13 +37,13 @@ impl Reason {
 fn reason_of(allowed: bool, wide: bool, tall: bool, along: bool, reached: bool) -> Reason
     ensures { result ≡ reason_of allowed wide tall along reached }
 {
-    if allowed {} else {
+    if !allowed {
         return Reason::Forbidden;
     }
+    if wide && tall {
+        return Reason::TooWideAndTall;
+    }
     if wide {
-        if tall {
-            return Reason::TooWideAndTall;
-        }
         return Reason::TooWide;
     }
     if tall {

@@ -12,12 +12,12 @@ use lib.Dec.{leb}
 use lib.ListN.{length, take}
 use lib.Seq.{sets}
 use borrow.Author.Tests.{leb-true}
+use Rattle.std.specs.Prelude.{Ok, Err}
 use Rattle.marks.specs.declared.Refusal.TheVariants.{NotSound, BufferTooShort}
 use Rattle.layout.specs.declared.layout.Layout.{Layout}
 use Rattle.layout.specs.Check.{limit, tree, sound_b}
 use Rattle.layout.specs.SoundLayout.{SoundLayout, Sized}
 use Rattle.layout.proofs.Exactly.{sound-says}
-use Rattle.questions.specs.declared.replies.CountAnswer.TheVariants.{Count, Refused}
 use Rattle.questions.proofs.Lent.{Ends}
 use Rattle.saw.specs.Saw.{saw}
 use Rattle.saw.specs.Cuts.{cuts, boards}
@@ -62,7 +62,7 @@ amounts-bladed l s = amounts-lesser (tree l) s.sound
 
 -- a call counts bytes only where both tests passed
 pub counted : (sound fits : Bool) (m n : ℕ) (before what after : List ℕ)
-    → Count n ≡ cond sound (cond fits (Count m) (Refused BufferTooShort)) (Refused NotSound)
+    → Ok n ≡ cond sound (cond fits (Ok m) (Err BufferTooShort)) (Err NotSound)
     → after ≡ cond sound (cond fits what before) before
     → (sound ≡ true) × (fits ≡ true) × (n ≡ m) × (after ≡ what)
 counted true true m n before what after e f = (refl, refl, cc, f)
@@ -70,15 +70,15 @@ counted true false m n before what after e f = let z : ◌≡◌ {A = ℕ} 0 1 =
 counted false fits m n before what after e f = let z : ◌≡◌ {A = ℕ} 0 1 = cc in let none : ⊥ = omega arith in absurd none
 
 -- where a call answers n bytes, what it is to write are the first n of the buffer
-first_out : (l : Layout) (what : List ℕ) (n : ℕ) (before after : List ℕ) → Ends l what (Count n) before after → (sound_b l ≡ true) × (take n after ≡ what)
+first_out : (l : Layout) (what : List ℕ) (n : ℕ) (before after : List ℕ) → Ends l what (Ok n) before after → (sound_b l ≡ true) × (take n after ≡ what)
 first_out l what n before after e =
     let w = counted (sound_b l) (leb (length what) (length before)) (length what) n before (sets before 0 what) after e.0 e.1 in
     (w.0, rw (w.3, w.2) (take-stored what before (length what) refl (leb-true (length what) (length before) w.1)))
 
 -- where the one call answers n bytes and the other m, the first n of the one buffer, read with the first m of the other, and run on the full sheet, give the
 -- parts and free pieces
-pub sawn-out : (l : Layout) → Sized l → (n m : ℕ) (before after beside amounts : List ℕ) → Ends l (saw_bytes l) (Count n) before after
-    → Ends l (amount_bytes l) (Count m) beside amounts
+pub sawn-out : (l : Layout) → Sized l → (n m : ℕ) (before after beside amounts : List ℕ) → Ends l (saw_bytes l) (Ok n) before after
+    → Ends l (amount_bytes l) (Ok m) beside amounts
     → saw (losing (read_cuts (take n after)) (take m amounts)) (l.settings.sheet ∷ []) ≡ some (boards (tree l))
 sawn-out l sized n m before after beside amounts e f =
     let one = first_out l (saw_bytes l) n before after e in

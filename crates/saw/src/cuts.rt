@@ -12,7 +12,6 @@ use crate::cut::{BYTES, ENTRY};
 use crate::routines::list_row;
 use layout::layout::Layout;
 use marks::Refusal;
-use questions::replies::CountAnswer;
 use table::LIMIT;
 
 // More than the bytes of the longest list: each cut is behind a piece of its own. And more than the amounts of its cuts.
@@ -83,36 +82,32 @@ fn put_tenths(list: &[u8], n: usize, out: &mut [u8])
 }
 
 // The cuts, 9 bytes each, and how many bytes they have.
-pub fn cuts(layout: Layout, out: &mut [u8]) -> CountAnswer
+pub fn cuts(layout: Layout, out: &mut [u8]) -> Result<u16, Refusal>
     ensures answer { result ≡ answer_to layout (saw_bytes layout) (length out.old) }
     ensures written { out.new ≡ left_in_buffer layout (saw_bytes layout) out.old }
 {
-    if layout.sound() {} else {
-        return CountAnswer::Refused(Refusal::NotSound);
-    }
+    layout.examined()?;
     let mut list = [0u8; LIST];
     let n = list_of(layout, &mut list);
     let bytes = BYTES * n;
     if out.len() < bytes {
-        return CountAnswer::Refused(Refusal::BufferTooShort);
+        return Err(Refusal::BufferTooShort);
     }
     put_nines(&list, n, out);
-    CountAnswer::Count(bytes as u16)
+    Ok(bytes as u16)
 }
 
 // What the blade eats with each of these cuts, in their order, 1 byte each, and how many there are.
-pub fn amounts(layout: Layout, out: &mut [u8]) -> CountAnswer
+pub fn amounts(layout: Layout, out: &mut [u8]) -> Result<u16, Refusal>
     ensures answer { result ≡ answer_to layout (amount_bytes layout) (length out.old) }
     ensures written { out.new ≡ left_in_buffer layout (amount_bytes layout) out.old }
 {
-    if layout.sound() {} else {
-        return CountAnswer::Refused(Refusal::NotSound);
-    }
+    layout.examined()?;
     let mut list = [0u8; LIST];
     let n = list_of(layout, &mut list);
     if out.len() < n {
-        return CountAnswer::Refused(Refusal::BufferTooShort);
+        return Err(Refusal::BufferTooShort);
     }
     put_tenths(&list, n, out);
-    CountAnswer::Count(n as u16)
+    Ok(n as u16)
 }

@@ -4,13 +4,14 @@ use mathlib.Core.Path.{◌≡◌, refl, sym, ap, ◌∙◌}
 use mathlib.Core.Bool.{Bool, true, false, cond}
 use mathlib.Core.List.{List, ◌∷◌, ◌++◌}
 use mathlib.Core.Logic.{inl, inr}
-use Prim.Native.Nat.{ℕ, zero, suc, ◌^◌, ◌<◌}
+use Prim.Native.Nat.{ℕ, zero, suc, ◌^◌, ◌<◌, ◌≤◌}
 use native.Mathlib.Omega.{arith}
 use lib.Dec.{eqb}
 use lib.Ieee.{binary64}
 use lib.Ieee.Bits.{to_bits-lt}
 use lib.Ieee.Fits.{div-fits}
 use lib.ListN.{take, length-take}
+use Rattle.std.specs.Prelude.{Result, Ok, Err, ⊤}
 use Rattle.piece.specs.declared.rotation.Rotation.{Rotation}
 use Rattle.piece.specs.declared.parttype.PartType.{PartType}
 use Rattle.piece.specs.declared.insertion_blueprint.InsertionShape.{InsertionShape}
@@ -34,9 +35,7 @@ use Rattle.booking.specs.Marks.{head_mark, marks_in, block_marks}
 use Rattle.removal.specs.Remove.{new_free}
 use Rattle.removal.proofs.Pieces.{new-there}
 use Rattle.layout.specs.declared.layout.Layout.{Layout}
-use Rattle.layout.specs.declared.open.OpenOutcome.TheVariants as openings
-use Rattle.layout.specs.declared.replies.Outcome.{Outcome}
-use Rattle.layout.specs.declared.replies.Outcome.TheVariants as outcomes
+use Rattle.marks.specs.declared.Refusal.{Refusal}
 use Rattle.layout.specs.declared.insert.Inserted.{Inserted}
 use Rattle.layout.specs.declared.remove.Removed.{Removed}
 use Rattle.layout.specs.Check.{limit, tree, sound_b, domain_b}
@@ -52,7 +51,8 @@ use Rattle.layout.proofs.Gone.{may-take, remove-accepted, remove-says}
 use Rattle.layout.proofs.Areas.{used-small}
 use Rattle.layout.proofs.Exactly.{sound-says}
 use Rattle.layout.proofs.Listed.{piece-low}
-use Rattle.questions.specs.Answers.{offers_call}
+use Rattle.piece.specs.declared.insertion_option.OfferList.{OfferList}
+use Rattle.questions.specs.Answers.{offers_call, offers_count}
 use Rattle.frames.specs.declared.Ask.TheVariants.{Open, Offers, Insert, Remove, Report}
 use Rattle.frames.specs.declared.Request.{Request}
 use Rattle.frames.specs.declared.Request.TheVariants.{OfLayout, Keep, Restore, Malformed}
@@ -61,7 +61,7 @@ use Rattle.frames.specs.Answers.{Answer, done, answer_bytes}
 use Rattle.frames.specs.Ranges.{MarkFits, RequestFits, Each, none, more, AnswerFits}
 use Rattle.frames.proofs.AnswerLaws.{answer_back}
 use Rattle.session.specs.declared.Session.{Session}
-use Rattle.session.specs.Session.{Reply, answer_by, offers_said, marks_said, numbers_said, kept_by, report_by, Answers}
+use Rattle.session.specs.Session.{Reply, answer_by, offers_by, marks_said, numbers_said, kept_by, report_by, Answers}
 use Rattle.session.specs.Session.{after_open, after_offers, after_insert, after_remove, after_keep, after_restore, after_report}
 use Rattle.session.proofs.Ways.{offers-four}
 
@@ -170,9 +170,13 @@ module _ (number : ℕ) (small : number < 2 ^ 16) where
 
 -- ---- the answer of each call
 -- an answer, or a refusal of the same op
-by-outcome : (op : ℕ) (a : Answer) (v : Outcome) → op < 2 ^ 8 → (v ≡ outcomes.Done → AnswerFits a) → AnswerFits (answer_by op a v)
-by-outcome op a outcomes.Done h f = f refl
-by-outcome op a (outcomes.Refused e) h f = h
+by-outcome : (op : ℕ) (a : Answer) (v : Result ⊤ Refusal) → op < 2 ^ 8 → (v ≡ Ok tt → AnswerFits a) → AnswerFits (answer_by op a v)
+by-outcome op a (Ok tt) h f = f refl
+by-outcome op a (Err e) h f = h
+
+by-offers : (o : Result OfferList Refusal) → offers_count o ≤ 4 → AnswerFits (offers_by o)
+by-offers (Ok o) few = omega (arith, length-take o.count o.list, few)
+by-offers (Err e) few = omega arith
 
 by-opening : (s : Session) (o : Opening) → o.number < 2 ^ 16
     → AnswerFits (after_open s (open_of o)).answer
@@ -181,8 +185,8 @@ by-opening s o h = go (domain_b o.settings)
   where
     go : (b : Bool)
         → AnswerFits (after_open s
-        (cond b (record { outcome = openings.Free (record { layout = o.number; place = 1; serial = 2 }); layout = fresh_layout o })
-        (record { outcome = openings.Refused OpeningOutside; layout = zero_layout }))).answer
+        (cond b (record { outcome = Ok (record { layout = o.number; place = 1; serial = 2 }); layout = fresh_layout o })
+        (record { outcome = Err OpeningOutside; layout = zero_layout }))).answer
     go true = record { layout = h; place = omega arith; serial = omega arith }
     go false = omega arith
 
@@ -191,7 +195,7 @@ module _ (s : Session) (sized : Sized s.layout) (number : s.layout.number < 2 ^ 
   l = s.layout
 
   insert-fits : (m : Mark) (p : PartType) (r : Rotation) (f : InsertionShape) (i : Inserted) → InsertSays l m p r f i
-      → i.outcome ≡ outcomes.Done → AnswerFits (marks_said i.marks)
+      → i.outcome ≡ Ok tt → AnswerFits (marks_said i.marks)
   insert-fits m p r f i says accepted =
       let z = insert-accepted l m p r f i says accepted in
       let can = insertable l m p r f sized z.0 in
@@ -209,7 +213,7 @@ module _ (s : Session) (sized : Sized s.layout) (number : s.layout.number < 2 ^ 
         rw e fits.2,
       )
 
-  remove-fits : (m : Mark) (r : Removed) → RemoveSays l m limit r → r.outcome ≡ outcomes.Done → AnswerFits (numbers_said s m r)
+  remove-fits : (m : Mark) (r : Removed) → RemoveSays l m limit r → r.outcome ≡ Ok tt → AnswerFits (numbers_said s m r)
   unfolding numbers_out
   remove-fits m r says accepted =
       let z = remove-accepted l m limit r says accepted in
@@ -245,10 +249,7 @@ module _ (s : Session) (sized : Sized s.layout) (number : s.layout.number < 2 ^ 
   answer-fits (OfLayout (Open o)) t a f h =
       rw (ap (λ (r : Reply). r.answer) h) (by-opening s o f.number)
   answer-fits (OfLayout (Offers m p)) t a f h =
-      let o = offers_call s.layout m p in
-      rw (ap (λ (r : Reply). r.answer) h)
-      (by-outcome 2 (offers_said o.offers) o.outcome (omega arith)
-      (λ e. omega (arith, length-take o.offers.count o.offers.list, offers-four s.layout m p)))
+      rw (ap (λ (r : Reply). r.answer) h) (by-offers (offers_call s.layout m p) (offers-four s.layout m p))
   answer-fits (OfLayout (Insert m p r g)) t a f h =
       rw (ap (λ (r : Reply). r.answer) h.2)
       (by-outcome 3 (marks_said h.0.marks) h.0.outcome (omega arith) (insert-fits m p r g h.0 h.1))

@@ -6,6 +6,7 @@ use mathlib.Core.List.{List, ◌++◌}
 use Prim.Native.Nat.{ℕ, ◌^◌, ◌<◌}
 use native.Mathlib.Omega.{arith}
 use lib.Dec.{eqb}
+use Rattle.std.specs.Prelude.{Result, Ok, Err, ⊤}
 use Rattle.piece.specs.declared.rotation.Rotation.{Rotation}
 use Rattle.piece.specs.declared.parttype.PartType.{PartType}
 use Rattle.piece.specs.declared.insertion_blueprint.InsertionShape.{InsertionShape}
@@ -15,9 +16,7 @@ use Rattle.marks.specs.declared.Mark.{Mark}
 use Rattle.marks.specs.declared.Refusal.TheVariants.{NotSound, OpeningOutside, OtherLayout}
 use Rattle.lines.specs.Text.{Line, whole, long, cut}
 use Rattle.layout.specs.declared.layout.Layout.{Layout}
-use Rattle.layout.specs.declared.open.OpenOutcome.TheVariants as openings
-use Rattle.layout.specs.declared.replies.Outcome.{Outcome}
-use Rattle.layout.specs.declared.replies.Outcome.TheVariants as outcomes
+use Rattle.marks.specs.declared.Refusal.{Refusal}
 use Rattle.layout.specs.declared.insert.Inserted.{Inserted}
 use Rattle.layout.specs.declared.remove.Removed.{Removed}
 use Rattle.layout.specs.Check.{limit, sound_b, domain_b}
@@ -65,8 +64,8 @@ opened s o f t = go (domain_b o.settings)
   where
     go : (b : Bool)
         → Typed (after_open s
-        (cond b (record { outcome = openings.Free (record { layout = o.number; place = 1; serial = 2 }); layout = fresh_layout o })
-        (record { outcome = openings.Refused OpeningOutside; layout = zero_layout }))).session.layout
+        (cond b (record { outcome = Ok (record { layout = o.number; place = 1; serial = 2 }); layout = fresh_layout o })
+        (record { outcome = Err OpeningOutside; layout = zero_layout }))).session.layout
     go true = record { sized = fresh-sized o; number = f }
     go false = t
 
@@ -74,16 +73,16 @@ module _ (l : Layout) (t : Typed l) where
   inserted : (m : Mark) (p : PartType) (r : Rotation) (f : InsertionShape) (i : Inserted) → InsertSays l m p r f i → Typed i.layout
   inserted m p r f i says = go i.outcome refl
     where
-      go : (v : Outcome) → i.outcome ≡ v → Typed i.layout
-      go outcomes.Done e = typed-next t (insert-accepted l m p r f i says e).1.next
-      go (outcomes.Refused x) e = rw (refused-as-it-came l m p r f i says x e) t
+      go : (v : Result ⊤ Refusal) → i.outcome ≡ v → Typed i.layout
+      go (Ok tt) e = typed-next t (insert-accepted l m p r f i says e).1.next
+      go (Err x) e = rw (refused-as-it-came l m p r f i says x e) t
 
   removed : (m : Mark) (r : Removed) → RemoveSays l m limit r → Typed r.layout
   removed m r says = go r.outcome refl
     where
-      go : (v : Outcome) → r.outcome ≡ v → Typed r.layout
-      go outcomes.Done e = typed-next t (remove-accepted l m limit r says e).1.next
-      go (outcomes.Refused x) e = rw (ap (λ (a : Removed). a.layout) (remove-refused l m limit r says x e).1) t
+      go : (v : Result ⊤ Refusal) → r.outcome ≡ v → Typed r.layout
+      go (Ok tt) e = typed-next t (remove-accepted l m limit r says e).1.next
+      go (Err x) e = rw (ap (λ (a : Removed). a.layout) (remove-refused l m limit r says x e).1) t
 
   restored : (k : Layout) → Typed k → Typed (restore_of l k).layout
   unfolding restore_of
@@ -91,7 +90,7 @@ module _ (l : Layout) (t : Typed l) where
     where
       go : (a b c : Bool)
           → Typed (cond a
-          (cond b (cond c (record { outcome = outcomes.Done; layout = with_serial k (greater l.serial k.serial) }) (refused_restore l OtherLayout))
+          (cond b (cond c (record { outcome = Ok tt; layout = with_serial k (greater l.serial k.serial) }) (refused_restore l OtherLayout))
           (refused_restore l NotSound)) (refused_restore l NotSound)).layout
       go true true true = record { sized = record { nodes = u.sized.nodes; free = u.sized.free; removable = u.sized.removable }; number = u.number }
       go true true false = t

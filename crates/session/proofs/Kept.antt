@@ -1,9 +1,10 @@
 -- What is kept after a request, whatever its answer. Rests on specs/Session.
 use mathlib.Core.Path.{◌≡◌, refl, ap, ◌∙◌}
 use mathlib.Core.Bool.{Bool, true, false, cond}
+use Rattle.std.specs.Prelude.{Result, Ok, Err}
 use Rattle.layout.specs.declared.layout.Layout.{Layout}
-use Rattle.layout.specs.declared.open.OpenOutcome.{OpenOutcome}
-use Rattle.layout.specs.declared.open.OpenOutcome.TheVariants as openings
+use Rattle.marks.specs.declared.Refusal.{Refusal}
+use Rattle.marks.specs.declared.Mark.{Mark}
 use Rattle.layout.specs.Check.{sound_b}
 use Rattle.layout.specs.Open.{open_of}
 use Rattle.frames.specs.declared.Ask.TheVariants.{Open, Offers, Insert, Remove, Report}
@@ -21,9 +22,9 @@ pub kept-after : (s : Session) (q : Request) (t : Session) (a : Answer) → Answ
 unfolding Answers after_open after_offers after_insert after_remove after_keep after_restore after_report
 kept-after s (OfLayout (Open o)) t a h = let d = open_of o in ap kept_of h ∙ opening d.layout d.outcome
   where
-    opening : (l : Layout) (v : OpenOutcome) → kept_of (opened_by s l v) ≡ s.kept
-    opening l (openings.Free m) = refl
-    opening l (openings.Refused e) = refl
+    opening : (l : Layout) (v : Result Mark Refusal) → kept_of (opened_by s l v) ≡ s.kept
+    opening l (Ok m) = refl
+    opening l (Err e) = refl
 kept-after s (OfLayout (Offers mark part)) t a h = ap kept_of h
 kept-after s (OfLayout (Insert m p r f)) t a h = ap kept_of h.2
 kept-after s (OfLayout (Remove m)) t a h = ap kept_of h.2

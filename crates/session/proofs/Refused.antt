@@ -5,13 +5,11 @@ use mathlib.Core.Bool.{Bool, true, false}
 use mathlib.Core.Option.{some}
 use Prim.Native.Nat.{ℕ}
 use native.Mathlib.Omega.{arith}
+use Rattle.std.specs.Prelude.{Result, Ok, Err, ⊤}
 use Rattle.marks.specs.declared.Refusal.{Refusal}
 use Rattle.marks.specs.declared.Refusal.TheVariants.{NotSound}
 use Rattle.layout.specs.declared.layout.Layout.{Layout}
-use Rattle.layout.specs.declared.open.OpenOutcome.{OpenOutcome}
-use Rattle.layout.specs.declared.open.OpenOutcome.TheVariants as openings
-use Rattle.layout.specs.declared.replies.Outcome.{Outcome}
-use Rattle.layout.specs.declared.replies.Outcome.TheVariants as outcomes
+use Rattle.marks.specs.declared.Mark.{Mark}
 use Rattle.layout.specs.declared.remove.Removed.{Removed}
 use Rattle.layout.specs.Check.{limit, sound_b}
 use Rattle.layout.specs.Asked.{free_piece_of}
@@ -40,19 +38,19 @@ not-accepted refuses accepts h =
 
 -- of an opening, of keep, and of a call that hands a layout back
 module _ {s t : Session} {a : Answer} (refuses : refusal a ≡ true) where
-  by-opening : (l : Layout) (o : OpenOutcome) → reply t a ≡ opened_by s l o → t ≡ s
-  by-opening l (openings.Free m) h = absurd (not-accepted refuses refl h)
-  by-opening l (openings.Refused f) h = ap (λ (r : Reply). r.session) h
+  by-opening : (l : Layout) (o : Result Mark Refusal) → reply t a ≡ opened_by s l o → t ≡ s
+  by-opening l (Ok m) h = absurd (not-accepted refuses refl h)
+  by-opening l (Err f) h = ap (λ (r : Reply). r.session) h
 
   by-keeping : (b : Bool) → reply t a ≡ kept_by s b → t ≡ s
   by-keeping true h = absurd (not-accepted refuses refl h)
   by-keeping false h = ap (λ (r : Reply). r.session) h
 
   -- the answer to an acceptance is no refusal, and a call that refuses hands the layout back as it was
-  by-outcome : (l : Layout) (k : ℕ) (b : Answer) (o : Outcome) → refusal b ≡ false → ((f : Refusal) → o ≡ outcomes.Refused f → l ≡ s.layout)
+  by-outcome : (l : Layout) (k : ℕ) (b : Answer) (o : Result ⊤ Refusal) → refusal b ≡ false → ((f : Refusal) → o ≡ Err f → l ≡ s.layout)
       → reply t a ≡ reply (with_layout s l) (answer_by k b o) → t ≡ s
-  by-outcome l k b outcomes.Done accepts same h = absurd (not-accepted refuses accepts h)
-  by-outcome l k b (outcomes.Refused f) accepts same h = ap (λ (r : Reply). r.session) h ∙ ap (with_layout s) (same f refl)
+  by-outcome l k b (Ok tt) accepts same h = absurd (not-accepted refuses accepts h)
+  by-outcome l k b (Err f) accepts same h = ap (λ (r : Reply). r.session) h ∙ ap (with_layout s) (same f refl)
 
 pub refused-stays : (s : Session) (q : Request) {t : Session} (a : Answer) → refusal a ≡ true → Answers s q t a → t ≡ s
 unfolding Answers after_open after_offers after_insert after_remove after_keep after_restore after_report

@@ -6,6 +6,7 @@ use Prim.Native.Nat.{ℕ}
 use native.Mathlib.Omega.{arith}
 use lib.Dec.{T}
 use lib.Ieee.{Float, binary64, to_bits, is_nan}
+use Rattle.std.specs.Prelude.{Result, Ok, Err}
 use Rattle.piece.specs.Sides.{area}
 use Rattle.tree.specs.Figures.{part_area, sheet_usage}
 use Rattle.marks.specs.declared.Refusal.{Refusal}
@@ -14,8 +15,6 @@ use Rattle.layout.specs.declared.layout.Layout.{Layout}
 use Rattle.layout.specs.Check.{tree, sound_b}
 use Rattle.layout.specs.SoundLayout.{Sized}
 use Rattle.layout.proofs.Exactly.{sound-says}
-use Rattle.questions.specs.declared.replies.UsageAnswer.{UsageAnswer}
-use Rattle.questions.specs.declared.replies.UsageAnswer.TheVariants.{Usage, Refused}
 use Rattle.questions.specs.Answers.{sheet_usage_of}
 use Rattle.questions.proofs.Usage.{sheet-usage-number}
 use Rattle.frames.specs.Answers.{refused, reported}
@@ -28,31 +27,31 @@ use Rattle.session.proofs.Ways.{report-gives}
 abbrev usage : Layout → Float
 usage l = sheet_usage (part_area (tree l)) (area l.settings.sheet)
 
-module _ (l : Layout) {u : UsageAnswer} (e : u ≡ sheet_usage_of l) where
-  answered : {x : Float} → u ≡ Usage x → (sound_b l ≡ true) × (x ≡ usage l)
+module _ (l : Layout) {u : Result Float Refusal} (e : u ≡ sheet_usage_of l) where
+  answered : {x : Float} → u ≡ Ok x → (sound_b l ≡ true) × (x ≡ usage l)
   unfolding sheet_usage_of
   answered {x} h = go (sound_b l) (sym h ∙ e)
     where
-      go : (b : Bool) → Usage x ≡ cond b (Usage (usage l)) (Refused NotSound) → (b ≡ true) × (x ≡ usage l)
+      go : (b : Bool) → Ok x ≡ cond b (Ok (usage l)) (Err NotSound) → (b ≡ true) × (x ≡ usage l)
       go true f = (refl, cc)
       go false f = let z : ◌≡◌ {A = ℕ} 0 1 = cc in absurd (omega arith)
 
-  unsound : {y : Refusal} → u ≡ Refused y → (sound_b l ≡ false) × (y ≡ NotSound)
+  unsound : {y : Refusal} → u ≡ Err y → (sound_b l ≡ false) × (y ≡ NotSound)
   unfolding sheet_usage_of
   unsound {y} h = go (sound_b l) (sym h ∙ e)
     where
-      go : (b : Bool) → Refused y ≡ cond b (Usage (usage l)) (Refused NotSound) → (b ≡ false) × (y ≡ NotSound)
+      go : (b : Bool) → Err y ≡ cond b (Ok (usage l)) (Err NotSound) → (b ≡ false) × (y ≡ NotSound)
       go true f = let z : ◌≡◌ {A = ℕ} 0 1 = cc in absurd (omega arith)
       go false f = (refl, cc)
 
   -- the usage has bits
-  pub usage-bits : {x : Float} → Sized l → u ≡ Usage x → T (not (is_nan x))
+  pub usage-bits : {x : Float} → Sized l → u ≡ Ok x → T (not (is_nan x))
   usage-bits sized h =
       let a = answered h in
       rw a.1 (sheet-usage-number l (sound-says l sized a.0))
 
   -- what the answer, or the refusal, asks for is said
-  pub reported-done : {x : Float} {r : Said} {b : Bool} → Sized l → u ≡ Usage x → b ≡ false
+  pub reported-done : {x : Float} {r : Said} {b : Bool} → Sized l → u ≡ Ok x → b ≡ false
       → Says (reported l.used l.held (to_bits binary64 x)) r → Replies l Report (record { layout = l; refused = b; said = r })
   reported-done {x} sized h is y =
       let a = answered h in
@@ -60,7 +59,7 @@ module _ (l : Layout) {u : UsageAnswer} (e : u ≡ sheet_usage_of l) where
       let same : reported l.used l.held (to_bits binary64 x) ≡ figures l = cc (f.used, f.held, a.1) in
       report-gives l a.0 is (rw same at y)
 
-  pub reported-refused : {x : Refusal} {r : Said} {b : Bool} → u ≡ Refused x → b ≡ true → Says (refused 7 x) r
+  pub reported-refused : {x : Refusal} {r : Said} {b : Bool} → u ≡ Err x → b ≡ true → Says (refused 7 x) r
       → Replies l Report (record { layout = l; refused = b; said = r })
   reported-refused h is y =
       let a = unsound h in

@@ -5,6 +5,7 @@ use mathlib.Core.List.{List}
 use Prim.Native.Nat.{ℕ, ◌≤◌}
 use native.Mathlib.Omega.{arith}
 use lib.ListN.{take, replicate, length-replicate}
+use Rattle.std.specs.Prelude.{Result, Ok, Err, ⊤}
 use Rattle.piece.specs.declared.rotation.Rotation.{Rotation}
 use Rattle.piece.specs.declared.settings.Opening.{Opening}
 use Rattle.piece.specs.declared.parttype.PartType.{PartType}
@@ -14,11 +15,9 @@ use Rattle.piece.proofs.Offered.{held-count, offers-few}
 use Rattle.marks.specs.declared.Mark.{Mark}
 use Rattle.marks.specs.declared.Refusal.TheVariants.{NotSound}
 use Rattle.layout.specs.declared.layout.Layout.{Layout}
-use Rattle.layout.specs.declared.open.OpenOutcome.{OpenOutcome}
+use Rattle.marks.specs.declared.Refusal.{Refusal}
+use Rattle.piece.specs.declared.node.Datum.{Datum}
 use Rattle.layout.specs.declared.open.Opened.{Opened}
-use Rattle.layout.specs.declared.replies.Outcome.{Outcome}
-use Rattle.layout.specs.declared.replies.Sought.{Sought}
-use Rattle.layout.specs.declared.replies.Sought.TheVariants as sought
 use Rattle.layout.specs.declared.insert.Inserted.{Inserted}
 use Rattle.layout.specs.declared.remove.Removed.{Removed}
 use Rattle.layout.specs.declared.restore.Restored.{Restored}
@@ -29,8 +28,8 @@ use Rattle.layout.specs.Insert.{InsertSays}
 use Rattle.layout.specs.Remove.{RemoveSays, numbers_out, numbers_left}
 use Rattle.layout.specs.Restore.{restore_of}
 use Rattle.layout.proofs.Answered.{TakenOut}
-use Rattle.questions.specs.declared.replies.OffersAnswer.{OffersAnswer}
-use Rattle.questions.specs.Answers.{offered_for, offers_call}
+use Rattle.piece.specs.declared.insertion_option.OfferList.{OfferList}
+use Rattle.questions.specs.Answers.{offered_for, offers_call, offers_count}
 use Rattle.frames.specs.declared.Ask.{Ask}
 use Rattle.frames.specs.declared.Ask.TheVariants.{Open, Offers, Insert, Remove, Report}
 use Rattle.frames.specs.declared.Request.{Request}
@@ -41,7 +40,7 @@ use Rattle.session.specs.declared.Stepped.{Stepped}
 use Rattle.session.specs.declared.replies.Said.{Said}
 use Rattle.session.specs.declared.replies.Response.{Response}
 use Rattle.session.specs.declared.replies.Keeping.{Keeping}
-use Rattle.session.specs.Session.{with_layout, reply, answer_by, opened_by, after_open, offers_said, after_offers, marks_said, after_insert}
+use Rattle.session.specs.Session.{with_layout, reply, answer_by, opened_by, after_open, offers_by, after_offers, marks_said, after_insert}
 use Rattle.session.specs.Session.{numbers_said, after_remove, kept_by, after_keep, after_restore, report_by, after_report, Answers, Says, Steps}
 use Rattle.session.specs.Replies.{both, step_to, refusal, Replies, Keeps, Restores}
 use Rattle.session.proofs.Spoken.{take-sets}
@@ -58,12 +57,12 @@ pub hears : {l : Layout} {p q : Ask} {r : Response} → p ≡ q → Replies l q 
 hears e h = rw e h
 
 -- an answer by its outcome
-by-outcome : (s : Session) (op : ℕ) (a : Answer) {u v : Outcome} → u ≡ v → reply s (answer_by op a v) ≡ reply s (answer_by op a u)
-by-outcome s op a h = ap (λ (x : Outcome). reply s (answer_by op a x)) (sym h)
+by-outcome : (s : Session) (op : ℕ) (a : Answer) {u v : Result ⊤ Refusal} → u ≡ v → reply s (answer_by op a v) ≡ reply s (answer_by op a u)
+by-outcome s op a h = ap (λ (x : Result ⊤ Refusal). reply s (answer_by op a x)) (sym h)
 
 -- ---- one lemma for each op: the call's outcome was v, what v asks for is said, and b says whether that is a refusal
 module _ (l : Layout) {r : Said} where
-  pub open_gives : (o : Opening) {d : Opened} {v : OpenOutcome} {next : Layout} {a : Answer} {b : Bool}
+  pub open_gives : (o : Opening) {d : Opened} {v : Result Mark Refusal} {next : Layout} {a : Answer} {b : Bool}
       → d ≡ open_of o → d.outcome ≡ v
       → ((kept : Layout) → reply (both next kept) a ≡ opened_by (both l kept) d.layout v) → b ≡ refusal a → Says a r
       → Replies l (Open o) (record { layout = next; refused = b; said = r })
@@ -76,19 +75,13 @@ module _ (l : Layout) {r : Said} where
         says = y;
       }
 
-  pub offers-gives : (m : Mark) (p : PartType) {o : OffersAnswer} {v : Outcome} {b : Bool} → o ≡ offers_call l m p → o.outcome ≡ v
-      → b ≡ refusal (answer_by 2 (offers_said o.offers) v) → Says (answer_by 2 (offers_said o.offers) v) r
-      → Replies l (Offers m p) (record { layout = l; refused = b; said = r })
+  pub offers-gives : (m : Mark) (p : PartType) {v : Result OfferList Refusal} {b : Bool} → v ≡ offers_call l m p → b ≡ refusal (offers_by v)
+      → Says (offers_by v) r → Replies l (Offers m p) (record { layout = l; refused = b; said = r })
   unfolding Answers after_offers
-  offers-gives m p {o} e h is y =
-      record {
-        answer = _;
-        answers = λ kept. by-outcome (both l kept) 2 (offers_said o.offers) h ∙ ap (after_offers (both l kept)) e;
-        refused = is;
-        says = y;
-      }
+  offers-gives m p e is y =
+      record { answer = _; answers = λ kept. ap (after_offers (both l kept)) e; refused = is; says = y }
 
-  pub insert-gives : (m : Mark) (p : PartType) (rotation : Rotation) (shape : InsertionShape) (i : Inserted) {v : Outcome} {b : Bool}
+  pub insert-gives : (m : Mark) (p : PartType) (rotation : Rotation) (shape : InsertionShape) (i : Inserted) {v : Result ⊤ Refusal} {b : Bool}
       → InsertSays l m p rotation shape i → i.outcome ≡ v → b ≡ refusal (answer_by 3 (marks_said i.marks) v)
       → Says (answer_by 3 (marks_said i.marks) v) r → Replies l (Insert m p rotation shape) (record { layout = i.layout; refused = b; said = r })
   unfolding Answers after_insert
@@ -100,7 +93,7 @@ module _ (l : Layout) {r : Said} where
         says = y;
       }
 
-  pub remove-gives : (m : Mark) (d : Removed) {v : Outcome} {b : Bool} → RemoveSays l m limit d → d.outcome ≡ v
+  pub remove-gives : (m : Mark) (d : Removed) {v : Result ⊤ Refusal} {b : Bool} → RemoveSays l m limit d → d.outcome ≡ v
       → b ≡ refusal (answer_by 4 (removed d.free (numbers_out l m.place)) v)
       → Says (answer_by 4 (removed d.free (numbers_out l m.place)) v) r
       → Replies l (Remove m) (record { layout = d.layout; refused = b; said = r })
@@ -124,7 +117,7 @@ module _ (l : Layout) {r : Said} where
       go true kept = refl
       go false kept = refl
 
-  pub restore-gives : (kept : Layout) {d : Restored} {v : Outcome} {b : Bool} → d ≡ restore_of l kept → d.outcome ≡ v
+  pub restore-gives : (kept : Layout) {d : Restored} {v : Result ⊤ Refusal} {b : Bool} → d ≡ restore_of l kept → d.outcome ≡ v
       → b ≡ refusal (answer_by 6 (done 6) v) → Says (answer_by 6 (done 6) v) r
       → Restores l kept (record { layout = d.layout; refused = b; said = r })
   unfolding Answers after_restore
@@ -163,13 +156,13 @@ unfolding Answers
 malformed-steps y = steps refl y
 
 -- an answer to offers has at most four
-pub offers-four : (l : Layout) (m : Mark) (p : PartType) → (offers_call l m p).offers.count ≤ 4
+pub offers-four : (l : Layout) (m : Mark) (p : PartType) → offers_count (offers_call l m p) ≤ 4
 unfolding offers_call
 offers-four l m p = go (free_piece_of l m p)
   where
-    go : (f : Sought) → (offered_for l p f).offers.count ≤ 4
-    go (sought.Refused e) = omega arith
-    go (sought.Piece d) = omega (arith, held-count (offers_of d p l.settings), offers-few d p l.settings)
+    go : (f : Result Datum Refusal) → offers_count (offered_for l p f) ≤ 4
+    go (Err e) = omega arith
+    go (Ok d) = omega (arith, held-count (offers_of d p l.settings), offers-few d p l.settings)
 
 -- the part numbers that an accepted removal left in a buffer of zeros
 pub numbers-out : {left : List ℕ} (l : Layout) (m : Mark) (d : Removed) → TakenOut l m limit d → left ≡ numbers_left l m (replicate limit 0)

@@ -1,6 +1,6 @@
 -- Document 01, "Counter frames": what a request does to the counter's state, and what it answers. "Layout and snapshot start all zero".
 -- Rests on the calls of `layout` and on the answers of `frames`.
-use Rattle.std.specs.Prelude.{◌≡◌, Bool, cond, List, ℕ, ◌+◌, ◌-◌, ◌*◌, length, take, replicate}
+use Rattle.std.specs.Prelude.{◌≡◌, Bool, cond, List, ℕ, ◌+◌, ◌-◌, ◌*◌, length, take, replicate, Result, Ok, Err, ⊤}
 use Rattle.std.proofs.Math.Option.{Option, none, some}
 use Rattle.std.specs.Float.{binary64}
 use Rattle.std.specs.Float.Ieee.{to_bits}
@@ -13,11 +13,8 @@ use Rattle.marks.specs.declared.Mark.{Mark}
 use Rattle.marks.specs.declared.Refusal.TheVariants.{NotSound}
 use Rattle.booking.specs.declared.new_marks.NewMarks.{NewMarks}
 use Rattle.layout.specs.declared.layout.Layout.{Layout}
-use Rattle.layout.specs.declared.open.OpenOutcome.{OpenOutcome}
-use Rattle.layout.specs.declared.open.OpenOutcome.TheVariants as openings
+use Rattle.marks.specs.declared.Refusal.{Refusal}
 use Rattle.layout.specs.declared.open.Opened.{Opened}
-use Rattle.layout.specs.declared.replies.Outcome.{Outcome}
-use Rattle.layout.specs.declared.replies.Outcome.TheVariants as outcomes
 use Rattle.layout.specs.declared.insert.Inserted.{Inserted}
 use Rattle.layout.specs.declared.remove.Removed.{Removed}
 use Rattle.layout.specs.declared.restore.Restored.{Restored}
@@ -27,7 +24,6 @@ use Rattle.layout.specs.Open.{open_of}
 use Rattle.layout.specs.Insert.{InsertSays}
 use Rattle.layout.specs.Remove.{RemoveSays, numbers_out}
 use Rattle.layout.specs.Restore.{restore_of}
-use Rattle.questions.specs.declared.replies.OffersAnswer.{OffersAnswer}
 use Rattle.questions.specs.Answers.{offers_call}
 use Rattle.frames.specs.declared.Ask.TheVariants.{Open, Offers, Insert, Remove, Report}
 use Rattle.frames.specs.declared.Request.{Request}
@@ -52,14 +48,14 @@ abbrev pub reply : Session → Answer → Reply
 reply s a = record { session = s; answer = a }
 
 -- the op's answer where the call accepts, and its refusal where it does not
-abbrev pub answer_by : ℕ → Answer → Outcome → Answer
-answer_by op a outcomes.Done = a
-answer_by op a (outcomes.Refused e) = refused op e
+abbrev pub answer_by : ℕ → Answer → Result ⊤ Refusal → Answer
+answer_by op a (Ok tt) = a
+answer_by op a (Err e) = refused op e
 
 -- a refused opening: "`counter` then keeps what it had"; the kept layout outlives openings
-abbrev pub opened_by : Session → Layout → OpenOutcome → Reply
-opened_by s l (openings.Free m) = reply (with_layout s l) (opened m)
-opened_by s l (openings.Refused e) = reply s (refused 1 e)
+abbrev pub opened_by : Session → Layout → Result Mark Refusal → Reply
+opened_by s l (Ok m) = reply (with_layout s l) (opened m)
+opened_by s l (Err e) = reply s (refused 1 e)
 
 unfoldable pub after_open : Session → Opened → Reply
 after_open s o = opened_by s o.layout o.outcome
@@ -68,8 +64,12 @@ after_open s o = opened_by s o.layout o.outcome
 abbrev pub offers_said : OfferList → Answer
 offers_said o = offered (take o.count o.list)
 
-unfoldable pub after_offers : Session → OffersAnswer → Reply
-after_offers s o = reply s (answer_by 2 (offers_said o.offers) o.outcome)
+abbrev pub offers_by : Result OfferList Refusal → Answer
+offers_by (Ok o) = offers_said o
+offers_by (Err e) = refused 2 e
+
+unfoldable pub after_offers : Session → Result OfferList Refusal → Reply
+after_offers s o = reply s (offers_by o)
 
 -- "marks of first node and part; count; free marks in creation order"
 abbrev pub marks_said : NewMarks → Answer

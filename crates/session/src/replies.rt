@@ -7,14 +7,11 @@ ghost use Rattle.session.specs.Replies.{Replies, Keeps, Restores};
 use crate::{LONGEST_ANSWER, say};
 use frames::Ask;
 use layout::layout::Layout;
-use layout::open::OpenOutcome;
-use layout::replies::Outcome;
 use marks::{Mark, Refusal};
 use piece::insertion_blueprint::InsertionShape;
 use piece::parttype::PartType;
 use piece::rotation::Rotation;
 use piece::settings::Opening;
-use questions::replies::UsageAnswer;
 use table::LIMIT;
 
 // An answer's line: the first count characters of it, its newline among them; the rest is zero.
@@ -46,9 +43,8 @@ fn open(layout: Layout, opening: Opening) -> Response
     ensures { Replies layout (asks.Open opening) result }
 {
     let opened = Layout::open(opening);
-    let outcome = opened.outcome;
-    match outcome {
-        OpenOutcome::Free(mark) => {
+    match opened.outcome {
+        Ok(mark) => {
             let next = opened.layout;
             let said = say::opened(mark);
             Response {
@@ -57,7 +53,7 @@ fn open(layout: Layout, opening: Opening) -> Response
                 said,
             }
         }
-        OpenOutcome::Refused(refusal) => {
+        Err(refusal) => {
             let said = say::refused(1, refusal);
             Response {
                 layout,
@@ -71,11 +67,8 @@ fn open(layout: Layout, opening: Opening) -> Response
 fn offers(layout: Layout, mark: Mark, part: PartType) -> Response
     ensures { Replies layout (asks.Offers mark part) result }
 {
-    let answer = questions::room::offers(layout, mark, part);
-    let offers = answer.offers;
-    let outcome = answer.outcome;
-    match outcome {
-        Outcome::Done => {
+    match questions::room::offers(layout, mark, part) {
+        Ok(offers) => {
             let said = say::offered(offers);
             Response {
                 layout,
@@ -83,7 +76,7 @@ fn offers(layout: Layout, mark: Mark, part: PartType) -> Response
                 said,
             }
         }
-        Outcome::Refused(refusal) => {
+        Err(refusal) => {
             let said = say::refused(2, refusal);
             Response {
                 layout,
@@ -106,9 +99,8 @@ fn insert(
     let answer = layout.insert(mark, part, rotation, shape);
     let next = answer.layout;
     let marks = answer.marks;
-    let outcome = answer.outcome;
-    match outcome {
-        Outcome::Done => {
+    match answer.outcome {
+        Ok(()) => {
             let said = say::inserted(marks);
             Response {
                 layout: next,
@@ -116,7 +108,7 @@ fn insert(
                 said,
             }
         }
-        Outcome::Refused(refusal) => {
+        Err(refusal) => {
             let said = say::refused(3, refusal);
             Response {
                 layout: next,
@@ -136,9 +128,8 @@ fn remove(layout: Layout, mark: Mark) -> Response
     let next = answer.layout;
     let free = answer.free;
     let many = answer.count as usize;
-    let outcome = answer.outcome;
-    match outcome {
-        Outcome::Done => {
+    match answer.outcome {
+        Ok(()) => {
             let said = say::removed(free, &numbers, many);
             Response {
                 layout: next,
@@ -146,7 +137,7 @@ fn remove(layout: Layout, mark: Mark) -> Response
                 said,
             }
         }
-        Outcome::Refused(refusal) => {
+        Err(refusal) => {
             let said = say::refused(4, refusal);
             Response {
                 layout: next,
@@ -174,9 +165,8 @@ pub fn restore(layout: Layout, kept: Layout) -> Response
 {
     let answer = layout.restore(kept);
     let next = answer.layout;
-    let outcome = answer.outcome;
-    match outcome {
-        Outcome::Done => {
+    match answer.outcome {
+        Ok(()) => {
             let said = say::done(6);
             Response {
                 layout: next,
@@ -184,7 +174,7 @@ pub fn restore(layout: Layout, kept: Layout) -> Response
                 said,
             }
         }
-        Outcome::Refused(refusal) => {
+        Err(refusal) => {
             let said = say::refused(6, refusal);
             Response {
                 layout: next,
@@ -200,7 +190,7 @@ fn report(layout: Layout) -> Response
     ensures { Replies layout asks.Report result }
 {
     match questions::figures::sheet_usage(layout) {
-        UsageAnswer::Usage(usage) => {
+        Ok(usage) => {
             let said = say::reported(layout.used, layout.held, f64::to_bits(usage));
             Response {
                 layout,
@@ -208,7 +198,7 @@ fn report(layout: Layout) -> Response
                 said,
             }
         }
-        UsageAnswer::Refused(refusal) => {
+        Err(refusal) => {
             let said = say::refused(7, refusal);
             Response {
                 layout,

@@ -5,14 +5,14 @@ use Rattle.desk_frames.specs.Answers.{area_found, found_in}
 use Rattle.desk_frames.proofs.Told.{told, refusal-told}
 use Rattle.desk_frames.proofs.replies.eaten_area.Goals as goal
 
-pub returns-in-Area : goal.returns-in-Area
+pub returns-in-Ok : goal.returns-in-Ok
 unfolding found_in
-returns-in-Area c =
+returns-in-Ok c =
     let a = c.args in
-    told a.layout EatenArea (ap area_found (sym c.in-Area.is ∙ c.eaten_area.ensures)) c.area.ensures
+    told a.layout EatenArea (ap area_found (sym c.in-Ok.is ∙ c.eaten_area.ensures)) c.area.ensures
 
-pub returns-in-Refused : goal.returns-in-Refused
+pub returns-in-Err : goal.returns-in-Err
 unfolding found_in
-returns-in-Refused c =
+returns-in-Err c =
     let a = c.args in
-    refusal-told a.layout EatenArea (ap area_found (sym c.in-Refused.is ∙ c.eaten_area.ensures)) c.refused.ensures
+    refusal-told a.layout EatenArea (ap area_found (sym c.in-Err.is ∙ c.eaten_area.ensures)) c.refused.ensures

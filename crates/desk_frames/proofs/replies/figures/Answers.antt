@@ -46,25 +46,25 @@ returns-in_default-tree_usage c = refused-figures _ (tree-not _ c.tree_usage.ens
 pub float_to_bits-sheet : goal.float_to_bits-sheet
 float_to_bits-sheet c =
     let l = c.args.layout in
-    let used = used-is l c.in-Area.ensures refl in
-    rw (sheet-is l c.in-Usage.ensures refl).1 (sheet-usage-number l (sound-says l (typed-sized l _ c.well_formed.0) used.0))
+    let used = used-is l c.in-Ok.ensures refl in
+    rw (sheet-is l c.in-Ok-sheet_usage.ensures refl).1 (sheet-usage-number l (sound-says l (typed-sized l _ c.well_formed.0) used.0))
 
 pub float_to_bits-tree : goal.float_to_bits-tree
 float_to_bits-tree c =
     let l = c.args.layout in
-    let used = used-is l c.in-Area.ensures refl in
-    rw (tree_is l c.in-Usage-tree_usage.ensures refl).1 (tree-usage-number l (sound-says l (typed-sized l _ c.well_formed.0) used.0))
+    let used = used-is l c.in-Ok.ensures refl in
+    rw (tree_is l c.in-Ok-tree_usage.ensures refl).1 (tree-usage-number l (sound-says l (typed-sized l _ c.well_formed.0) used.0))
 
 pub returns : goal.returns
 unfolding found_in
 returns c =
     let l = c.args.layout in
-    let used = used-is l c.in-Area.ensures refl in
-    let free = (free-is l c.in-Area-free_area.ensures refl).1 in
-    let nodes = (nodes-is l c.in-Count.ensures refl).1 in
-    let empty = c.yes_no.ensures ∙ ap yes_no (empty-is l c.in-Says.ensures refl).1 in
-    let sheet-bits = ap (to_bits binary64) (sheet-is l c.in-Usage.ensures refl).1 in
-    let tree-bits = ap (to_bits binary64) (tree_is l c.in-Usage-tree_usage.ensures refl).1 in
+    let used = used-is l c.in-Ok.ensures refl in
+    let free = (free-is l c.in-Ok-free_area.ensures refl).1 in
+    let nodes = (nodes-is l c.in-Ok-nodes_held.ensures refl).1 in
+    let empty = c.yes_no.ensures ∙ ap yes_no (empty-is l c.in-Ok-is_empty.ensures refl).1 in
+    let sheet-bits = ap (to_bits binary64) (sheet-is l c.in-Ok-sheet_usage.ensures refl).1 in
+    let tree-bits = ap (to_bits binary64) (tree_is l c.in-Ok-tree_usage.ensures refl).1 in
     told l Figures
     (sound-found l used.0
     (ap figures_bytes

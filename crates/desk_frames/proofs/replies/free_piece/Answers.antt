@@ -5,14 +5,14 @@ use Rattle.desk_frames.specs.Answers.{mark_found, found_in}
 use Rattle.desk_frames.proofs.Told.{told, refusal-told}
 use Rattle.desk_frames.proofs.replies.free_piece.Goals as goal
 
-pub returns-in-Found : goal.returns-in-Found
+pub returns-in-Ok : goal.returns-in-Ok
 unfolding found_in
-returns-in-Found c =
+returns-in-Ok c =
     let a = c.args in
-    told a.layout (FreePiece a.position) (ap mark_found (sym c.in-Found.is ∙ c.free_mark.ensures)) c.mark.ensures
+    told a.layout (FreePiece a.position) (ap mark_found (sym c.in-Ok.is ∙ c.free_mark.ensures)) c.mark.ensures
 
-pub returns-in-Refused : goal.returns-in-Refused
+pub returns-in-Err : goal.returns-in-Err
 unfolding found_in
-returns-in-Refused c =
+returns-in-Err c =
     let a = c.args in
-    refusal-told a.layout (FreePiece a.position) (ap mark_found (sym c.in-Refused.is ∙ c.free_mark.ensures)) c.refused.ensures
+    refusal-told a.layout (FreePiece a.position) (ap mark_found (sym c.in-Err.is ∙ c.free_mark.ensures)) c.refused.ensures

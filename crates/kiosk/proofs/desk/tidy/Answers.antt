@@ -2,10 +2,10 @@
 use Rattle.kiosk.proofs.AtDesk.{tidy-done, tidy-refused}
 use Rattle.kiosk.proofs.desk.tidy.Goals as goal
 
-pub returns-in-Done : goal.returns-in-Done
-returns-in-Done c =
-    tidy-done c.tidy-after.result c.layout_of-layout.ensures c.tidy-after.ensures c.tidied-count.ensures c.in-Done.is c.layout_record-given.ensures
+pub returns-in-Ok : goal.returns-in-Ok
+returns-in-Ok c =
+    tidy-done c.tidy-after.result c.layout_of-layout.ensures c.tidy-after.ensures c.tidied-count.ensures c.in-Ok.is c.layout_record-given.ensures
 
-pub returns-in-Refused : goal.returns-in-Refused
-returns-in-Refused c =
-    tidy-refused c.tidy-after.result c.layout_of-layout.ensures c.tidy-after.ensures c.tidied-count.ensures c.in-Refused.is
+pub returns-in-Err : goal.returns-in-Err
+returns-in-Err c =
+    tidy-refused c.tidy-after.result c.layout_of-layout.ensures c.tidy-after.ensures c.tidied-count.ensures c.in-Err.is

@@ -1,17 +1,18 @@
 -- `used_area` meets its contract: a sound layout's `used` is the area of the parts.
 use mathlib.Core.Path.{ap}
-use Rattle.questions.specs.declared.replies.AreaAnswer.TheVariants.{Area}
+use Rattle.std.specs.Prelude.{Ok}
 use Rattle.questions.specs.Answers.{used_area_of}
+use Rattle.std.proofs.lemmas.Result.{err_from_is_err_and}
+use Rattle.layout.proofs.Examined.{refuses, goes_on}
 use Rattle.questions.proofs.SizedBy.{sound-by}
-use Rattle.questions.proofs.Figured.{answered, refused}
 use Rattle.questions.proofs.figures.used_area.Goals as goal
 
-pub returns-then-sound : goal.returns-then-sound
+pub returns : goal.returns
 unfolding used_area_of
-returns-then-sound c =
-    let sound = sound-by c.args.layout c.well_formed c.sound.ensures c.if-sound.true in
-    answered _ c.sound.ensures c.if-sound.true (ap Area sound.used)
+returns c =
+    let sound = sound-by c.args.layout c.well_formed c.in_ok-examined.ensures in
+    goes_on c.args.layout _ c.in_ok-examined.ensures (ap Ok sound.used)
 
-pub returns-else-sound : goal.returns-else-sound
+pub returns-in_err-examined : goal.returns-in_err-examined
 unfolding used_area_of
-returns-else-sound c = refused _ c.sound.ensures c.if-sound.false
+returns-in_err-examined c = refuses c.args.layout _ c.in_err-examined.ensures (err_from_is_err_and c.from_residual.result c.from_residual.ensures.1)

@@ -5,11 +5,12 @@ use native.Mathlib.Omega.{arith}
 use lib.ListN.{get_or}
 use borrow.Author.Rules.{rules}
 use borrow.Author.Tests.{lt-ltb, le-ltb}
+use Rattle.std.specs.Prelude.{Ok, Some}
 use Rattle.lists.proofs.Scan.{search-start, search-on, search-found, search-end}
+use Rattle.marks.specs.declared.Mark.{Mark}
 use Rattle.layout.specs.Check.{limit}
 use Rattle.layout.proofs.Ways.{onward, ended}
 use Rattle.layout.proofs.Typed.{typed-sized}
-use Rattle.questions.specs.declared.replies.LightAnswer.TheVariants.{Room}
 use Rattle.questions.specs.Light.{first_offering, light_at, offering_at}
 use Rattle.questions.proofs.Entries.{free-low}
 use Rattle.questions.proofs.room.first_offering.Goals as goal
@@ -28,11 +29,11 @@ loop-i-init c = search-start (offering_at c.args.layout c.args.part) c.args.layo
 pub bounds-layout-i : goal.bounds-layout-i
 bounds-layout-i c = (low c).0
 
-pub offset_bounds-layout-at : goal.offset_bounds-layout-at
-offset_bounds-layout-at c = let h = (low (goal.at.offset_bounds-layout-at c).In-loop-i).1 in search rules
+pub offset_bounds-layout-place : goal.offset_bounds-layout-place
+offset_bounds-layout-place c = let h = (low (goal.at.offset_bounds-layout-place c).In-loop-i).1 in search rules
 
-pub bounds-layout-at : goal.bounds-layout-at
-bounds-layout-at c = (low (goal.at.bounds-layout-at c).In-loop-i).1
+pub bounds-layout-place : goal.bounds-layout-place
+bounds-layout-place c = (low (goal.at.bounds-layout-place c).In-loop-i).1
 
 pub mark_of-requires : goal.mark_of-requires
 mark_of-requires c = (low (goal.at.mark_of-requires c).In-loop-i).1
@@ -46,7 +47,7 @@ returns-then-has_offer c =
     search-found (offering_at a.layout a.part) a.layout.frees l.i l.invariant c.loop-i-test.true
     (sym c.has_offer.ensures ∙ c.if-has_offer.true)
     in
-    ap Room c.mark_of.ensures ∙ onward _ (lt-ltb _ _ c.loop-i-test.true) refl ∙ ap (light_at a.layout) found
+    ap (λ (m : Mark). Ok (Some m)) c.mark_of.ensures ∙ onward _ (lt-ltb _ _ c.loop-i-test.true) refl ∙ ap (light_at a.layout) found
 
 pub loop-i-preserved : goal.loop-i-preserved
 loop-i-preserved c =

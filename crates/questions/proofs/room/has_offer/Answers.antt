@@ -7,4 +7,4 @@ use Rattle.questions.proofs.room.has_offer.Goals as goal
 
 pub returns : goal.returns
 unfolding as_offer_list
-returns c = ap (λ (o : OfferList). ltb 0 o.count) c.offers-offers.ensures
+returns c = ap (λ (o : OfferList). ltb 0 o.count) c.offers.ensures

@@ -1,13 +1,16 @@
 -- `cuts` meets its contract: refused, too short, or the cuts of the list that was made, copied. Assumes nothing.
-use mathlib.Core.Path.{◌≡◌, sym, ap, ◌∙◌}
+use mathlib.Core.Path.{◌≡◌, ap, ◌∙◌}
 use mathlib.Core.Bool.{true}
 use Prim.Native.Nat.{◌*◌}
 use native.Mathlib.Omega.{arith}
 use lib.ListN.{length}
 use lib.Seq.{sets}
+use Rattle.std.specs.Prelude.{Err}
+use Rattle.std.proofs.lemmas.Result.{err_from_is_err_and}
 use Rattle.layout.specs.declared.layout.Layout.{Layout}
 use Rattle.layout.specs.Check.{sound_b}
 use Rattle.layout.specs.SoundLayout.{SoundLayout}
+use Rattle.layout.proofs.Examined.{passed, stopped}
 use Rattle.layout.proofs.Exactly.{sound-says}
 use Rattle.layout.proofs.Typed.{typed-sized}
 use Rattle.questions.proofs.Lent.{not_sound, too_short, done}
@@ -15,35 +18,36 @@ use Rattle.saw.specs.Written.{saw_bytes}
 use Rattle.saw.proofs.Layouts.{list_length}
 use Rattle.saw.proofs.Call.{ListMade, list-made}
 use Rattle.saw.proofs.cuts.cuts.Goals as goal
-use Rattle.saw.proofs.cuts.cuts.Goals.{After-list_of-n, Then-sound}
+use Rattle.saw.proofs.cuts.cuts.Goals.{After-list_of-n, In_ok-examined}
 
 -- the first test
-checked : (c : Then-sound) → sound_b c.args.layout ≡ true
-checked c = sym c.sound.ensures ∙ c.if-sound.true
+checked : (c : In_ok-examined) → sound_b c.args.layout ≡ true
+checked c = passed c.args.layout c.in_ok-examined.ensures
 
-stands : (c : Then-sound) → SoundLayout c.args.layout
+stands : (c : In_ok-examined) → SoundLayout c.args.layout
 stands c = sound-says c.args.layout (typed-sized c.args.layout _ c.well_formed.0) (checked c)
 
 abbrev the-layout : After-list_of-n → Layout
 the-layout c = c.args.layout
 
 made : (c : After-list_of-n) → ListMade (the-layout c) c.list_of-n.new.list c.list_of-n.result
-made c = list-made (the-layout c) (sound-says c.args.layout (typed-sized c.args.layout _ c.well_formed.0) (sym c.sound.ensures ∙ c.if-sound.true)) c.list_of-n.ensures.written c.list_of-n.ensures.counted
+made c = list-made (the-layout c) (sound-says c.args.layout (typed-sized c.args.layout _ c.well_formed.0) (passed c.args.layout c.in_ok-examined.ensures)) c.list_of-n.ensures.written c.list_of-n.ensures.counted
 
 -- as many bytes as there is to write
 bytes-are : (c : After-list_of-n) → 9 * c.list_of-n.result ≡ length (saw_bytes (the-layout c))
 bytes-are c = omega (arith, c.list_of-n.ensures.counted, list_length (the-layout c))
 
-pub returns-else-sound : goal.returns-else-sound
-returns-else-sound c =
+pub returns-in_err-examined : goal.returns-in_err-examined
+returns-in_err-examined c =
     let a = c.args in
-    let e = not_sound a.layout (saw_bytes a.layout) a.out.now (sym c.sound.ensures ∙ c.if-sound.false) in
-    record { answer = e.0; written = e.1 }
+    let e = not_sound a.layout (saw_bytes a.layout) a.out.now (stopped a.layout c.in_err-examined.ensures).0 in
+    let p = err_from_is_err_and c.from_residual.result c.from_residual.ensures.1 in
+    record { answer = p.1 ∙ ap Err (p.2 ∙ (stopped a.layout c.in_err-examined.ensures).1) ∙ e.0; written = e.1 }
 
 pub returns-then-out-bytes : goal.returns-then-out-bytes
 returns-then-out-bytes c =
     let a = c.args in
-    let e = too_short a.layout (saw_bytes a.layout) a.out.now (checked (goal.at.returns-then-out-bytes c).Then-sound) (omega (arith, bytes-are (goal.at.returns-then-out-bytes c).After-list_of-n, c.if-out-bytes.true)) in
+    let e = too_short a.layout (saw_bytes a.layout) a.out.now (checked (goal.at.returns-then-out-bytes c).In_ok-examined) (omega (arith, bytes-are (goal.at.returns-then-out-bytes c).After-list_of-n, c.if-out-bytes.true)) in
     record { answer = e.0; written = e.1 }
 
 pub put_nines-requires : goal.put_nines-requires
@@ -54,13 +58,13 @@ put_nines-requires c =
 pub returns : goal.returns
 returns c =
     let a = c.args in
-    let e = done a.layout (saw_bytes a.layout) a.out.now (checked (goal.at.returns c).Then-sound) (omega (arith, bytes-are (goal.at.returns c).After-list_of-n, c.if-out-bytes.false)) (bytes-are (goal.at.returns c).After-list_of-n)
+    let e = done a.layout (saw_bytes a.layout) a.out.now (checked (goal.at.returns c).In_ok-examined) (omega (arith, bytes-are (goal.at.returns c).After-list_of-n, c.if-out-bytes.false)) (bytes-are (goal.at.returns c).After-list_of-n)
     (c.put_nines.ensures ∙ ap (sets a.out.now 0) (made (goal.at.returns c).After-list_of-n).nines) in
     record { answer = e.0; written = e.1 }
 
 pub list_of-n-requires : goal.list_of-n-requires
 list_of-n-requires c =
-    stands (goal.at.list_of-n-requires c).Then-sound
+    stands (goal.at.list_of-n-requires c).In_ok-examined
 
 pub overflow_mul-bytes : goal.overflow_mul-bytes
 overflow_mul-bytes c =

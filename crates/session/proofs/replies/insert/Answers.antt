@@ -7,14 +7,14 @@ use Rattle.session.proofs.replies.insert.Goals as goal
 pub inserted-said-requires : goal.inserted-said-requires
 inserted-said-requires c =
     let a = c.args in
-    insert-says a.layout a.mark a.part a.rotation a.shape _ c.insert-answer.ensures c.in-Done.is
+    insert-says a.layout a.mark a.part a.rotation a.shape _ c.insert-answer.ensures c.in-Ok.is
 
-pub returns-in-Done : goal.returns-in-Done
-returns-in-Done c =
+pub returns-in-Ok : goal.returns-in-Ok
+returns-in-Ok c =
     let a = c.args in
-    insert-gives a.layout a.mark a.part a.rotation a.shape _ c.insert-answer.ensures c.in-Done.is refl c.inserted-said.ensures
+    insert-gives a.layout a.mark a.part a.rotation a.shape _ c.insert-answer.ensures c.in-Ok.is refl c.inserted-said.ensures
 
-pub returns-in-Refused : goal.returns-in-Refused
-returns-in-Refused c =
+pub returns-in-Err : goal.returns-in-Err
+returns-in-Err c =
     let a = c.args in
-    insert-gives a.layout a.mark a.part a.rotation a.shape _ c.insert-answer.ensures c.in-Refused.is refl c.refused-said.ensures
+    insert-gives a.layout a.mark a.part a.rotation a.shape _ c.insert-answer.ensures c.in-Err.is refl c.refused-said.ensures

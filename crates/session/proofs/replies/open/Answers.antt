@@ -3,14 +3,14 @@ use mathlib.Core.Path.{refl}
 use Rattle.session.proofs.Ways.{open_gives}
 use Rattle.session.proofs.replies.open.Goals as goal
 
-pub returns-in-Free : goal.returns-in-Free
-returns-in-Free c =
+pub returns-in-Ok : goal.returns-in-Ok
+returns-in-Ok c =
     let a = c.args in
-    open_gives a.layout a.opening c.open-opened.ensures c.in-Free.is (λ _. refl) refl
+    open_gives a.layout a.opening c.open-opened.ensures c.in-Ok.is (λ _. refl) refl
     c.opened-said.ensures
 
-pub returns-in-Refused : goal.returns-in-Refused
-returns-in-Refused c =
+pub returns-in-Err : goal.returns-in-Err
+returns-in-Err c =
     let a = c.args in
-    open_gives a.layout a.opening c.open-opened.ensures c.in-Refused.is (λ _. refl) refl
+    open_gives a.layout a.opening c.open-opened.ensures c.in-Err.is (λ _. refl) refl
     c.refused-said.ensures

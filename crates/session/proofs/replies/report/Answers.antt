@@ -6,12 +6,12 @@ use Rattle.session.proofs.replies.report.Goals as goal
 
 pub float_to_bits-usage : goal.float_to_bits-usage
 float_to_bits-usage c =
-    usage-bits c.args.layout c.sheet_usage.ensures (typed-sized c.args.layout _ c.well_formed.0) c.in-Usage.is
+    usage-bits c.args.layout c.sheet_usage.ensures (typed-sized c.args.layout _ c.well_formed.0) c.in-Ok.is
 
-pub returns-in-Usage : goal.returns-in-Usage
-returns-in-Usage c =
-    reported-done c.args.layout c.sheet_usage.ensures (typed-sized c.args.layout _ c.well_formed.0) c.in-Usage.is refl c.reported-said.ensures
+pub returns-in-Ok : goal.returns-in-Ok
+returns-in-Ok c =
+    reported-done c.args.layout c.sheet_usage.ensures (typed-sized c.args.layout _ c.well_formed.0) c.in-Ok.is refl c.reported-said.ensures
 
-pub returns-in-Refused : goal.returns-in-Refused
-returns-in-Refused c =
-    reported-refused c.args.layout c.sheet_usage.ensures c.in-Refused.is refl c.refused-said.ensures
+pub returns-in-Err : goal.returns-in-Err
+returns-in-Err c =
+    reported-refused c.args.layout c.sheet_usage.ensures c.in-Err.is refl c.refused-said.ensures

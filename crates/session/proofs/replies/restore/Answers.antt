@@ -3,12 +3,12 @@ use mathlib.Core.Path.{refl}
 use Rattle.session.proofs.Ways.{restore-gives}
 use Rattle.session.proofs.replies.restore.Goals as goal
 
-pub returns-in-Done : goal.returns-in-Done
-returns-in-Done c =
+pub returns-in-Ok : goal.returns-in-Ok
+returns-in-Ok c =
     let a = c.args in
-    restore-gives a.layout a.kept c.restore-answer.ensures c.in-Done.is refl c.done-said.ensures
+    restore-gives a.layout a.kept c.restore-answer.ensures c.in-Ok.is refl c.done-said.ensures
 
-pub returns-in-Refused : goal.returns-in-Refused
-returns-in-Refused c =
+pub returns-in-Err : goal.returns-in-Err
+returns-in-Err c =
     let a = c.args in
-    restore-gives a.layout a.kept c.restore-answer.ensures c.in-Refused.is refl c.refused-said.ensures
+    restore-gives a.layout a.kept c.restore-answer.ensures c.in-Err.is refl c.refused-said.ensures

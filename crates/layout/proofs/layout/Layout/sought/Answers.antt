@@ -5,6 +5,7 @@ use borrow.Author.Tests.{eq-eqb, ne_eqb, le-leb, lt-leb}
 use Rattle.layout.specs.Asked.{sought_of}
 use Rattle.layout.proofs.Ways.{onward, ended, either, or_else}
 use Rattle.layout.proofs.layout.Layout.sought.Goals as goal
+use Rattle.layout.proofs.layout.Layout.sought.Goals.{then-d-eq0-via-then-d-eq0, then-d-eq0-via-else-d-eq0+then-d-mark}
 
 pub returns-then-mark-self : goal.returns-then-mark-self
 unfolding sought_of
@@ -18,15 +19,15 @@ returns-then-place-ge-NONE c =
 pub returns-then-d-eq0 : goal.returns-then-d-eq0
 unfolding sought_of
 returns-then-d-eq0 c =
-    onward _ (eq-eqb _ _ c.if-mark-self.false)
-    (onward _ (or_else (lt-leb _ _ c.if-place-ge-NONE.false) (either _ (eq-eqb _ _ c.if-d-eq0.true))) refl)
-
-pub returns-then-d-mark : goal.returns-then-d-mark
-unfolding sought_of
-returns-then-d-mark c =
-    onward _ (eq-eqb _ _ c.if-mark-self.false)
-    (onward _
-    (or_else (lt-leb _ _ c.if-place-ge-NONE.false) (or_else (ne_eqb _ _ c.if-d-eq0.false) (ap not (ne_eqb _ _ c.if-d-mark.true)))) refl)
+    elim c.then-d-eq0.branch [
+      | then-d-eq0-via-then-d-eq0 w ↦
+          onward _ (eq-eqb _ _ c.if-mark-self.false)
+          (onward _ (or_else (lt-leb _ _ c.if-place-ge-NONE.false) (either _ (eq-eqb _ _ w.if-d-eq0.true))) refl)
+      | then-d-eq0-via-else-d-eq0+then-d-mark w ↦
+          onward _ (eq-eqb _ _ c.if-mark-self.false)
+          (onward _
+          (or_else (lt-leb _ _ c.if-place-ge-NONE.false) (or_else (ne_eqb _ _ w.if-d-eq0.false) (ap not (ne_eqb _ _ w.if-d-mark.true)))) refl)
+    ]
 
 pub returns : goal.returns
 unfolding sought_of

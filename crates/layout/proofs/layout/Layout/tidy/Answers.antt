@@ -9,11 +9,11 @@ use Rattle.layout.proofs.Typed.{typed-sized}
 use Rattle.layout.proofs.Exactly.{sound-says}
 use Rattle.layout.proofs.TidyEnds.{emptyable, finds, finds-none, none-taken, one_less, one_more, some_left, unsound-so, spent-so, done-so}
 use Rattle.layout.proofs.layout.Layout.tidy.Goals as goal
-use Rattle.layout.proofs.layout.Layout.tidy.Goals.{Else-place-ge-NONE, Then-sound}
+use Rattle.layout.proofs.layout.Layout.tidy.Goals.{Else-place-ge-NONE, Else-not-sound}
 
 -- past the first test
-checked : (c : Then-sound) → sound_b c.args.self ≡ true
-checked c = sym c.sound.ensures ∙ c.if-sound.true
+checked : (c : Else-not-sound) → sound_b c.args.self ≡ true
+checked c = sym c.sound.ensures ∙ c.if-not-sound.false
 
 -- a structure was found
 found : (c : Else-place-ge-NONE) → Lowest c.lowest_untidy-place.result (tree c.loop-self.left)
@@ -22,9 +22,9 @@ found c =
     let e = c.lowest_untidy-place.ensures in
     rw e (finds l.left l.invariant.sound (omega (arith, e, c.if-place-ge-NONE.false)))
 
-pub returns-else-sound : goal.returns-else-sound
-returns-else-sound c =
-    unsound-so c.args.self (sym c.sound.ensures ∙ c.if-sound.false) c.refused_tidy.ensures
+pub returns-then-not-sound : goal.returns-then-not-sound
+returns-then-not-sound c =
+    unsound-so c.args.self (sym c.sound.ensures ∙ c.if-not-sound.true) c.refused_tidy.ensures
 
 pub loop-self-init : goal.loop-self-init
 loop-self-init c =
