@@ -1,6 +1,5 @@
 pub mod Runs
 pub mod NewPlaces
-pub mod Typed
 pub mod Made
 pub mod Marked
 pub mod Growing
