@@ -24,11 +24,8 @@ pub fn strips_of(nodes: [Node; LIMIT]) -> u64
     ensures { result ≡ strips_of nodes limit }
 {
     let mut sum: u64 = 0;
-    let mut i: usize = 0;
-    while i < LIMIT {
-        let n = nodes[i];
-        sum += strip_of(n.datum);
-        i += 1;
+    for i in 0..LIMIT {
+        sum += strip_of(nodes[i].datum);
     }
     sum
 }

@@ -25,13 +25,11 @@ fn first_offering(layout: Layout, part: PartType) -> Result<Option<Mark>, Refusa
     requires { sound_b layout ≡ true }
     ensures { result ≡ light_at layout (first_offering layout part) }
 {
-    let mut i: u16 = 0;
-    while i < layout.frees {
+    for i in 0..layout.frees {
         let place = layout.free[i as usize];
         if has_offer(layout.nodes[place as usize].datum, part, layout.settings) {
             return Ok(Some(mark_of(layout, place)));
         }
-        i += 1;
     }
     Ok(None)
 }

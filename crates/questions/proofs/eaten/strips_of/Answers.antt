@@ -13,17 +13,13 @@ overflow_add-sum c =
     omega (arith, c.requires, strips-grow t limit (l.i + 1) (omega arith), strips-more t l.i, c.strip_of-sum.ensures)
 
 pub loop-i-preserved : goal.loop-i-preserved
-loop-i-preserved c =
-    let l = c.loop-i in
-    let t = c.args.nodes in
-    (omega arith, omega (arith, strips-more t l.i, c.strip_of-sum.ensures))
+loop-i-preserved c = omega (arith, c.loop-i.invariant, strips-more c.args.nodes c.loop-i.i, c.strip_of-sum.ensures)
 
 pub returns : goal.returns
 returns c =
     let l = c.loop-i in
     let full : l.i ≡ limit = omega arith in
-    rw full at l.invariant.1
+    rw full at l.invariant
 
 pub loop-i-init : goal.loop-i-init
-loop-i-init c =
-    (omega arith, sym (strips-none _))
+loop-i-init c = sym (strips-none _)

@@ -1,5 +1,5 @@
 -- `mark_at` meets its contract: each way out is one outcome of the tests of `mark_at`. Assumes nothing.
-use mathlib.Core.Path.{refl, sym, ap, ◌∙◌}
+use mathlib.Core.Path.{refl, ap}
 use Prim.Native.Nat.{◌<◌}
 use native.Mathlib.Omega.{arith}
 use lib.ListN.{get_or}

@@ -21,7 +21,7 @@ low : (c : In-loop-i)
     → (c.loop-i.i < limit) × (get_or c.args.layout.free c.loop-i.i 0 < limit)
 low c =
     let placed = free-low c.args.layout (typed-sized c.args.layout _ c.well_formed.0) c.requires in
-    (omega (arith, placed.0, c.loop-i-test.true), placed.1 c.loop-i.i c.loop-i-test.true)
+    (omega (arith, placed.0), placed.1 c.loop-i.i (omega arith))
 
 pub loop-i-init : goal.loop-i-init
 loop-i-init c = search-start (offering_at c.args.layout c.args.part) c.args.layout.frees
@@ -44,16 +44,16 @@ returns-then-has_offer c =
     let l = c.loop-i in
     let a = c.args in
     let found =
-    search-found (offering_at a.layout a.part) a.layout.frees l.i l.invariant c.loop-i-test.true
+    search-found (offering_at a.layout a.part) a.layout.frees l.i l.invariant (omega arith)
     (sym c.has_offer.ensures ∙ c.if-has_offer.true)
     in
-    ap (λ (m : Mark). Ok (Some m)) c.mark_of.ensures ∙ onward _ (lt-ltb _ _ c.loop-i-test.true) refl ∙ ap (light_at a.layout) found
+    ap (λ (m : Mark). Ok (Some m)) c.mark_of.ensures ∙ onward _ (lt-ltb l.i a.layout.frees (omega arith)) refl ∙ ap (light_at a.layout) found
 
 pub loop-i-preserved : goal.loop-i-preserved
 loop-i-preserved c =
     let l = c.loop-i in
     let a = c.args in
-    search-on (offering_at a.layout a.part) a.layout.frees l.i l.invariant c.loop-i-test.true
+    search-on (offering_at a.layout a.part) a.layout.frees l.i l.invariant (omega arith)
     (sym c.has_offer.ensures ∙ c.if-has_offer.false)
 
 pub returns : goal.returns
@@ -61,5 +61,5 @@ unfolding first_offering
 returns c =
     let l = c.loop-i in
     let a = c.args in
-    let past = search-end (offering_at a.layout a.part) a.layout.frees l.i l.invariant c.loop-i-test.false in
+    let past = search-end (offering_at a.layout a.part) a.layout.frees l.i l.invariant (omega arith) in
     ended _ (le-ltb _ a.layout.frees (omega arith)) refl ∙ ap (light_at a.layout) past

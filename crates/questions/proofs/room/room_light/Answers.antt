@@ -1,5 +1,5 @@
 -- `room_light` meets its contract: each way out is one outcome of the tests of `light_of`.
-use mathlib.Core.Path.{refl, sym, ◌∙◌}
+use mathlib.Core.Path.{refl}
 use Rattle.std.proofs.lemmas.Result.{err_from_is_err_and}
 use Rattle.layout.proofs.Examined.{passed, refuses, goes_on}
 use Rattle.layout.proofs.Ways.{onward-by, ended_by}

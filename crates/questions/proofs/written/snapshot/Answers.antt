@@ -1,5 +1,5 @@
 -- `snapshot` meets its contract: refused, too short, or written down the tree from the top, each node before its children's subtrees.
-use mathlib.Core.Path.{◌≡◌, sym, ap, ◌∙◌}
+use mathlib.Core.Path.{◌≡◌, ap, ◌∙◌}
 use mathlib.Core.Bool.{true}
 use native.Mathlib.Omega.{arith}
 use lib.ListN.{length}
