@@ -12,6 +12,7 @@ use lists::search::{index_of, wide};
 use lists::shift::{delete_at, insert_at, swap_out};
 use table::Node;
 
+// `Kept` stays in the contracts: a ghost field would need `listing` of specs/Listings.antt to say a length that it has not.
 #[derive(Clone, Copy)]
 pub struct Listing {
     pub list: [u16; LIMIT],
@@ -143,5 +144,9 @@ fn area_in(nodes: &[Node; LIMIT], place: u16) -> u64
     ensures { result ≡ area_in nodes.now place }
 {
     let p = place as usize;
-    if p < LIMIT { nodes[p].datum.size.area() } else { 0 }
+    if p < LIMIT {
+        nodes[p].datum.size.area()
+    } else {
+        0
+    }
 }
