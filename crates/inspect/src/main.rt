@@ -15,13 +15,6 @@ use pen::ROOM;
 use pipes::Came;
 use session::listener::Listener;
 
-// The listener after a chunk, and whether all its lines could be written.
-#[derive(Drop)]
-struct Served {
-    listener: Listener,
-    written: bool,
-}
-
 // What the first count characters ask; more than a line may have ask nothing that is well-formed.
 fn request_in(chars: [u8; 64], count: usize) -> DeskRequest {
     if MOST < count {
@@ -33,11 +26,8 @@ fn request_in(chars: [u8; 64], count: usize) -> DeskRequest {
 // What the line asks that a turn from this position answers; without a line, nothing that is well-formed.
 fn asked(pending: Pending, chunk: &[u8], at: usize) -> DeskRequest {
     let taken = pending.take(chunk, at);
-    let event = taken.event;
-    let line = taken.pending;
-    let chars = line.bytes;
-    match event {
-        Event::Whole => request_in(chars, line.count),
+    match taken.event {
+        Event::Whole => request_in(taken.pending.bytes, taken.pending.count),
         _ => DeskRequest::AtCounter(Request::Malformed),
     }
 }
@@ -60,79 +50,62 @@ fn tell(rt: &HostRuntime, layout: Layout, line: &[u8], count: usize, request: Re
     pen::end(&mut out, nine)
 }
 
-// The counter's answer, and what the line asks there.
+// Tells of the counter's answer, and of what the line asks there: the listener; none, where that could not be written.
 fn told(
     rt: &HostRuntime,
     listener: Listener,
     line: &[u8],
     count: usize,
     request: Request,
-) -> Served {
-    let layout = listener.session.layout;
-    let written = tell(rt, layout, line, count, request);
-    Served { listener, written }
+) -> Option<Listener> {
+    if !tell(rt, listener.session.layout, line, count, request) {
+        return None;
+    }
+    Some(listener)
 }
 
 // At the counter a line that asks to tidy is malformed and changes nothing; here the layout is tidied, as at the desk.
-fn tidied(rt: &HostRuntime, listener: Listener) -> Served {
-    let session = listener.session;
-    let pending = listener.pending;
+fn tidied(rt: &HostRuntime, listener: Listener) -> Option<Listener> {
     let mut line = [0u8; desk_frames::LONGEST_ANSWER];
-    let stepped = desk_frames::asked(session, DeskRequest::Tidy, &mut line);
-    let after = stepped.session;
+    let stepped = desk_frames::asked(listener.session, DeskRequest::Tidy, &mut line);
     let next = Listener {
-        session: after,
-        pending,
+        session: stepped.session,
+        pending: listener.pending,
     };
     told(rt, next, &line, stepped.count, Request::Malformed)
 }
 
-// Takes turns until the chunk is used up.
-fn serve(rt: &HostRuntime, listener: Listener, chunk: &[u8]) -> Served {
+// Takes turns until the chunk is used up: the listener then; none, where a line could not be written.
+fn serve(rt: &HostRuntime, listener: Listener, chunk: &[u8]) -> Option<Listener> {
     let mut d = listener;
     let mut at: usize = 0;
     while at < chunk.len() {
-        let begun = d.pending;
-        let request = asked(begun, chunk, at);
+        let request = asked(d.pending, chunk, at);
         let turn = d.turn(chunk, at);
-        let after = turn.listener;
         let line = turn.line;
-        let served = match request {
-            DeskRequest::Tidy => tidied(rt, after),
-            DeskRequest::Asks(_) => told(rt, after, &line, turn.count, Request::Malformed),
-            DeskRequest::AtCounter(asks) => told(rt, after, &line, turn.count, asks),
+        let after = match request {
+            DeskRequest::Tidy => tidied(rt, turn.listener),
+            DeskRequest::Asks(_) => told(rt, turn.listener, &line, turn.count, Request::Malformed),
+            DeskRequest::AtCounter(asks) => told(rt, turn.listener, &line, turn.count, asks),
         };
-        if served.written {} else {
-            return Served {
-                listener: d,
-                written: false,
-            };
-        }
-        let next = served.listener;
-        d = next;
+        d = after?;
         at = turn.next;
     }
-    Served {
-        listener: d,
-        written: true,
-    }
+    Some(d)
 }
 
-// As in `counter`: it reads what is there, and counts its reads down from a number that no run uses up.
+// As in `counter`: it reads what is there, and counts its reads, up to a number that no run reaches.
 fn main(rt: HostRuntime) {
     let mut input = rt.stdin();
     let mut listener = Listener::start();
-    let mut reads = u64::MAX;
-    while 0 < reads {
+    for _read in 0..u64::MAX {
         let mut chunk = [0u8; 4096];
         match pipes::read_some(&rt, &mut input, &mut chunk, b"inspect: reading") {
             Came::Bytes(n) => {
-                let served = serve(&rt, listener, &chunk[..n]);
-                if served.written {} else {
+                let Some(after) = serve(&rt, listener, &chunk[..n]) else {
                     return;
-                }
-                let next = served.listener;
-                listener = next;
+                };
+                listener = after;
             }
             Came::End => {
                 let last = listener.end();
@@ -142,6 +115,5 @@ fn main(rt: HostRuntime) {
             }
             Came::Failed => return,
         }
-        reads -= 1;
     }
 }

@@ -1,4 +1,4 @@
--- `main` is safe and ends. The measure is the number of reads that are left. Assumes nothing.
+-- `main` is safe and ends. Assumes nothing.
 use Rattle.pipes.proofs.Uses.{bytes_count}
 use Rattle.inspect.proofs.main.Goals as goal
 
