@@ -9,8 +9,7 @@ use lib.ListN.{length, set}
 use lib.Seq.{sets}
 use Rattle.piece.specs.declared.node.Datum.{Datum}
 use Rattle.piece.specs.Kinds.{is_part}
-use Rattle.tree.specs.Snapshot.{two_then, four_then, node_bytes}
-use Rattle.walks.specs.Snapshot.{bytes_of_node}
+use Rattle.tree.specs.Snapshot.{node_bytes}
 use Rattle.walks.specs.Along.{part_number}
 
 -- ---- bytes written one by one
@@ -24,20 +23,6 @@ module _ (l : List ℕ) (x : ℕ) where
       let e₂ : x + 2 ≡ suc (suc x) = omega arith in
       let e₃ : x + 3 ≡ suc (suc (suc x)) = omega arith in
       rw (add-one x, e₂, e₃) refl
-
-  -- a node's: level, kind and cut, then its three numbers, and what was eaten behind it
-  pub node-stored : (level kind cut number width height eaten : ℕ) (l₁ l₂ l₃ : List ℕ)
-      → l₁ ≡ sets (set (set (set l x level) (x + 1) kind) (x + 2) cut) (x + 3) (two_then number [])
-      → l₂ ≡ sets l₁ (x + 5) (four_then width [])
-      → l₃ ≡ sets l₂ (x + 9) (four_then height [])
-      → set l₃ (x + 13) eaten ≡ sets l x (bytes_of_node level kind cut number width height eaten)
-  node-stored level kind cut number width height eaten l₁ l₂ l₃ e f g =
-      let e₂ : x + 2 ≡ suc (suc x) = omega arith in
-      let e₃ : x + 3 ≡ suc (suc (suc x)) = omega arith in
-      let e₅ : x + 5 ≡ suc (suc (suc (suc (suc x)))) = omega arith in
-      let e₉ : x + 9 ≡ suc (suc (suc (suc (suc (suc (suc (suc (suc x)))))))) = omega arith in
-      let e₁₃ : x + 13 ≡ suc (suc (suc (suc (suc (suc (suc (suc (suc (suc (suc (suc (suc x)))))))))))) = omega arith in
-      rw (g, f, e, add-one x, e₂, e₃, e₅, e₉, e₁₃) refl
 
 -- ---- how many there are
 
