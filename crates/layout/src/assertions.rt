@@ -44,7 +44,15 @@ impl Layout {
             &mut area,
         );
         let framed = frame_ok(settings, nodes[0], self.serial);
-        linked & counted & framed && rest_ok(&area, &serial, &self.free, frees, &self.removable, removables)
+        linked & counted & framed
+            && rest_ok(
+                &area,
+                &serial,
+                &self.free,
+                frees,
+                &self.removable,
+                removables,
+            )
     }
 
     // Refusal 1, at the head of a call.
