@@ -7,7 +7,7 @@ ghost use Rattle.booking.specs.Marks.{first_mark, head_mark, marks_of, new_mark,
 use crate::new_nodes::{NewNode, NewNodes};
 use marks::Mark;
 
-// The marks of the first node and of the part; those of the free pieces in creation order, and how many. A mark that is none is zero.
+// The marks of the first node and of the part; those of the free pieces in creation order, and how many (no heap). A mark that is none is zero.
 #[derive(Clone, Copy)]
 pub struct NewMarks {
     pub first: Mark,

@@ -24,7 +24,7 @@ pub struct NewNode {
     pub datum: Datum,
 }
 
-// At most five; entries past the count are zero. No ghost field says so, since `add_node` and `held_new` of the specs build such records of any count.
+// At most five, without a heap; entries past the count are zero. No ghost field says so, since `add_node` and `held_new` of the specs build such records of any count.
 #[derive(Clone, Copy)]
 pub struct NewNodes {
     pub list: [NewNode; 5],

@@ -65,6 +65,7 @@ impl Layout {
         }
         let mut left = self;
         let mut count: u16 = 0;
+        // no index: it goes on until no such structure is left
         loop {
             let place = lowest_untidy(&left.nodes);
             if NONE <= place {

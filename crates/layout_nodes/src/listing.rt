@@ -12,7 +12,7 @@ use lists::search::{index_of, wide};
 use lists::shift::{delete_at, insert_at, swap_out};
 use table::Node;
 
-// `Kept` stays in the contracts: a ghost field would need `listing` of specs/Listings.antt to say a length that it has not.
+// Nothing here has a heap: an array with its count. `Kept` stays in the contracts: a ghost field would need `listing` of specs/Listings.antt to say a length that it has not.
 #[derive(Clone, Copy)]
 pub struct Listing {
     pub list: [u16; LIMIT],

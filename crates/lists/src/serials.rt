@@ -57,6 +57,7 @@ fn chains_differ(s: &[u32; LIMIT], chains: Chains) -> bool
     for h in 0..256 {
         let mark = h as u16 + 1;
         let mut c = wide(chains.head[h]);
+        // no index: a chain is followed from link to link
         while 0 < c {
             let p = c - 1;
             let a = s[p];

@@ -91,7 +91,7 @@ pub struct InsertionNode {
 
 pub const OUTSIDE: u8 = 255;
 
-// The nodes of one insertion in creation order; entries past the count are zero.
+// The nodes of one insertion in creation order; entries past the count are zero. Nothing here has a heap: an array with its count.
 #[derive(Clone, Copy)]
 pub struct InsertionBlueprint {
     pub nodes: [InsertionNode; 5],

@@ -15,7 +15,7 @@ pub struct Offer {
     pub shape: InsertionShape,
 }
 
-// At most two shapes in each of two rotations; entries past the count are zero.
+// At most two shapes in each of two rotations; entries past the count are zero. Nothing here has a heap: an array with its count.
 #[derive(Clone, Copy)]
 pub struct OfferList {
     pub list: [Offer; 4],

@@ -10,7 +10,7 @@ ghost use Rattle.removal.specs.Going.{going_of, places};
 use table::{LIMIT, Node};
 use walks::order::order_out;
 
-// The places that go; the entries past the count are zero. No ghost field says that they are places, since layout/proofs/TakenOut.antt builds one of any layout.
+// The places that go, without a heap; the entries past the count are zero. No ghost field says that they are places, since layout/proofs/TakenOut.antt builds one of any layout.
 #[derive(Clone, Copy)]
 pub struct Going {
     pub order: [u16; LIMIT],

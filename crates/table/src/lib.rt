@@ -11,7 +11,8 @@ pub mod places;
 // LIMIT, the number of entries of a list, is also the most nodes that a layout holds, and the number that says that there is no such place.
 pub const NONE: u16 = LIMIT as u16;
 
-// A node and its links: places, or NONE. A place is unheld where the serial is 0, and then all is 0.
+// A node and its links: places, or NONE. A place is unheld where the serial is 0, and then all is 0. There is no heap for a Box; and the number NONE is
+// what the kiosk's records (the C interface) and every definition over the table say for no place.
 #[derive(Clone, Copy)]
 pub struct Node {
     pub datum: Datum,

@@ -23,6 +23,7 @@ pub fn order_out(nodes: &[Node; LIMIT], x: u16, held: usize, order: &mut [u16], 
     let mut up = x;
     let mut down = nodes[x as usize].first;
     let mut turns = held + held;
+    // no index: the walk goes down, along and up, and the turns only bound it
     while 0 < turns {
         if NONE <= down {
             if up == x {
