@@ -123,7 +123,7 @@ fn removable_list(removable: Listing, g: Going, parent: Node, q: u16) -> Listing
 }
 
 // The piece at x goes, where g is what goes with it, and one free piece comes at the end of its row: it has the serial after `last`.
-pub fn remove(n: LayoutNodes, g: Going, x: u16, last: u32) -> Cleared
+pub fn remove(mut n: LayoutNodes, g: Going, x: u16, last: u32) -> Cleared
     requires { (g.count ≤ limit) × Clearable n (places g) x last }
     ensures { result ≡ removed_nodes n (places g) x last }
 {
@@ -132,20 +132,11 @@ pub fn remove(n: LayoutNodes, g: Going, x: u16, last: u32) -> Cleared
     let above = n.nodes[q as usize];
     let end = n.nodes[above.last as usize];
     let d = new_free(gone.datum, end.datum, last);
-    let mut nodes = n.nodes;
-    unlink_all(&mut nodes, g);
-    let parent = nodes[q as usize];
-    let place = unheld(&nodes, 0);
-    append(&mut nodes, q, place, d);
-    let free = free_list(n.free, g, &nodes, place);
-    let removable = removable_list(n.removable, g, parent, q);
-    let whole = LayoutNodes {
-        nodes,
-        free,
-        removable,
-    };
-    Cleared {
-        nodes: whole,
-        place,
-    }
+    unlink_all(&mut n.nodes, g);
+    let parent = n.nodes[q as usize];
+    let place = unheld(&n.nodes, 0);
+    append(&mut n.nodes, q, place, d);
+    n.free = free_list(n.free, g, &n.nodes, place);
+    n.removable = removable_list(n.removable, g, parent, q);
+    Cleared { nodes: n, place }
 }

@@ -14,8 +14,8 @@ append-requires c =
     let p = c.requires.1 in
     (p.hung, rw (c.unheld-place.ensures, c.unlink_all.ensures) p.some)
 
-pub removable_list-removable-requires : goal.removable_list-removable-requires
-removable_list-removable-requires c =
+pub removable_list-n-requires : goal.removable_list-n-requires
+removable_list-n-requires c =
     let p = c.requires.1 in
     (p.removable_kept, c.requires.0, p.removable_room, p.removable_single)
 
@@ -23,8 +23,8 @@ pub returns : goal.returns
 unfolding removed_nodes removed_from new_free free_last_datum
 returns c =
     rw (
-      c.removable_list-removable.ensures,
-      c.free_list-free.ensures,
+      c.removable_list-n.ensures,
+      c.free_list-n.ensures,
       c.append.ensures,
       c.unheld-place.ensures,
       c.unlink_all.ensures,
