@@ -2,10 +2,10 @@
 // Rests on `questions` and `saw` for the answers and on write.rt for the lines.
 ghost use Rattle.std.specs.Prelude.{◌≡◌, ◌≤◌, length};
 ghost use Rattle.desk_frames.specs.declared.Question.TheVariants as questions;
-ghost use Rattle.marks.specs.declared.Refusal.TheVariants as refusals;
 ghost use Rattle.frames.specs.Writing.{LinePut};
-ghost use Rattle.desk_frames.specs.Answers.{Tells, content_for, refused_with, tidy_found, tidy_op, yes_no};
+ghost use Rattle.desk_frames.specs.Answers.{Tells, content_for, tidy_found, tidy_op};
 ghost use Rattle.desk_frames.specs.Desk.{desk_longest};
+ghost use Rattle.desk_frames.specs.Inner.{figures_call};
 
 use crate::read::{
     AMOUNTS, CUTS, EATEN_AREA, FIGURES, FREE_PIECE, PART_NUMBERS, REMOVABLE_PIECE, ROOM_LIGHT,
@@ -77,54 +77,28 @@ fn part_numbers(layout: Layout, out: &mut [u8]) -> usize
     }
 }
 
-fn unsound(out: &mut [u8], op: u8) -> usize
-    requires { 7 ≤ length out.old }
-    ensures { LinePut out.old (content_for op (refused_with refusals.NotSound)) out.new result }
+// The figures are refused together: each where the layout isn't sound. Where it is, both usages are numbers, so that they have bits.
+fn figures_of(layout: Layout) -> Result<FigureList, Refusal>
+    ensures { result ≡ figures_call layout }
 {
-    refused(out, op, Refusal::NotSound)
+    Ok(FigureList {
+        used: questions::figures::used_area(layout)?,
+        free: questions::figures::free_area(layout)?,
+        nodes: questions::figures::nodes_held(layout)?,
+        empty: u8::from(questions::figures::is_empty(layout)?),
+        sheet: f64::to_bits(questions::figures::sheet_usage(layout)?),
+        tree: f64::to_bits(questions::figures::tree_usage(layout)?),
+    })
 }
 
-// The figures are refused together: each where the layout isn't sound. Where it is, both usages are numbers, so that they have bits.
 fn figures(layout: Layout, out: &mut [u8]) -> usize
     requires { desk_longest ≤ length out.old }
     ensures { Tells layout questions.Figures out.old out.new result }
 {
-    let Ok(used) = questions::figures::used_area(layout) else {
-        return unsound(out, FIGURES);
-    };
-    let Ok(free) = questions::figures::free_area(layout) else {
-        return unsound(out, FIGURES);
-    };
-    let Ok(nodes) = questions::figures::nodes_held(layout) else {
-        return unsound(out, FIGURES);
-    };
-    let Ok(empty) = questions::figures::is_empty(layout) else {
-        return unsound(out, FIGURES);
-    };
-    let Ok(sheet) = questions::figures::sheet_usage(layout) else {
-        return unsound(out, FIGURES);
-    };
-    let Ok(tree) = questions::figures::tree_usage(layout) else {
-        return unsound(out, FIGURES);
-    };
-    write::figures(
-        out,
-        FIGURES,
-        FigureList {
-            used,
-            free,
-            nodes,
-            empty: yes_no(empty),
-            sheet: f64::to_bits(sheet),
-            tree: f64::to_bits(tree),
-        },
-    )
-}
-
-fn yes_no(says: bool) -> u8
-    ensures { result ≡ yes_no says }
-{
-    if says { 1 } else { 0 }
+    match figures_of(layout) {
+        Ok(list) => write::figures(out, FIGURES, list),
+        Err(refusal) => refused(out, FIGURES, refusal),
+    }
 }
 
 // The buffer has room for as many nodes as there are places.
