@@ -63,11 +63,11 @@ fn copied(stepped: Stepped, out: &mut [u8]) -> DeskStepped
     ensures result { result ≡ copied_from stepped }
     ensures written { out.new ≡ sets out.old 0 (take stepped.count stepped.line) }
 {
-    let line = stepped.line;
-    let count = stepped.count;
-    let session = stepped.session;
-    copy_first(&line, count, out);
-    DeskStepped { session, count }
+    copy_first(&stepped.line, stepped.count, out);
+    DeskStepped {
+        session: stepped.session,
+        count: stepped.count,
+    }
 }
 
 // The layout is tidied; what is kept stays.
@@ -75,14 +75,13 @@ fn tidied(session: Session, out: &mut [u8]) -> DeskStepped
     requires { desk_longest ≤ length out.old }
     ensures { DeskSteps session requests.Tidy out.old out.new result }
 {
-    let layout = session.layout;
-    let kept = session.kept;
-    let answer = layout.tidy();
-    let outcome = answer.outcome;
-    let left = answer.layout;
-    let count = replies::tidied(outcome, answer.count, out);
+    let answer = session.layout.tidy();
+    let count = replies::tidied(answer.outcome, answer.count, out);
     DeskStepped {
-        session: Session { layout: left, kept },
+        session: Session {
+            layout: answer.layout,
+            kept: session.kept,
+        },
         count,
     }
 }
@@ -93,8 +92,7 @@ pub fn asked(session: Session, request: DeskRequest, out: &mut [u8]) -> DeskStep
 {
     match request {
         DeskRequest::Asks(question) => {
-            let layout = session.layout;
-            let count = replies::answer(layout, question, out);
+            let count = replies::answer(session.layout, question, out);
             DeskStepped { session, count }
         }
         DeskRequest::Tidy => tidied(session, out),

@@ -24,22 +24,19 @@ fn answer(session: Session, pending: Pending, out: &mut [u8]) -> DeskStepped
     requires { desk_longest ≤ length out.old }
     ensures { DeskSteps session (desk_request_of (take pending.count pending.bytes)) out.old out.new result }
 {
-    let count = pending.count;
-    let bytes = pending.bytes;
-    if MOST < count {
-        return step(session, &bytes, out);
+    if MOST < pending.count {
+        return step(session, &pending.bytes, out);
     }
-    step(session, &bytes[..count], out)
+    step(session, &pending.bytes[..pending.count], out)
 }
 
 // A line was answered, and nothing is pending.
 fn answered(stepped: DeskStepped, next: usize) -> DeskTurn
     ensures { result ≡ desk_spoken stepped next }
 {
-    let session = stepped.session;
     DeskTurn {
         listener: Listener {
-            session,
+            session: stepped.session,
             pending: none(),
         },
         next,
@@ -64,15 +61,12 @@ pub fn turn(listener: Listener, chunk: &[u8], at: usize, out: &mut [u8]) -> Desk
     ensures { DeskTakes listener chunk.now at out.old out.new result }
 {
     let session = listener.session;
-    let begun = listener.pending;
-    let taken = begun.take(chunk, at);
+    let taken = listener.pending.take(chunk, at);
     let pending = taken.pending;
-    let next = taken.next;
-    let event = taken.event;
-    match event {
-        Event::Whole => answered(answer(session, pending, out), next),
-        Event::Long => answered(malformed(session, out), next),
-        Event::More => unanswered(Listener { session, pending }, next),
+    match taken.event {
+        Event::Whole => answered(answer(session, pending, out), taken.next),
+        Event::Long => answered(malformed(session, out), taken.next),
+        Event::More => unanswered(Listener { session, pending }, taken.next),
     }
 }
 
@@ -82,8 +76,7 @@ pub fn finish(listener: Listener, out: &mut [u8]) -> DeskTurn
     ensures { DeskEnds listener out.old out.new result }
 {
     let session = listener.session;
-    let pending = listener.pending;
-    if pending.cut() {
+    if listener.pending.cut() {
         answered(malformed(session, out), 0)
     } else {
         unanswered(

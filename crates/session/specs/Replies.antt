@@ -39,6 +39,13 @@ refusal (done op) = false
 refusal (reported used nodes bits) = false
 refusal malformed = true
 
+-- the layout afterwards, and what is said where the call accepts, and where it refuses
+abbrev pub accepted_with : Layout → Said → Response
+accepted_with l said = record { layout = l; refused = false; said = said }
+
+abbrev pub refused_with : Layout → Said → Response
+refused_with l said = record { layout = l; refused = true; said = said }
+
 -- what is asked of the layout l: whatever is kept, it stays, and the answer is the same
 pub record Replies (l : Layout) (ask : Ask) (r : Response) : Type 0 where
   pub answer : Answer

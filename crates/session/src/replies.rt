@@ -2,10 +2,10 @@
 // do with the kept layout, so that all others leave it out. Rests on `layout` and `questions` for what a request does, and on say.rt for the lines.
 ghost use Rattle.std.specs.Prelude.{◌≡◌};
 ghost use Rattle.frames.specs.declared.Ask.TheVariants as asks;
-ghost use Rattle.session.specs.Replies.{Replies, Keeps, Restores};
+ghost use Rattle.session.specs.Replies.{Replies, Keeps, Restores, accepted_with, refused_with};
 
 use crate::{LONGEST_ANSWER, say};
-use frames::Ask;
+use frames::{Ask, ops};
 use layout::layout::Layout;
 use marks::{Mark, Refusal};
 use piece::insertion_blueprint::InsertionShape;
@@ -36,6 +36,26 @@ pub struct Keeping {
     pub said: Said,
 }
 
+fn accepted(layout: Layout, said: Said) -> Response
+    ensures { result ≡ accepted_with layout said }
+{
+    Response {
+        layout,
+        refused: false,
+        said,
+    }
+}
+
+fn refused(layout: Layout, said: Said) -> Response
+    ensures { result ≡ refused_with layout said }
+{
+    Response {
+        layout,
+        refused: true,
+        said,
+    }
+}
+
 // ---- One function for each op.
 
 // A refused opening keeps the layout that stood.
@@ -44,23 +64,8 @@ fn open(layout: Layout, opening: Opening) -> Response
 {
     let opened = Layout::open(opening);
     match opened.outcome {
-        Ok(mark) => {
-            let next = opened.layout;
-            let said = say::opened(mark);
-            Response {
-                layout: next,
-                refused: false,
-                said,
-            }
-        }
-        Err(refusal) => {
-            let said = say::refused(1, refusal);
-            Response {
-                layout,
-                refused: true,
-                said,
-            }
-        }
+        Ok(mark) => accepted(opened.layout, say::opened(mark)),
+        Err(refusal) => refused(layout, say::refused(ops::OPEN, refusal)),
     }
 }
 
@@ -68,22 +73,8 @@ fn offers(layout: Layout, mark: Mark, part: PartType) -> Response
     ensures { Replies layout (asks.Offers mark part) result }
 {
     match questions::room::offers(layout, mark, part) {
-        Ok(offers) => {
-            let said = say::offered(offers);
-            Response {
-                layout,
-                refused: false,
-                said,
-            }
-        }
-        Err(refusal) => {
-            let said = say::refused(2, refusal);
-            Response {
-                layout,
-                refused: true,
-                said,
-            }
-        }
+        Ok(offers) => accepted(layout, say::offered(offers)),
+        Err(refusal) => refused(layout, say::refused(ops::OFFERS, refusal)),
     }
 }
 
@@ -97,25 +88,9 @@ fn insert(
     ensures { Replies layout (asks.Insert mark part rotation shape) result }
 {
     let answer = layout.insert(mark, part, rotation, shape);
-    let next = answer.layout;
-    let marks = answer.marks;
     match answer.outcome {
-        Ok(()) => {
-            let said = say::inserted(marks);
-            Response {
-                layout: next,
-                refused: false,
-                said,
-            }
-        }
-        Err(refusal) => {
-            let said = say::refused(3, refusal);
-            Response {
-                layout: next,
-                refused: true,
-                said,
-            }
-        }
+        Ok(()) => accepted(answer.layout, say::inserted(answer.marks)),
+        Err(refusal) => refused(answer.layout, say::refused(ops::INSERT, refusal)),
     }
 }
 
@@ -125,26 +100,10 @@ fn remove(layout: Layout, mark: Mark) -> Response
 {
     let mut numbers = [0u16; LIMIT];
     let answer = layout.remove(mark, &mut numbers);
-    let next = answer.layout;
-    let free = answer.free;
     let many = answer.count as usize;
     match answer.outcome {
-        Ok(()) => {
-            let said = say::removed(free, &numbers, many);
-            Response {
-                layout: next,
-                refused: false,
-                said,
-            }
-        }
-        Err(refusal) => {
-            let said = say::refused(4, refusal);
-            Response {
-                layout: next,
-                refused: true,
-                said,
-            }
-        }
+        Ok(()) => accepted(answer.layout, say::removed(answer.free, &numbers, many)),
+        Err(refusal) => refused(answer.layout, say::refused(ops::REMOVE, refusal)),
     }
 }
 
@@ -152,11 +111,15 @@ pub fn keep(layout: Layout) -> Keeping
     ensures { Keeps layout result }
 {
     if layout.sound() {
-        let said = say::done(5);
-        Keeping { sound: true, said }
+        Keeping {
+            sound: true,
+            said: say::done(ops::KEEP),
+        }
     } else {
-        let said = say::refused(5, Refusal::NotSound);
-        Keeping { sound: false, said }
+        Keeping {
+            sound: false,
+            said: say::refused(ops::KEEP, Refusal::NotSound),
+        }
     }
 }
 
@@ -164,24 +127,9 @@ pub fn restore(layout: Layout, kept: Layout) -> Response
     ensures { Restores layout kept result }
 {
     let answer = layout.restore(kept);
-    let next = answer.layout;
     match answer.outcome {
-        Ok(()) => {
-            let said = say::done(6);
-            Response {
-                layout: next,
-                refused: false,
-                said,
-            }
-        }
-        Err(refusal) => {
-            let said = say::refused(6, refusal);
-            Response {
-                layout: next,
-                refused: true,
-                said,
-            }
-        }
+        Ok(()) => accepted(answer.layout, say::done(ops::RESTORE)),
+        Err(refusal) => refused(answer.layout, say::refused(ops::RESTORE, refusal)),
     }
 }
 
@@ -190,22 +138,11 @@ fn report(layout: Layout) -> Response
     ensures { Replies layout asks.Report result }
 {
     match questions::figures::sheet_usage(layout) {
-        Ok(usage) => {
-            let said = say::reported(layout.used, layout.held, f64::to_bits(usage));
-            Response {
-                layout,
-                refused: false,
-                said,
-            }
-        }
-        Err(refusal) => {
-            let said = say::refused(7, refusal);
-            Response {
-                layout,
-                refused: true,
-                said,
-            }
-        }
+        Ok(usage) => accepted(
+            layout,
+            say::reported(layout.used, layout.held, f64::to_bits(usage)),
+        ),
+        Err(refusal) => refused(layout, say::refused(ops::REPORT, refusal)),
     }
 }
 

@@ -4,17 +4,19 @@ use Rattle.layout.proofs.Answered.{insert-says}
 use Rattle.session.proofs.Ways.{insert-gives}
 use Rattle.session.proofs.replies.insert.Goals as goal
 
-pub inserted-said-requires : goal.inserted-said-requires
-inserted-said-requires c =
+pub inserted-requires : goal.inserted-requires
+inserted-requires c =
     let a = c.args in
     insert-says a.layout a.mark a.part a.rotation a.shape _ c.insert-answer.ensures c.in-Ok.is
 
 pub returns-in-Ok : goal.returns-in-Ok
 returns-in-Ok c =
     let a = c.args in
-    insert-gives a.layout a.mark a.part a.rotation a.shape _ c.insert-answer.ensures c.in-Ok.is refl c.inserted-said.ensures
+    rw c.accepted.ensures
+    (insert-gives a.layout a.mark a.part a.rotation a.shape _ c.insert-answer.ensures c.in-Ok.is refl c.inserted.ensures)
 
 pub returns-in-Err : goal.returns-in-Err
 returns-in-Err c =
     let a = c.args in
-    insert-gives a.layout a.mark a.part a.rotation a.shape _ c.insert-answer.ensures c.in-Err.is refl c.refused-said.ensures
+    rw c.refused-in-Err.ensures
+    (insert-gives a.layout a.mark a.part a.rotation a.shape _ c.insert-answer.ensures c.in-Err.is refl c.refused.ensures)

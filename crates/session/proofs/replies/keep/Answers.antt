@@ -4,8 +4,8 @@ use Rattle.session.proofs.replies.keep.Goals as goal
 
 pub returns-then-sound : goal.returns-then-sound
 returns-then-sound c =
-    keep-gives c.args.layout c.sound.ensures c.if-sound.true c.done-said.ensures
+    keep-gives c.args.layout c.sound.ensures c.if-sound.true c.done.ensures
 
 pub returns-else-sound : goal.returns-else-sound
 returns-else-sound c =
-    keep-gives c.args.layout c.sound.ensures c.if-sound.false c.refused-said.ensures
+    keep-gives c.args.layout c.sound.ensures c.if-sound.false c.refused.ensures

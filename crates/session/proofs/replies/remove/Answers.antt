@@ -14,8 +14,8 @@ taken_out c =
     remove-says c.args.layout c.args.mark limit _ (typed-sized c.args.layout _ c.well_formed.0) c.remove-answer.ensures.says
     c.in-Ok.is
 
-pub removed-said-requires : goal.removed-said-requires
-removed-said-requires c =
+pub removed-requires : goal.removed-requires
+removed-requires c =
     let t = taken_out c in
     (omega (arith, t.count, t.few), omega (arith, t.count, t.few))
 
@@ -23,9 +23,11 @@ pub returns-in-Ok : goal.returns-in-Ok
 returns-in-Ok c =
     let a = c.args in
     let out = numbers-out a.layout a.mark _ (taken_out (goal.at.returns-in-Ok c).After-numbers-in-Ok-1) c.remove-answer.ensures.written in
-    remove-gives a.layout a.mark _ c.remove-answer.ensures.says c.in-Ok.is refl (rw out at c.removed-said.ensures)
+    rw c.accepted.ensures
+    (remove-gives a.layout a.mark _ c.remove-answer.ensures.says c.in-Ok.is refl (rw out at c.removed.ensures))
 
 pub returns-in-Err : goal.returns-in-Err
 returns-in-Err c =
     let a = c.args in
-    remove-gives a.layout a.mark _ c.remove-answer.ensures.says c.in-Err.is refl c.refused-said.ensures
+    rw c.refused-in-Err.ensures
+    (remove-gives a.layout a.mark _ c.remove-answer.ensures.says c.in-Err.is refl c.refused.ensures)

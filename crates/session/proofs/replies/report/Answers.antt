@@ -10,8 +10,10 @@ float_to_bits-usage c =
 
 pub returns-in-Ok : goal.returns-in-Ok
 returns-in-Ok c =
-    reported-done c.args.layout c.sheet_usage.ensures (typed-sized c.args.layout _ c.well_formed.0) c.in-Ok.is refl c.reported-said.ensures
+    rw c.accepted.ensures
+    (reported-done c.args.layout c.sheet_usage.ensures (typed-sized c.args.layout _ c.well_formed.0) c.in-Ok.is refl c.reported.ensures)
 
 pub returns-in-Err : goal.returns-in-Err
 returns-in-Err c =
-    reported-refused c.args.layout c.sheet_usage.ensures c.in-Err.is refl c.refused-said.ensures
+    rw c.refused-in-Err.ensures
+    (reported-refused c.args.layout c.sheet_usage.ensures c.in-Err.is refl c.refused.ensures)
