@@ -50,6 +50,7 @@ impl Session {
     fn says(self, said: Said) -> Stepped
         ensures { result ≡ step_to self said }
     {
+        // An array goes from record to record by a name of its own: the borrow checker follows no other way.
         let line = said.line;
         Stepped {
             session: self,
@@ -62,10 +63,8 @@ impl Session {
     fn told(mut self, answer: Response) -> Stepped
         ensures { result ≡ step_to (with_layout self answer.layout) answer.said }
     {
-        let layout = answer.layout;
-        let said = answer.said;
-        self.layout = layout;
-        self.says(said)
+        self.layout = answer.layout;
+        self.says(answer.said)
     }
 
     // ---- The answer to a request, to a line, and to a line that is malformed as it stands.
@@ -78,21 +77,17 @@ impl Session {
             Request::OfLayout(ask) => self.told(replied(layout, ask)),
             Request::Keep => {
                 let answer = keep(layout);
-                let said = answer.said;
                 if answer.sound {
                     Session {
                         layout,
                         kept: layout,
                     }
-                    .says(said)
+                    .says(answer.said)
                 } else {
-                    self.says(said)
+                    self.says(answer.said)
                 }
             }
-            Request::Restore => {
-                let kept = self.kept;
-                self.told(restore(layout, kept))
-            }
+            Request::Restore => self.told(restore(layout, self.kept)),
             Request::Malformed => self.malformed(),
         }
     }

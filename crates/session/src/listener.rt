@@ -27,23 +27,20 @@ pub struct Turn {
 fn answer(session: Session, pending: Pending) -> Stepped
     ensures { Steps session (request_of (take pending.count pending.bytes)) result }
 {
-    let count = pending.count;
-    let bytes = pending.bytes;
-    if MOST < count {
-        return session.step(&bytes);
+    if MOST < pending.count {
+        return session.step(&pending.bytes);
     }
-    session.step(&bytes[..count])
+    session.step(&pending.bytes[..pending.count])
 }
 
 // A line was answered, and nothing is pending.
 fn answered(stepped: Stepped, next: usize) -> Turn
     ensures { result ≡ spoken stepped next }
 {
-    let session = stepped.session;
     let line = stepped.line;
     Turn {
         listener: Listener {
-            session,
+            session: stepped.session,
             pending: none(),
         },
         next,
@@ -79,15 +76,12 @@ impl Listener {
         ensures { Takes self chunk.now at result }
     {
         let session = self.session;
-        let begun = self.pending;
-        let taken = begun.take(chunk, at);
+        let taken = self.pending.take(chunk, at);
         let pending = taken.pending;
-        let next = taken.next;
-        let event = taken.event;
-        match event {
-            Event::Whole => answered(answer(session, pending), next),
-            Event::Long => answered(session.malformed(), next),
-            Event::More => unanswered(Listener { session, pending }, next),
+        match taken.event {
+            Event::Whole => answered(answer(session, pending), taken.next),
+            Event::Long => answered(session.malformed(), taken.next),
+            Event::More => unanswered(Listener { session, pending }, taken.next),
         }
     }
 
@@ -96,8 +90,7 @@ impl Listener {
         ensures { Ends self result }
     {
         let session = self.session;
-        let pending = self.pending;
-        if pending.cut() {
+        if self.pending.cut() {
             answered(session.malformed(), 0)
         } else {
             unanswered(

@@ -12,13 +12,13 @@ use Rattle.session.proofs.listener.answer.Goals.{Start}
 sixty-four : (c : Start) → length c.args.pending.bytes ≡ 64
 sixty-four c = pending-sized c.args.pending _ c.well_formed.1.0
 
-pub returns-then-count-gt-MOST : goal.returns-then-count-gt-MOST
-returns-then-count-gt-MOST c =
+pub returns-then-pending-gt-MOST : goal.returns-then-pending-gt-MOST
+returns-then-pending-gt-MOST c =
     let p = c.args.pending in
-    asks (ap request_of (take_all p.count p.bytes (omega (arith, sixty-four (goal.at.returns-then-count-gt-MOST c).Start)))) c.step.ensures
+    asks (ap request_of (take_all p.count p.bytes (omega (arith, sixty-four (goal.at.returns-then-pending-gt-MOST c).Start)))) c.step.ensures
 
-pub slice_bounds-bytes-end : goal.slice_bounds-bytes-end
-slice_bounds-bytes-end c = omega (arith, sixty-four (goal.at.slice_bounds-bytes-end c).Start)
+pub slice_bounds-step-end : goal.slice_bounds-step-end
+slice_bounds-step-end c = omega (arith, sixty-four (goal.at.slice_bounds-step-end c).Start)
 
 pub slice_bounds-step-end-2 : goal.slice_bounds-step-end-2
 slice_bounds-step-end-2 c =
