@@ -22,6 +22,7 @@ pub struct Said {
 }
 
 // The layout afterwards, whether the answer is a refusal (then that is the layout before), and the answer.
+// Not a Result: all three always hold, since a refusal hands the layout back too and is answered.
 #[derive(Clone, Copy)]
 pub struct Response {
     pub layout: Layout,
@@ -30,6 +31,7 @@ pub struct Response {
 }
 
 // Whether the layout is sound, so that it is kept, and the answer.
+// Not a Result: the answer is said either way.
 #[derive(Clone, Copy)]
 pub struct Keeping {
     pub sound: bool,
