@@ -128,11 +128,9 @@ fn node_in_row(place: usize) -> Node
 // All places are held, by parts and structures: by a chain or by a row.
 fn full(deep: bool) -> Layout {
     let mut l = Layout::zero();
-    let mut i: usize = 0;
-    while i < 255 {
+    for i in 0..255 {
         l.nodes[i] = if deep { node_at(i) } else { node_in_row(i) };
         l.removable[i] = i as u16;
-        i += 1;
     }
     l.held = 255;
     l.removables = 255;
@@ -191,14 +189,6 @@ fn usage_in(answer: Result<f64, Refusal>) -> u64 {
     }
 }
 
-fn wide(b: u8) -> u64 {
-    b as u64
-}
-
-fn number(n: u16) -> u64 {
-    n as u64
-}
-
 // The nodes that are left when the piece at a place is taken out. In these trees a piece's serial is its place and one.
 fn nodes_without(l: Layout, place: u16, out: &mut [u16]) -> u64 {
     let mark = Mark {
@@ -208,7 +198,7 @@ fn nodes_without(l: Layout, place: u16, out: &mut [u16]) -> u64 {
     };
     let removed = l.remove(mark, out);
     let next = removed.layout;
-    number(next.held)
+    u64::from(next.held)
 }
 
 // As code it stays apart: it takes as much of the stack as a removal does, and not beside one.
@@ -231,9 +221,9 @@ fn tidy_without_part(rt: &HostRuntime, l: Layout, out: &mut [u16]) -> io::Result
     say(
         rt,
         "structures that tidying takes out without the part ",
-        number(after.count),
+        u64::from(after.count),
     )?;
-    say(rt, "nodes then ", number(left.held))
+    say(rt, "nodes then ", u64::from(left.held))
 }
 
 fn main(rt: HostRuntime) -> io::Result<()> {
@@ -260,28 +250,28 @@ fn main(rt: HostRuntime) -> io::Result<()> {
         "snapshot ",
         count_in(questions::written::snapshot(l, &mut out)),
     )?;
-    say(&rt, "its last node's level ", wide(out[3556]))?;
-    say(&rt, "its last node's kind ", wide(out[3557]))?;
-    say(&rt, "its last node's number ", wide(out[3560]))?;
-    say(&rt, "its last node's height ", wide(out[3568]))?;
+    say(&rt, "its last node's level ", u64::from(out[3556]))?;
+    say(&rt, "its last node's kind ", u64::from(out[3557]))?;
+    say(&rt, "its last node's number ", u64::from(out[3560]))?;
+    say(&rt, "its last node's height ", u64::from(out[3568]))?;
     say(&rt, "saw cuts ", count_in(saw::cuts::cuts(l, &mut out)))?;
     let r = row();
     if r.sound() {
         println!(rt; "the row is sound")?;
     }
     say(&rt, "its saw cuts ", count_in(saw::cuts::cuts(r, &mut out)))?;
-    say(&rt, "the last one's place ", wide(out[2269]))?;
-    say(&rt, "the last one's way ", wide(out[2270]))?;
-    say(&rt, "the last one's distance ", wide(out[2274]))?;
-    say(&rt, "the last one's piece ", wide(out[2275]))?;
-    say(&rt, "the last one leaves ", wide(out[2276]))?;
+    say(&rt, "the last one's place ", u64::from(out[2269]))?;
+    say(&rt, "the last one's way ", u64::from(out[2270]))?;
+    say(&rt, "the last one's distance ", u64::from(out[2274]))?;
+    say(&rt, "the last one's piece ", u64::from(out[2275]))?;
+    say(&rt, "the last one leaves ", u64::from(out[2276]))?;
     let mut numbers = [0u16; 255];
     say(
         &rt,
         "nodes without the chain ",
         nodes_without(l, 1, &mut numbers),
     )?;
-    say(&rt, "the number that came out ", number(numbers[0]))?;
+    say(&rt, "the number that came out ", u64::from(numbers[0]))?;
     say(
         &rt,
         "nodes without the row's last part ",

@@ -24,29 +24,22 @@ fn missing(out: &mut [u8; ROOM], pen: Pen) -> Pen {
 // The answer's line, without its newline.
 pub fn answer(out: &mut [u8; ROOM], pen: Pen, line: &[u8], count: usize) -> Pen {
     let mut p = pen;
-    let mut i: usize = 0;
-    while i < line.len() {
-        if count <= i + 1 {
-            break;
-        }
-        p = put(out, p, line[i]);
-        i += 1;
+    for &letter in line.iter().take(count.saturating_sub(1)) {
+        p = put(out, p, letter);
     }
     p
 }
 
 // The first n of these bytes.
 fn put_bytes(out: &mut [u8; ROOM], pen: Pen, bytes: &[u8], n: usize) -> Pen {
-    let mut p = pen;
-    let mut i: usize = 0;
-    while i < bytes.len() {
-        if n <= i {
-            break;
-        }
-        p = put_byte(out, p, bytes[i]);
-        i += 1;
+    if n == 0 || bytes.is_empty() {
+        return missing(out, pen);
     }
-    if i == 0 { missing(out, p) } else { p }
+    let mut p = pen;
+    for &byte in bytes.iter().take(n) {
+        p = put_byte(out, p, byte);
+    }
+    p
 }
 
 // The tree's snapshot.
@@ -75,15 +68,13 @@ fn mark_at(layout: Layout, listing: Listing, position: u16) -> Result<Mark, Refu
 // The marks of a list, position by position until the call refuses.
 pub fn marks(out: &mut [u8; ROOM], pen: Pen, layout: Layout, listing: Listing) -> Pen {
     let mut p = put(out, pen, b' ');
-    let mut i: u16 = 0;
-    while i < LIMIT as u16 {
+    for i in 0..LIMIT as u16 {
         let Ok(mark) = mark_at(layout, listing, i) else {
-            break;
+            return if i == 0 { missing(out, p) } else { p };
         };
         p = put_mark(out, p, mark);
-        i += 1;
     }
-    if i == 0 { missing(out, p) } else { p }
+    p
 }
 
 // The bits of a usage. It is never a NaN, and `to_bits` asks that this be seen.
@@ -127,16 +118,13 @@ pub fn part_numbers(out: &mut [u8; ROOM], pen: Pen, layout: Layout) -> Pen {
     let Ok(count) = questions::written::part_numbers(layout, &mut numbers) else {
         return missing(out, p);
     };
-    let n = count as usize;
-    let mut i: usize = 0;
-    while i < LIMIT {
-        if n <= i {
-            break;
-        }
-        p = put_two(out, p, numbers[i]);
-        i += 1;
+    if count == 0 {
+        return missing(out, p);
     }
-    if i == 0 { missing(out, p) } else { p }
+    for &number in numbers.iter().take(count as usize) {
+        p = put_two(out, p, number);
+    }
+    p
 }
 
 // What the light says where it is not refused: yes or no, and the mark of the piece that it names, zero where it says no.

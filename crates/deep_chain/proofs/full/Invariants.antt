@@ -1,9 +1,0 @@
--- `full` is safe and ends. The measure is the places that are left. Assumes nothing.
-use Prim.Native.Nat.{◌≤◌, ◌-◌}
-use Rattle.deep_chain.proofs.full.Given as goal
-
-abbrev pub invariant-loop-i : goal.invariant-loop-i
-invariant-loop-i l = l.i ≤ 255
-
-abbrev pub decreases-loop-i : goal.decreases-loop-i
-decreases-loop-i l = 255 - l.i
