@@ -24,6 +24,7 @@ fn serve(rt: &HostRuntime, listener: Listener, chunk: &[u8]) -> Option<Listener>
 {
     let mut d = listener;
     let mut at: usize = 0;
+    // no index: a turn says where the chunk goes on
     while at < chunk.len() {
         let turn = d.turn(chunk, at);
         if !say(rt, turn.line, turn.count) {

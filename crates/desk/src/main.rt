@@ -34,6 +34,7 @@ fn tell(rt: &HostRuntime, listener: Listener, chunk: &[u8], at: usize) -> Option
 fn serve(rt: &HostRuntime, listener: Listener, chunk: &[u8]) -> Option<Listener> {
     let mut d = listener;
     let mut at: usize = 0;
+    // no index: a turn says where the chunk goes on
     while at < chunk.len() {
         let told = tell(rt, d, chunk, at)?;
         d = told.listener;

@@ -79,6 +79,7 @@ fn tidied(rt: &HostRuntime, listener: Listener) -> Option<Listener> {
 fn serve(rt: &HostRuntime, listener: Listener, chunk: &[u8]) -> Option<Listener> {
     let mut d = listener;
     let mut at: usize = 0;
+    // no index: a turn says where the chunk goes on
     while at < chunk.len() {
         let request = asked(d.pending, chunk, at);
         let turn = d.turn(chunk, at);

@@ -57,6 +57,7 @@ struct Tally {
 // Reads until the line is full or the file ends, and says how many bytes came.
 fn read_full(file: &mut File, line: &mut [u8]) -> io::Result<usize> {
     let mut done: usize = 0;
+    // no index: a read says how far it came
     while done < line.len() {
         let n = file.read(&mut line[done..])?;
         if n == 0 {
