@@ -1,8 +1,8 @@
 -- Document 01, "How tight the contracts are": "For each call its contract determines the answer and the lent bytes afterwards, refusals too". Two
 -- answers of a public call of `layout`, `questions`, `saw`, `questions` or `session` that meet its contract are the same, and so is what they leave in a lent
 -- buffer; the next layout or state is a part of the answer. There is no exception. Of each crate Determined or Unique has the theorem for each call; the
--- public tests `side_ok`, `domain_ok` and `part_ok` have theirs here. (The contracts of the public steps of `saw`, `columns_of`, `put_cut`,
--- `list_vertical` and `list_horizontal`, are equations: `only`.)
+-- public tests `side_ok`, `domain_ok` and `part_ok` have theirs here. (The contracts of the public steps of `saw`, `put_cut` and
+-- `list_row`, are equations: `only`.)
 use mathlib.Core.Path.{◌≡◌}
 use mathlib.Core.Bool.{Bool}
 use Prim.Native.Nat.{ℕ}
