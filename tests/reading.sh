@@ -1,7 +1,7 @@
 #!/usr/bin/env bash
 # What the papers cite is there: every path of README.md and of docs/ that is named below, every name of docs/READING.md as a definition in the file beside it, every
 # must-fail edit where it is said to stand, every entry that is cited by its number, and the commands in the papers' blocks. tests/reading.awk reads the papers.
-# And the recorded lists that stand in crates too are the same there.
+# And the recorded lists that stand in crates too are the same there, and the places that docs/DESIGN-PASS.md counts are as many as it says.
 # A path is seen from the top, from crates/, or from the folder of a crate that is named beside it. Made by building and so not looked for: target/. CRATE, NAME and
 # FOLDER stand for others. Outside docs/READING.md, which says in which list an edit stands, an edit may be named as CRATE/NAME.
 # No stand-ins: it runs no program.
@@ -120,4 +120,19 @@ for pair in sessions.in=inspect/stdin sessions.out=inspect/stdout offers.txt=rep
 done
 [ -z "$apart" ]
 tried $? "the recorded lists that crates have too are the same there${apart:+, but for$apart}"
-finished 7
+
+# what docs/DESIGN-PASS.md says is left of each kind of place, and what is
+awk -F' [|] ' '
+  /^\| [1-7] / && !done {
+    point = substr($1, 3, 1)
+    n = split($2, parts, ", ")
+    for (i = 1; i <= n; i++) {
+      split(parts[i], word, " ")
+      if (word[1] ~ /^`[a-z-]+`$/) { gsub(/`/, "", word[1]); m = split(parts[i], number, " "); if (number[m] > 0) print point " " word[1] ": " number[m] }
+    }
+  }
+  /^## What it became/ { done = 1 }' docs/DESIGN-PASS.md | sort > "$room/left"
+tools/design counts | grep -v '^0\| all: ' | sort > "$room/stands"
+[ -s "$room/left" ] && diff "$room/left" "$room/stands" > "$room/differs"
+tried $? "the places that docs/DESIGN-PASS.md counts: $(wc -l < "$room/left") kinds$(sed -n 's/^[<>]/, &/p' "$room/differs" 2> /dev/null | tr -d '\n')"
+finished 8
