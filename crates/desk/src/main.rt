@@ -6,7 +6,7 @@ ghost use Rattle.std.specs.Prelude.{◌≡◌, IfSome};
 ghost use Rattle.lines.specs.Stream.{take_of};
 
 use desk_frames::LONGEST_ANSWER;
-use desk_frames::listener::{DeskTurn, finish, turn};
+use desk_frames::listener::{finish, turn};
 use pipes::Came;
 use session::listener::Listener;
 
@@ -18,29 +18,28 @@ fn say(rt: &HostRuntime, line: &[u8], count: usize) -> bool {
     pipes::write_whole(rt, &mut rt.stdout(), &line[..count], b"desk: writing")
 }
 
-// Takes a turn, and writes the answer to its line, if it has one; none, where that could not be written.
-fn tell(rt: &HostRuntime, listener: Listener, chunk: &[u8], at: usize) -> Option<DeskTurn>
-    ensures { IfSome result (λ told. told.next ≡ (take_of listener.pending chunk.now at).next) }
+// Takes a turn, and writes the answer to its line, if it has one: where the chunk goes on; none, where that could not be written. (The listener is lent: by value
+// it stood twice more in the frame of `main`, which has 256 KiB on a branch terminal.)
+fn tell(rt: &HostRuntime, listener: &mut Listener, chunk: &[u8], at: usize) -> Option<usize>
+    ensures { IfSome result (λ next. next ≡ (take_of listener.old.pending chunk.now at).next) }
 {
     let mut line = [0u8; LONGEST_ANSWER];
-    let taken = turn(listener, chunk, at, &mut line);
+    let taken = turn(*listener, chunk, at, &mut line);
     if !say(rt, &line, taken.count) {
         return None;
     }
-    Some(taken)
+    *listener = taken.listener;
+    Some(taken.next)
 }
 
-// Takes turns until the chunk is used up: the listener then; none, where an answer could not be written.
-fn serve(rt: &HostRuntime, listener: Listener, chunk: &[u8]) -> Option<Listener> {
-    let mut d = listener;
+// Takes turns until the chunk is used up; none, where an answer could not be written.
+fn serve(rt: &HostRuntime, listener: &mut Listener, chunk: &[u8]) -> Option<()> {
     let mut at: usize = 0;
     // no index: a turn says where the chunk goes on
     while at < chunk.len() {
-        let told = tell(rt, d, chunk, at)?;
-        d = told.listener;
-        at = told.next;
+        at = tell(rt, listener, chunk, at)?;
     }
-    Some(d)
+    Some(())
 }
 
 // At the end of the input: a last line that lacks its newline gets its answer.
@@ -58,10 +57,9 @@ fn main(rt: HostRuntime) {
         let mut chunk = [0u8; 4096];
         match pipes::read_some(&rt, &mut input, &mut chunk, b"desk: reading") {
             Came::Bytes(n) => {
-                let Some(after) = serve(&rt, listener, &chunk[..n]) else {
+                let Some(()) = serve(&rt, &mut listener, &chunk[..n]) else {
                     return;
                 };
-                listener = after;
             }
             Came::End => {
                 end(&rt, listener);

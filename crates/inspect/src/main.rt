@@ -50,49 +50,46 @@ fn tell(rt: &HostRuntime, layout: Layout, line: &[u8], count: usize, request: Re
     pen::end(&mut out, nine)
 }
 
-// Tells of the counter's answer, and of what the line asks there: the listener; none, where that could not be written.
+// Tells of the counter's answer, and of what the line asks there; none, where that could not be written.
 fn told(
     rt: &HostRuntime,
-    listener: Listener,
+    listener: &Listener,
     line: &[u8],
     count: usize,
     request: Request,
-) -> Option<Listener> {
+) -> Option<()> {
     if !tell(rt, listener.session.layout, line, count, request) {
         return None;
     }
-    Some(listener)
+    Some(())
 }
 
 // At the counter a line that asks to tidy is malformed and changes nothing; here the layout is tidied, as at the desk.
-fn tidied(rt: &HostRuntime, listener: Listener) -> Option<Listener> {
+fn tidied(rt: &HostRuntime, listener: &mut Listener) -> Option<()> {
     let mut line = [0u8; desk_frames::LONGEST_ANSWER];
     let stepped = desk_frames::asked(listener.session, DeskRequest::Tidy, &mut line);
-    let next = Listener {
-        session: stepped.session,
-        pending: listener.pending,
-    };
-    told(rt, next, &line, stepped.count, Request::Malformed)
+    listener.session = stepped.session;
+    told(rt, listener, &line, stepped.count, Request::Malformed)
 }
 
-// Takes turns until the chunk is used up: the listener then; none, where a line could not be written.
-fn serve(rt: &HostRuntime, listener: Listener, chunk: &[u8]) -> Option<Listener> {
-    let mut d = listener;
+// Takes turns until the chunk is used up; none, where a line could not be written. (The listener is lent, as in `desk`.)
+fn serve(rt: &HostRuntime, listener: &mut Listener, chunk: &[u8]) -> Option<()> {
     let mut at: usize = 0;
     // no index: a turn says where the chunk goes on
     while at < chunk.len() {
-        let request = asked(d.pending, chunk, at);
-        let turn = d.turn(chunk, at);
+        let request = asked(listener.pending, chunk, at);
+        let turn = listener.turn(chunk, at);
         let line = turn.line;
-        let after = match request {
-            DeskRequest::Tidy => tidied(rt, turn.listener),
-            DeskRequest::Asks(_) => told(rt, turn.listener, &line, turn.count, Request::Malformed),
-            DeskRequest::AtCounter(asks) => told(rt, turn.listener, &line, turn.count, asks),
+        *listener = turn.listener;
+        let shown = match request {
+            DeskRequest::Tidy => tidied(rt, listener),
+            DeskRequest::Asks(_) => told(rt, listener, &line, turn.count, Request::Malformed),
+            DeskRequest::AtCounter(asks) => told(rt, listener, &line, turn.count, asks),
         };
-        d = after?;
+        shown?;
         at = turn.next;
     }
-    Some(d)
+    Some(())
 }
 
 // As in `counter`: it reads what is there, and counts its reads, up to a number that no run reaches.
@@ -103,15 +100,14 @@ fn main(rt: HostRuntime) {
         let mut chunk = [0u8; 4096];
         match pipes::read_some(&rt, &mut input, &mut chunk, b"inspect: reading") {
             Came::Bytes(n) => {
-                let Some(after) = serve(&rt, listener, &chunk[..n]) else {
+                let Some(()) = serve(&rt, &mut listener, &chunk[..n]) else {
                     return;
                 };
-                listener = after;
             }
             Came::End => {
                 let last = listener.end();
                 let line = last.line;
-                told(&rt, last.listener, &line, last.count, Request::Malformed);
+                told(&rt, &last.listener, &line, last.count, Request::Malformed);
                 return;
             }
             Came::Failed => return,

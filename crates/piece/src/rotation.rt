@@ -1,6 +1,6 @@
 // How a part is turned before it is cut. Rust: core/rotation.rs.
 ghost use Rattle.std.specs.Prelude.{◌≡◌};
-ghost use Rattle.piece.specs.Numbers.{listed_rotation, rotation_no};
+ghost use Rattle.piece.specs.Numbers.{listed_rotation, rotation_no, rotation_of};
 ghost use Rattle.piece.specs.Offers.{other_way};
 
 use crate::unlisted::Unlisted;
@@ -26,6 +26,16 @@ impl Rotation {
         ensures { result ≡ rotation_no self }
     {
         u8::from(self)
+    }
+
+    // The rotation of a number that is known to be listed; `try_from` tests it.
+    pub fn of_number(n: u8) -> Rotation
+        ensures { result ≡ rotation_of n }
+    {
+        match n {
+            0 => Rotation::Default,
+            _ => Rotation::Rotated,
+        }
     }
 }
 

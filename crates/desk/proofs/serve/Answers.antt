@@ -5,4 +5,4 @@ use Rattle.desk.proofs.serve.Goals as goal
 
 pub loop-at-smaller : goal.loop-at-smaller
 loop-at-smaller c =
-    omega (arith, c.in_ok-told.ensures, take-forward c.loop-at.d.pending c.args.chunk.now c.loop-at.at c.loop-at-test.true)
+    omega (arith, c.in_ok-at.ensures, take-forward c.loop-at.listener.pending c.args.chunk.now c.loop-at.at c.loop-at-test.true)
