@@ -6,6 +6,7 @@
 use crate::listing::Listing;
 use table::{LIMIT, Node};
 
+pub mod columns;
 pub mod listing;
 pub mod spots;
 
