@@ -4,5 +4,6 @@
 #![tactic(auto)]
 
 pub mod book;
+pub mod columns;
 pub mod new_marks;
 pub mod new_nodes;
