@@ -6,6 +6,7 @@ pub mod Meaning
 mod Following
 pub mod Entries
 mod OfNodes
+mod OfColumns
 mod NodeBytes
 mod Everywhere
 pub mod Along

@@ -6,6 +6,7 @@ pub use Rattle.table.specs.Columns.{firsts_of, nexts_of, kinds_of, areas_of}
 use Rattle.walks.specs.Order.{order_of}
 use Rattle.walks.specs.Usage.{usage_along}
 use Rattle.walks.specs.Snapshot.{bytes_at, snapshot_of}
+use Rattle.walks.specs.declared.columns.Columns as lent
 
 -- what a snapshot writes of a node, beside its kind
 abbrev pub level_of : Node → ℕ
@@ -35,18 +36,9 @@ heights_of t = map height_of t
 abbrev pub eatens_of : List Node → List ℕ
 eatens_of t = map eaten_of t
 
--- the columns, together
-pub record Columns : Type 0 where
-  pub first : List ℕ
-  pub next : List ℕ
-  pub level : List ℕ
-  pub kind : List ℕ
-  pub cut : List ℕ
-  pub number : List ℕ
-  pub width : List ℕ
-  pub height : List ℕ
-  pub area : List ℕ
-  pub eaten : List ℕ
+-- the columns, together: the record is that of the struct of src/columns.rt
+abbrev pub Columns : Type 0
+Columns = lent.Columns
 
 abbrev pub columns_of : List Node → Columns
 columns_of t =

@@ -5,6 +5,7 @@
 // proofs/Along.antt says what that gives on a tree.
 #![tactic(auto)]
 
+pub mod columns;
 pub mod numbers;
 pub mod order;
 pub mod snapshot;
