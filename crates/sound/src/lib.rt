@@ -3,6 +3,7 @@
 #![tactic(auto)]
 
 pub mod census;
+pub mod columns;
 pub mod frame;
 pub mod listed;
 pub mod places;
