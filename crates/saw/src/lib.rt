@@ -5,6 +5,7 @@
 // true. proofs/BeforeEmpty.antt says before which offcuts of area 0 there is a cut, and proofs/OneList.antt why the amounts stand beside the list.
 #![tactic(auto)]
 
+pub mod columns;
 pub mod cut;
 pub mod cuts;
 pub mod routines;

@@ -17,7 +17,7 @@ use piece::size::Size;
 use table::{LIMIT, NONE, Node};
 
 // What `remainder` of a cut says of several siblings.
-const SEVERAL: u8 = 3;
+pub(crate) const SEVERAL: u8 = 3;
 
 // How many cuts there are when a row is listed, and at what place of the pile lies what comes behind it.
 #[derive(Clone, Copy)]
