@@ -159,6 +159,7 @@ pub fn tidied(outcome: Result<(), Refusal>, count: u16, out: &mut [u8]) -> usize
 }
 
 // The answer to a question, in the lent line; and how many characters it has, its newline among them.
+#[inline(never)]
 pub fn answer(layout: Layout, question: Question, out: &mut [u8]) -> usize
     requires { desk_longest ≤ length out.old }
     ensures { Tells layout question out.old out.new result }

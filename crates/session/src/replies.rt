@@ -125,6 +125,8 @@ pub fn keep(layout: Layout) -> Keeping
     }
 }
 
+// (As code it stays apart: it alone holds two layouts and their answer, which every other op would have in its frame too.)
+#[inline(never)]
 pub fn restore(layout: Layout, kept: Layout) -> Response
     ensures { Restores layout kept result }
 {
