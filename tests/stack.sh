@@ -5,8 +5,8 @@
 # tree, its lists and its figures. tidy.in has such chains that are tidied, by `desk` and by `inspect`.
 # A removal needs the same stack whatever it takes out (document 02, request 6): on the least one, to a KiB, on which `counter` takes one part out of a comb, it
 # takes the whole comb out, and the deepest chain (tests/deep.awk). So does a tidying (request 5): on the least one on which `desk` tidies one structure, it
-# tidies the deepest chain. Built by tools/native, as the branch terminals have it, `counter` does all three on
-# 256 KiB.
+# tidies the deepest chain. Built by tools/native, as the branch terminals have them, `counter` does all three on 256 KiB, and `desk` and `inspect` take
+# tidy.in there.
 set -u
 cd "$(dirname "$0")/.." || exit 2
 . tests/run.bash
@@ -57,18 +57,17 @@ same_stack_tidying() {
     run_on_stack "$one" desk < "$room/chain-tidy.in"
 }
 
-# on_terminal TREE WHAT: the program for this machine, or a stand-in, on a stack of 256 KiB
+# on_terminal NAME: the program for this machine, or a stand-in, on a stack of 256 KiB
 on_terminal() {
-  local native=target/native/counter
-  [ -z "${PROGRAMS:-}" ] || native=$programs/counter
-  (ulimit -s 256 && exec timeout --foreground "$limit" "$native" < "$room/$1-$2.in")
+  local native=target/native/$1
+  if [ -n "${PROGRAMS:-}" ]; then native=$programs/$1; else tools/native "$1" < /dev/null > "$room/made" 2>&1 || cat "$room/made" >&2; fi
+  (ulimit -s 256 && exec timeout --foreground "$limit" "$native")
 }
 
 on_terminals() {
-  [ -n "${PROGRAMS:-}" ] || tools/native counter > "$room/made" 2>&1 || cat "$room/made"
-  writes 'for this machine it takes a part out on a quarter of a MiB' "$room/comb-last.out" on_terminal comb last
-  writes 'and the comb' "$room/comb-all.out" on_terminal comb all
-  writes 'and the deepest chain' "$room/chain-all.out" on_terminal chain all
+  writes 'for this machine it takes a part out on a quarter of a MiB' "$room/comb-last.out" on_terminal counter < "$room/comb-last.in"
+  writes 'and the comb' "$room/comb-all.out" on_terminal counter < "$room/comb-all.in"
+  writes 'and the deepest chain' "$room/chain-all.out" on_terminal counter < "$room/chain-all.in"
 }
 
 [ $# -gt 0 ] || set -- deep_chain counter desk inspect
@@ -83,15 +82,17 @@ for name; do
       on_terminals
       ;;
     desk)
-      meant=$((meant + 2))
+      meant=$((meant + 3))
       writes 'desk, with chains to level 253 that are tidied, on a stack of 2 MiB' recorded/tidy.out run_on_stack $kib desk < recorded/tidy.in
       same_stack_tidying
+      writes 'for this machine it tidies them on a quarter of a MiB' recorded/tidy.out on_terminal desk < recorded/tidy.in
       ;;
     inspect)
-      meant=$((meant + 1))
+      meant=$((meant + 2))
       writes 'inspect, with chains to level 253, on a stack of 2 MiB' "$(recorded_digest 'inspect on long.in')" \
         digest_of run_on_stack $kib inspect < recorded/long.in
       writes 'inspect, with such chains that are tidied' "$(recorded_digest 'inspect on tidy.in')" digest_of run_on_stack $kib inspect < recorded/tidy.in
+      writes 'and for this machine on a quarter of a MiB' "$(recorded_digest 'inspect on tidy.in')" digest_of on_terminal inspect < recorded/tidy.in
       ;;
     *) tried 1 "no such program on a small stack: $name" ;;
   esac

@@ -57,33 +57,33 @@ pub struct DeskStepped {
     pub count: usize,
 }
 
-// The counter's answer, copied into the lent line.
+// The counter's answer, copied into the lent line. (What is taken out of a record has a name of its own, here and in listener.rt: so the compiled desk copies a
+// session less.)
 fn copied(stepped: Stepped, out: &mut [u8]) -> DeskStepped
     requires { (stepped.count ≤ length stepped.line) × (stepped.count ≤ length out.old) }
     ensures result { result ≡ copied_from stepped }
     ensures written { out.new ≡ sets out.old 0 (take stepped.count stepped.line) }
 {
-    copy_first(&stepped.line, stepped.count, out);
-    DeskStepped {
-        session: stepped.session,
-        count: stepped.count,
-    }
+    let line = stepped.line;
+    let count = stepped.count;
+    let session = stepped.session;
+    copy_first(&line, count, out);
+    DeskStepped { session, count }
 }
 
-// The layout is tidied; what is kept stays. (As code it stays apart, and so does `answer` of replies.rt: in one frame with the counter's step they took a third more
-// of the stack.)
-#[inline(never)]
+// The layout is tidied; what is kept stays.
 fn tidied(session: Session, out: &mut [u8]) -> DeskStepped
     requires { desk_longest ≤ length out.old }
     ensures { DeskSteps session requests.Tidy out.old out.new result }
 {
-    let answer = session.layout.tidy();
-    let count = replies::tidied(answer.outcome, answer.count, out);
+    let layout = session.layout;
+    let kept = session.kept;
+    let answer = layout.tidy();
+    let outcome = answer.outcome;
+    let left = answer.layout;
+    let count = replies::tidied(outcome, answer.count, out);
     DeskStepped {
-        session: Session {
-            layout: answer.layout,
-            kept: session.kept,
-        },
+        session: Session { layout: left, kept },
         count,
     }
 }
@@ -94,7 +94,8 @@ pub fn asked(session: Session, request: DeskRequest, out: &mut [u8]) -> DeskStep
 {
     match request {
         DeskRequest::Asks(question) => {
-            let count = replies::answer(session.layout, question, out);
+            let layout = session.layout;
+            let count = replies::answer(layout, question, out);
             DeskStepped { session, count }
         }
         DeskRequest::Tidy => tidied(session, out),

@@ -34,9 +34,10 @@ fn answer(session: Session, pending: Pending, out: &mut [u8]) -> DeskStepped
 fn answered(stepped: DeskStepped, next: usize) -> DeskTurn
     ensures { result ≡ desk_spoken stepped next }
 {
+    let session = stepped.session;
     DeskTurn {
         listener: Listener {
-            session: stepped.session,
+            session,
             pending: none(),
         },
         next,
@@ -61,12 +62,15 @@ pub fn turn(listener: Listener, chunk: &[u8], at: usize, out: &mut [u8]) -> Desk
     ensures { DeskTakes listener chunk.now at out.old out.new result }
 {
     let session = listener.session;
-    let taken = listener.pending.take(chunk, at);
+    let begun = listener.pending;
+    let taken = begun.take(chunk, at);
     let pending = taken.pending;
-    match taken.event {
-        Event::Whole => answered(answer(session, pending, out), taken.next),
-        Event::Long => answered(malformed(session, out), taken.next),
-        Event::More => unanswered(Listener { session, pending }, taken.next),
+    let next = taken.next;
+    let event = taken.event;
+    match event {
+        Event::Whole => answered(answer(session, pending, out), next),
+        Event::Long => answered(malformed(session, out), next),
+        Event::More => unanswered(Listener { session, pending }, next),
     }
 }
 
@@ -76,7 +80,8 @@ pub fn finish(listener: Listener, out: &mut [u8]) -> DeskTurn
     ensures { DeskEnds listener out.old out.new result }
 {
     let session = listener.session;
-    if listener.pending.cut() {
+    let pending = listener.pending;
+    if pending.cut() {
         answered(malformed(session, out), 0)
     } else {
         unanswered(

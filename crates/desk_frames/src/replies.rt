@@ -158,7 +158,8 @@ pub fn tidied(outcome: Result<(), Refusal>, count: u16, out: &mut [u8]) -> usize
     }
 }
 
-// The answer to a question, in the lent line; and how many characters it has, its newline among them.
+// The answer to a question, in the lent line; and how many characters it has, its newline among them. (As code it stays apart from the counter's step, whose frame
+// is large.)
 #[inline(never)]
 pub fn answer(layout: Layout, question: Question, out: &mut [u8]) -> usize
     requires { desk_longest ≤ length out.old }

@@ -56,7 +56,8 @@ impl Layout {
     }
 
     // Every structure that holds nothing but a free piece goes, and its board with it to its row's free piece. Each takes a serial; where these don't last
-    // for all of them, none goes.
+    // for all of them, none goes. (As code it stays apart: its frame is no part of the other ops'.)
+    #[inline(never)]
     pub fn tidy(self) -> Tidied
         ensures { TidySays self result }
     {

@@ -169,7 +169,7 @@ pub fn nodes(
         InsertionShape::AlongCurrentCut => InsertionBlueprint {
             nodes: [
                 node(cut, cut, OUTSIDE, Kind::Part, along, eaten_beside),
-                node(cut, cut, OUTSIDE, Kind::Free, beside, 0),
+                node(cut, cut, OUTSIDE, Kind::Free, beside, 0), // beside the part
                 z,
                 z,
                 z,
@@ -191,7 +191,7 @@ pub fn nodes(
                 node(cut, cut, OUTSIDE, Kind::Structure, along, eaten_beside),
                 node(cut, inner, 0, Kind::Part, wanted, eaten_below),
                 node(cut, inner, 0, Kind::Free, below_in_strip, 0),
-                node(cut, cut, OUTSIDE, Kind::Free, beside, 0),
+                node(cut, cut, OUTSIDE, Kind::Free, beside, 0), // beside the strip
                 z,
             ],
             count: 4,

@@ -58,9 +58,10 @@ fn refused(layout: Layout, said: Said) -> Response
     }
 }
 
-// ---- One function for each op.
+// ---- One function for each op. (As code each stays apart: one of them runs at a time, and in one frame they took the stack of all.)
 
 // A refused opening keeps the layout that stood.
+#[inline(never)]
 fn open(layout: Layout, opening: Opening) -> Response
     ensures { Replies layout (asks.Open opening) result }
 {
@@ -71,6 +72,7 @@ fn open(layout: Layout, opening: Opening) -> Response
     }
 }
 
+#[inline(never)]
 fn offers(layout: Layout, mark: Mark, part: PartType) -> Response
     ensures { Replies layout (asks.Offers mark part) result }
 {
@@ -80,6 +82,7 @@ fn offers(layout: Layout, mark: Mark, part: PartType) -> Response
     }
 }
 
+#[inline(never)]
 fn insert(
     layout: Layout,
     mark: Mark,
@@ -97,6 +100,7 @@ fn insert(
 }
 
 // The buffer has room for as many part numbers as there are places, so refusal 13 is never given.
+#[inline(never)]
 fn remove(layout: Layout, mark: Mark) -> Response
     ensures { Replies layout (asks.Remove mark) result }
 {
@@ -109,6 +113,7 @@ fn remove(layout: Layout, mark: Mark) -> Response
     }
 }
 
+#[inline(never)]
 pub fn keep(layout: Layout) -> Keeping
     ensures { Keeps layout result }
 {
@@ -125,7 +130,6 @@ pub fn keep(layout: Layout) -> Keeping
     }
 }
 
-// (As code it stays apart: it alone holds two layouts and their answer, which every other op would have in its frame too.)
 #[inline(never)]
 pub fn restore(layout: Layout, kept: Layout) -> Response
     ensures { Restores layout kept result }
@@ -138,6 +142,7 @@ pub fn restore(layout: Layout, kept: Layout) -> Response
 }
 
 // A layout that answers is sound, so that its record has the area of its parts and how many nodes it holds.
+#[inline(never)]
 fn report(layout: Layout) -> Response
     ensures { Replies layout asks.Report result }
 {
